@@ -1,0 +1,18 @@
+use Rattle.std.proofs.Common.{ℕ, ◌≤◌, ◌+◌, get_or, subst, sym, ap, ◌∙◌, arith}
+use Rattle.std.proofs.lemmas.List.Sums.{fold_more}
+use Rattle.std.proofs.lemmas.List.Elements.{All-get_or}
+use Rattle.fold_law.proofs.fold.whole.Goals as goal
+
+pub loop-leaf-preserved : goal.loop-leaf-preserved
+loop-leaf-preserved g c =
+    let i = c.loop-leaf.leaf-index in
+    let xs = c.args.leaves.now in
+    let join = g.F.Fold.join in
+    let under = g.F.Fold.under in
+    let laws = g.met.F.Fold.laws in
+    let x = get_or xs i 0 in
+    let inside = c.loop-leaf-test.true in
+    record {
+      so_far = c.join-joined.ensures ∙ (ap (λ (n : ℕ). join n x) c.loop-leaf.invariant.so_far ∙ sym (fold_more join g.F.Fold.UNIT xs i 0 inside));
+      under = subst (under (i + 1)) (sym c.join-joined.ensures) (laws.join_under i 1 c.loop-leaf.joined x (omega arith) c.loop-leaf.invariant.under (laws.leaf_under x (All-get_or (λ n. n ≤ g.F.Fold.CAP) xs i 0 inside c.requires.capped)));
+    }

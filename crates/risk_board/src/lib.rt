@@ -1,0 +1,10 @@
+//! Hands on an f-array, and a plain board of arrays that keeps their calls and its own history.
+//!
+//! A hand is what one session may do: post a value to its own component of a tree, and read a tree's
+//! root. Its meaning is the list of its own calls so far. A board is a plain array for each tree, with
+//! the lines of its history; it serves sessions that run in turn, and no thread.
+#![tactic(auto)]
+
+mod hand;
+
+pub use hand::{Call, Hand, Line, Seen};
