@@ -1,0 +1,169 @@
+-- What a call of the gate did, by how far it came.
+use Rattle.std.specs.Prelude.{◌≡◌, ℕ, ◌<◌, ◌≤◌, ◌==◌, List, [], ◌∷◌, ◌++◌, length, map, slice_get, Option}
+use Rattle.std.specs.Prelude.{Some, None, IfSome, IsTrue, Bool, true, false, codes, ◌⊎◌, if◌then◌else◌}
+use Rattle.std.specs.List.{list_all}
+use Rattle.std.specs.Char.{is_ascii_digit}
+use Rattle.std.specs.Str.Parse.{digits_value}
+use Rattle.std.specs.Io.KnownBytes.{Appends}
+use Rattle.gate_ports.specs.Faults.{Rose}
+use Rattle.gate_ports.specs.Bytes.{AppendsFront}
+use Rattle.gate_ports.specs.Names.{Texts}
+use Rattle.risk_board.specs.declared.hand.Line.{Line}
+use Rattle.gate_program.specs.declared.acts.Act.{Act}
+use Rattle.gate_program.specs.declared.acts.End.{End}
+use Rattle.gate_program.specs.Session.{LimitsValue}
+use Rattle.gate_program.specs.JournalText.{journal_text}
+use Rattle.gate_program.specs.Words.{RunWords, Command, command_of, output_names, journal_name}
+use Rattle.gate_program.specs.Words.{is_among}
+use Rattle.gate_program.specs.Words.Command.{Run}
+use Rattle.gate_program.specs.Run.{PortsValue, Holds, ReadRose, WriteRose, OutputRose, session_name}
+use Rattle.gate_program.specs.Run.{EndHolds, IsHistory, standing_of}
+
+-- a folder and standard output as clauses name them
+abbrev pub ports_of : {D O : Type 0} → (D → Option Texts) → (D → List ℕ → ℕ) → (D → List ℕ → ℕ)
+    → (O → Option (List ℕ)) → (O → ℕ) → D → O → PortsValue
+ports_of texts read_faults write_faults held faults folder out = record {
+  texts = texts folder;
+  read_faults = read_faults folder;
+  write_faults = write_faults folder;
+  held = held out;
+  out_faults = faults out;
+}
+
+-- The status that stands is told with its text. A fault of standard output gives 6 in its place, and
+-- leaves a front of the text there.
+abbrev pub IsTold : Option (List ℕ) → Option (List ℕ) → ℕ → ℕ → List ℕ → ℕ → ℕ → Type 0
+IsTold held held_after faults faults_after text standing status =
+    ((status ≡ standing) × Appends held held_after text)
+    ⊎ ((status ≡ 6) × Rose faults faults_after × AppendsFront held held_after text)
+
+abbrev pub Tells : PortsValue → PortsValue → List ℕ → ℕ → ℕ → Type 0
+Tells before after text standing status =
+    IsTold before.held after.held before.out_faults after.out_faults text standing status
+
+abbrev pub usage_text : List ℕ
+usage_text = codes "usage: gate run LIMITS OUT SESSION" ++ 10 ∷ []
+
+abbrev pub read_fault_text : List ℕ
+read_fault_text = codes "read fault" ++ 10 ∷ []
+
+abbrev pub write_fault_text : List ℕ
+write_fault_text = codes "write fault" ++ 10 ∷ []
+
+abbrev pub not_built_text : List ℕ
+not_built_text = codes "not built" ++ 10 ∷ []
+
+-- the quota of posts of a session in a tree where no limit file gives one
+abbrev pub default_quota : ℕ
+default_quota = 50000
+
+-- the text is a limit file of this stage, with these limits: one firm row, and LF
+pub record AreLimits (text : List ℕ) (limits : LimitsValue) : Type 0 where
+  pub digits : List ℕ
+  pub spelled : text ≡ codes "firm,," ++ digits ++ codes ",,," ++ 10 ∷ []
+  pub decimal_digits : IsTrue (list_all is_ascii_digit digits)
+  pub no_fewer : 1 ≤ length digits
+  pub no_more : length digits ≤ 12
+  pub firm : limits.firm ≡ digits_value 10 digits
+  pub quota : limits.quota ≡ default_quota
+
+-- The words are no form.
+pub record HasNoForm (words : List (List ℕ)) (before after : PortsValue) (status : ℕ) : Type 0 where
+  pub no_form : command_of words ≡ None
+  pub texts : after.texts ≡ before.texts
+  pub told : Tells before after usage_text 2 status
+
+-- The limit file could not be opened or read.
+pub record HasUnreadLimits (run : RunWords) (before after : PortsValue) (status : ℕ) : Type 0 where
+  pub rose : ReadRose before after run.limits
+  pub texts : after.texts ≡ before.texts
+  pub told : Tells before after read_fault_text 5 status
+
+-- The limit file isn't of this stage.
+pub record HasOtherLimits (run : RunWords) (before after : PortsValue) (status : ℕ) : Type 0 where
+  pub other : IfSome before.texts (λ texts. (text : List ℕ) × (texts run.limits ≡ Some text)
+      × ((limits : LimitsValue) → AreLimits text limits → ⊥))
+  pub texts : after.texts ≡ before.texts
+  pub told : Tells before after not_built_text 9 status
+
+-- A session's name could not be opened.
+pub record HasUnopenedSession (run : RunWords) (before after : PortsValue) (status : ℕ) : Type 0 where
+  pub session : ℕ
+  pub in_range : session < length run.sessions
+  pub rose : ReadRose before after (session_name run session)
+  pub told : Tells before after read_fault_text 5 status
+
+-- An output of a session could not be created.
+pub record HasRefusedOutput (run : RunWords) (before after : PortsValue) (status : ℕ) : Type 0 where
+  pub session : ℕ
+  pub in_range : session < length run.sessions
+  pub rose : OutputRose before after run session
+  pub told : Tells before after write_fault_text 6 status
+
+-- the journal stands whole, or its name's write count rose
+abbrev pub HasJournal : PortsValue → PortsValue → RunWords → List (List Act) → List (List Line) → Bool
+    → Type 0
+HasJournal before after run acts lines false =
+    Holds after.texts (journal_name run.out) (journal_text acts lines)
+HasJournal before after run acts lines true = WriteRose before after (journal_name run.out)
+
+-- what is told at a status after the sessions
+abbrev pub text_after : ℕ → List ℕ
+text_after status =
+    if status == 0 then codes "status 0" ++ 10 ∷ []
+    else (if status == 5 then read_fault_text
+    else (if status == 6 then write_fault_text else not_built_text))
+
+-- names that are no outputs keep their texts
+abbrev pub KeepsOthers : PortsValue → PortsValue → RunWords → Type 0
+KeepsOthers before after run =
+    IfSome before.texts (λ old. IfSome after.texts (λ new. (name : List ℕ)
+    → is_among name (output_names run.out (length run.sessions)) ≡ false → new name ≡ old name))
+
+-- the sessions' names have these texts, where the folder tells them
+abbrev pub AreInputs : Option Texts → List (List ℕ) → List (List ℕ) → Type 0
+AreInputs told names inputs =
+    IfSome told (λ texts. map texts names ≡ map (λ bytes. Some bytes) inputs)
+
+-- The sessions were run: each did what its end says, all together have one legal history in each tree,
+-- and the journal tells it.
+pub record HasRun (run : RunWords) (before after : PortsValue) (status : ℕ) : Type 0 where
+  pub limits : LimitsValue
+  pub inputs : List (List ℕ)
+  pub acts : List (List Act)
+  pub ends : List End
+  pub lines : List (List Line)
+  -- whether the journal could not be written
+  pub refused : Bool
+  pub limits_are : IfSome before.texts (λ texts. (text : List ℕ) × (texts run.limits ≡ Some text)
+      × AreLimits text limits)
+  pub inputs_are : AreInputs before.texts run.sessions inputs
+  pub input_count : length inputs ≡ length run.sessions
+  pub act_count : length acts ≡ length run.sessions
+  pub end_count : length ends ≡ length run.sessions
+  pub each : (session : ℕ) (bytes : List ℕ) (own : List Act) (end : End)
+      → slice_get inputs session ≡ Some bytes → slice_get acts session ≡ Some own
+      → slice_get ends session ≡ Some end
+      → EndHolds limits before after run session bytes own end
+  pub history : IsHistory limits acts lines
+  pub journal : HasJournal before after run acts lines refused
+  pub others : KeepsOthers before after run
+  pub told : let standing = standing_of ends refused in
+      Tells before after (text_after standing) standing status
+
+-- a run that came as far as its limit file, its sessions' names, or their end
+abbrev pub RunWent : RunWords → PortsValue → PortsValue → ℕ → Type 0
+RunWent run before after status =
+    HasUnreadLimits run before after status ⊎ HasOtherLimits run before after status
+    ⊎ HasUnopenedSession run before after status ⊎ HasRefusedOutput run before after status
+    ⊎ HasRun run before after status
+
+-- the way of a command
+abbrev pub CommandWent : List (List ℕ) → Option Command → PortsValue → PortsValue → ℕ → Type 0
+CommandWent words None before after status = HasNoForm words before after status
+CommandWent words (Some (Run run)) before after status = RunWent run before after status
+
+-- The call answered 8 for want of memory, or went the way of its words.
+abbrev pub GateRun : List (List ℕ) → PortsValue → PortsValue → ℕ → Type 0
+GateRun words before after status =
+    (status ≡ 8) ⊎ CommandWent words (command_of words) before after status

@@ -1,0 +1,9 @@
+pub mod FieldRows
+pub mod Answers
+pub mod Session
+pub mod JournalText
+pub mod Words
+pub mod Trees
+pub mod Follows
+pub mod Run
+pub mod Gate

@@ -1,0 +1,114 @@
+-- What the sessions of a run did together, and what is left of it in a folder and on standard output.
+use Rattle.std.specs.Prelude.{◌≡◌, ℕ, List, [], length, map, Option, Some, IfSome, slice_get}
+use Rattle.std.specs.Prelude.{Bool, true, false, ◌⊎◌, ◌||◌, if◌then◌else◌}
+use Rattle.std.specs.List.{list_any, slice_index_or}
+use Rattle.gate_ports.specs.Faults.{Rose}
+use Rattle.gate_ports.specs.Names.{Texts}
+use Rattle.risk_board.specs.declared.hand.Line.{Line}
+use Rattle.risk_board.specs.History.{IsLegal, components_of}
+use Rattle.gate_program.specs.declared.acts.Act.{Act}
+use Rattle.gate_program.specs.declared.acts.End.{End}
+use Rattle.gate_program.specs.declared.acts.End.TheVariants as ending
+use Rattle.gate_program.specs.Session.{LimitsValue}
+use Rattle.gate_program.specs.Trees.{tree_count, fold_of, events_of}
+use Rattle.gate_program.specs.Words.{RunWords, venue_name, client_name}
+use Rattle.gate_program.specs.Follows.{FollowsInput}
+
+-- a folder and standard output at a moment: texts and counts of faults by name, where they are told
+pub record PortsValue : Type 0 where
+  pub texts : Option Texts
+  pub read_faults : List ℕ → ℕ
+  pub write_faults : List ℕ → ℕ
+  pub held : Option (List ℕ)
+  pub out_faults : ℕ
+
+-- the name's text is this, where the folder tells its texts
+abbrev pub Holds : Option Texts → List ℕ → List ℕ → Type 0
+Holds told name text = IfSome told (λ texts. texts name ≡ Some text)
+
+-- a failed read of the name in this call
+abbrev pub ReadRose : PortsValue → PortsValue → List ℕ → Type 0
+ReadRose before after name = Rose (before.read_faults name) (after.read_faults name)
+
+-- a failed write of the name in this call
+abbrev pub WriteRose : PortsValue → PortsValue → List ℕ → Type 0
+WriteRose before after name = Rose (before.write_faults name) (after.write_faults name)
+
+-- a failed write of one of a session's outputs in this call
+abbrev pub OutputRose : PortsValue → PortsValue → RunWords → ℕ → Type 0
+OutputRose before after run session =
+    WriteRose before after (venue_name run.out session)
+    ⊎ WriteRose before after (client_name run.out session)
+
+-- the name of a session's input
+abbrev pub session_name : RunWords → ℕ → List ℕ
+session_name run session = slice_index_or run.sessions session []
+
+-- A session whose end is by its bytes: its acts and both its outputs follow its input, where the
+-- folder tells its texts.
+abbrev pub FollowsText : LimitsValue → PortsValue → RunWords → ℕ → List ℕ → List Act → End → Type 0
+FollowsText limits after run session bytes acts end =
+    IfSome after.texts (λ texts. (venue : List ℕ) × (client : List ℕ)
+    × (texts (venue_name run.out session) ≡ Some venue)
+    × (texts (client_name run.out session) ≡ Some client)
+    × FollowsInput limits bytes acts end venue client)
+
+-- what is known of a session of these bytes by its end
+abbrev pub EndHolds : LimitsValue → PortsValue → PortsValue → RunWords → ℕ → List ℕ → List Act → End
+    → Type 0
+EndHolds limits before after run session bytes acts ending.ReadFault =
+    ReadRose before after (session_name run session)
+EndHolds limits before after run session bytes acts ending.WriteFault =
+    OutputRose before after run session
+EndHolds limits before after run session bytes acts ending.Memory = Unit {0}
+EndHolds limits before after run session bytes acts ending.Whole =
+    FollowsText limits after run session bytes acts ending.Whole
+EndHolds limits before after run session bytes acts (ending.Cut place) =
+    FollowsText limits after run session bytes acts (ending.Cut place)
+EndHolds limits before after run session bytes acts (ending.Broken place) =
+    FollowsText limits after run session bytes acts (ending.Broken place)
+EndHolds limits before after run session bytes acts (ending.TooLong place) =
+    FollowsText limits after run session bytes acts (ending.TooLong place)
+EndHolds limits before after run session bytes acts (ending.NotBuilt place) =
+    FollowsText limits after run session bytes acts (ending.NotBuilt place)
+
+-- each tree has one legal history
+pub record IsHistory (limits : LimitsValue) (acts : List (List Act)) (lines : List (List Line))
+    : Type 0 where
+  pub trees : length lines ≡ tree_count limits
+  pub legal : (tree : ℕ) (own : List Line) → slice_get lines tree ≡ Some own
+      → IsLegal (fold_of limits tree) 0 (components_of (length acts)) own
+      (map (events_of tree) acts)
+
+abbrev pub is_memory : End → Bool
+is_memory ending.Memory = true
+is_memory other = false
+
+abbrev pub is_write_fault : End → Bool
+is_write_fault ending.WriteFault = true
+is_write_fault other = false
+
+abbrev pub is_read_fault : End → Bool
+is_read_fault ending.ReadFault = true
+is_read_fault other = false
+
+abbrev pub is_not_built : End → Bool
+is_not_built (ending.NotBuilt place) = true
+is_not_built other = false
+
+-- the input ends within a frame, or stands there no frame, or one too long
+abbrev pub is_cut_short : End → Bool
+is_cut_short (ending.Cut place) = true
+is_cut_short (ending.Broken place) = true
+is_cut_short (ending.TooLong place) = true
+is_cut_short other = false
+
+-- The status after the sessions, by their ends and by whether the journal could not be written: the
+-- first of 8, 6, 5, 9, 4 and 0 that applies.
+abbrev pub standing_of : List End → Bool → ℕ
+standing_of ends refused =
+    if list_any is_memory ends then 8
+    else (if refused || list_any is_write_fault ends then 6
+    else (if list_any is_read_fault ends then 5
+    else (if list_any is_not_built ends then 9
+    else (if list_any is_cut_short ends then 4 else 0))))

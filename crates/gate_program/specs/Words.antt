@@ -1,0 +1,82 @@
+-- The words of the command line, and the names of outputs.
+use Rattle.std.specs.Prelude.{ℕ, ◌+◌, ◌/◌, ◌%◌, ◌==◌, ◌&&◌, List, [], ◌∷◌, ◌++◌, length, codes}
+use Rattle.std.specs.Prelude.{Option, Some, None, Bool, true, false, not, nat_le, if◌then◌else◌}
+use Rattle.std.specs.List.{list_all, list_any, flat_map, range_with_len}
+use Rattle.std.specs.Str.{bytes_eq}
+
+-- the words of a run: the limit file, the folder of outputs, and the sessions
+pub record RunWords : Type 0 where
+  pub limits : List ℕ
+  pub out : List ℕ
+  pub sessions : List (List ℕ)
+
+-- what the words ask for
+pub data Command : Type 0 where
+  Run : RunWords → Command
+
+-- not empty, and without a leading dash
+abbrev pub is_word : List ℕ → Bool
+is_word [] = false
+is_word (byte ∷ bytes) = not (byte == 45)
+
+-- a number below 100 in two digits
+abbrev pub two_digits : ℕ → List ℕ
+two_digits n = (48 + n / 10) ∷ (48 + n % 10) ∷ []
+
+-- where the messages for the venue go
+abbrev pub venue_name : List ℕ → ℕ → List ℕ
+venue_name out session = out ++ (codes "/s" ++ two_digits session ++ codes ".venue")
+
+-- where the answers for the client go
+abbrev pub client_name : List ℕ → ℕ → List ℕ
+client_name out session = out ++ (codes "/s" ++ two_digits session ++ codes ".client")
+
+-- where the journal goes
+abbrev pub journal_name : List ℕ → List ℕ
+journal_name out = out ++ codes "/journal.csv"
+
+-- the two outputs of a session
+abbrev pub session_outputs : List ℕ → ℕ → List (List ℕ)
+session_outputs out session = venue_name out session ∷ client_name out session ∷ []
+
+-- the names that a run of so many sessions writes
+abbrev pub output_names : List ℕ → ℕ → List (List ℕ)
+output_names out count =
+    flat_map (session_outputs out) (range_with_len 0 count) ++ journal_name out ∷ []
+
+abbrev pub is_among : List ℕ → List (List ℕ) → Bool
+is_among name names = list_any (bytes_eq name) names
+
+-- no two are equal
+abbrev pub are_distinct : List (List ℕ) → Bool
+are_distinct [] = true
+are_distinct (name ∷ names) = not (is_among name names) && are_distinct names
+
+-- the most sessions of this stage
+abbrev pub session_most : ℕ
+session_most = 1
+
+-- A run has no empty word and none with a leading dash, one session to the most, no two of them
+-- equal, and neither the limit file nor a session is an output.
+abbrev pub is_run : RunWords → Bool
+is_run run =
+    let count = length run.sessions in
+    list_all is_word (run.limits ∷ run.out ∷ run.sessions)
+    && nat_le 1 count && nat_le count session_most
+    && are_distinct run.sessions
+    && not (list_any (λ name. is_among name (output_names run.out count))
+    (run.limits ∷ run.sessions))
+
+-- the words after `run` as those of a run, where they are
+abbrev pub run_of : List ℕ → List ℕ → List (List ℕ) → Option Command
+run_of limits out sessions =
+    let run : RunWords = record { limits = limits; out = out; sessions = sessions } in
+    if is_run run then Some (Run run) else None
+
+-- what the words ask for, where they are a form
+abbrev pub command_of : List (List ℕ) → Option Command
+command_of (command ∷ limits ∷ out ∷ sessions) =
+    if bytes_eq command (codes "run") then run_of limits out sessions else None
+command_of [] = None
+command_of (command ∷ []) = None
+command_of (command ∷ limits ∷ []) = None
