@@ -4,6 +4,7 @@ pub mod Session
 pub mod JournalText
 pub mod Words
 pub mod Trees
+pub mod Admitted
 pub mod Follows
 pub mod Run
 pub mod Gate
