@@ -7,14 +7,17 @@ use Rattle.fix_fields.specs.Frames.{IsFrameText, head_text}
 
 abbrev fields : List FieldValue
 fields =
-    field 35 (codes "D") ∷ field 49 (codes "C1") ∷ field 56 (codes "GATE") ∷ field 34 (codes "1") ∷ field 52 (codes "20240102-10:00:00")
-    ∷ field 11 (codes "a1") ∷ field 1 (codes "ACC") ∷ field 55 (codes "XYZ") ∷ field 54 (codes "1") ∷ field 38 (codes "100")
+    field 35 (codes "D") ∷ field 49 (codes "C1") ∷ field 56 (codes "GATE") ∷ field 34
+    (codes "1") ∷ field 52 (codes "20240102-10:00:00")
+    ∷ field 11 (codes "a1") ∷ field 1 (codes "ACC") ∷ field 55 (codes "XYZ") ∷ field 54
+    (codes "1") ∷ field 38 (codes "100")
     ∷ field 40 (codes "2") ∷ field 44 (codes "10.0000") ∷ field 60 (codes "20240102-10:00:00") ∷ []
 
 abbrev body : List ℕ
 body =
     codes "35=D" ++ soh ∷ codes "49=C1" ++ soh ∷ codes "56=GATE" ++ soh ∷ codes "34=1" ++ soh
-    ∷ codes "52=20240102-10:00:00" ++ soh ∷ codes "11=a1" ++ soh ∷ codes "1=ACC" ++ soh ∷ codes "55=XYZ" ++ soh ∷ codes "54=1" ++ soh ∷ codes "38=100" ++ soh ∷ codes "40=2" ++ soh
+    ∷ codes "52=20240102-10:00:00" ++ soh ∷ codes "11=a1" ++ soh ∷ codes "1=ACC" ++ soh ∷ codes
+    "55=XYZ" ++ soh ∷ codes "54=1" ++ soh ∷ codes "38=100" ++ soh ∷ codes "40=2" ++ soh
     ∷ codes "44=10.0000" ++ soh ∷ codes "60=20240102-10:00:00" ++ soh ∷ []
 
 abbrev bytes : List ℕ

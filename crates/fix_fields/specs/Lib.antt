@@ -2,6 +2,10 @@ pub mod Fields
 pub mod Frames
 pub mod Found
 pub mod Places
+pub mod Parts
+pub mod FieldPlaces
+pub mod FramePlaces
+pub mod FieldWalks
 pub mod Numbers
 pub mod IdText
 pub mod IdLaw

@@ -24,6 +24,7 @@ pub record IsPlace (bytes : List ℕ) (f : Field) : Type 0 where
   pub within : f.to ≤ length bytes
 
 -- these places are within the bytes, and say these fields in their order
-pub record ArePlacesOf (bytes : List ℕ) (places : List Field) (fields : List FieldValue) : Type 0 where
+pub record ArePlacesOf (bytes : List ℕ) (places : List Field)
+    (fields : List FieldValue) : Type 0 where
   pub each : AllByRecursion (IsPlace bytes) places
   pub said : map (field_at bytes) places ≡ fields

@@ -1,6 +1,13 @@
 //! The frame at a place.
-ghost use Rattle.std.specs.Prelude.{◌≡◌, ℕ, ◌+◌, ◌≤◌, length};
+ghost use Rattle.std.specs.Prelude.{◌≡◌, ℕ, ◌+◌, ◌≤◌, List, length, drop, IfSome, IfNone};
+ghost use Rattle.std.specs.List.{prefix_len};
 ghost use Rattle.fix_fields.specs.Fields.{checksum_of};
+ghost use Rattle.fix_fields.specs.Found.{Finds};
+ghost use Rattle.fix_fields.specs.Frames.{is_line_end, message_place, IsFrameText};
+ghost use Rattle.fix_fields.specs.FramePlaces.{StandsHere};
+
+use crate::cut::cut_frame;
+use crate::field_reader::is_sound;
 
 /// Where a frame and its body stand, in places from 0.
 #[derive(Clone, Copy, Debug, PartialEq, Eq)]
@@ -36,4 +43,59 @@ pub fn checksum(bytes: &[u8]) -> u8
         sum = sum.wrapping_add(*byte);
     }
     sum
+}
+
+/// How many bytes in front are CR or LF.
+fn line_end_count(text: &[u8]) -> usize
+    ensures counted { result ≡ prefix_len is_line_end text.now }
+    ensures within { result ≤ length text.now }
+{
+    text.iter()
+        .take_while(|byte| **byte == b'\r' || **byte == b'\n')
+        .count()
+}
+
+/// The place of the first byte from there on that is neither CR nor LF, or the end.
+fn place_of_message(bytes: &[u8], from: usize) -> usize
+    requires { from ≤ length bytes.now }
+    ensures place { result ≡ message_place bytes.now from }
+    ensures within { result ≤ length bytes.now }
+{
+    from + line_end_count(&bytes[from..])
+}
+
+/// The frame that begins right there, if one does.
+fn frame_at(bytes: &[u8], place: usize) -> Option<Frame>
+    requires { place ≤ length bytes.now }
+    ensures some { IfSome result (λ f. StandsHere bytes.now place f) }
+    ensures none { IfNone result ((d : List ℕ) (b : List ℕ) (s : List ℕ) (m : List ℕ)
+        → IsFrameText (drop place bytes.now) d b s m → ⊥) }
+{
+    let rest = &bytes[place..];
+    let parts = cut_frame(rest)?;
+    let body_from = 13 + parts.length_digits.len();
+    let body_to = body_from + parts.body.len();
+    Some(Frame {
+        start: place,
+        body_from: place + body_from,
+        body_to: place + body_to,
+        end: place + body_to + 7,
+        sound: is_sound(&rest[..body_to], parts.sum_digits, parts.body),
+    })
+}
+
+/// What stands from a place on. CR and LF before it are passed over. A rest that is neither a frame
+/// nor the end is broken.
+pub fn next_frame(bytes: &[u8], from: usize) -> Found
+    requires { from ≤ length bytes.now }
+    ensures { Finds bytes.now from result }
+{
+    let place = place_of_message(bytes, from);
+    if place == bytes.len() {
+        return Found::End;
+    }
+    match frame_at(bytes, place) {
+        None => Found::Broken(place),
+        Some(frame) => Found::Frame(frame),
+    }
 }

@@ -1,19 +1,24 @@
 //! Frames of FIX 4.4, their fields, and the numbers and ids in them.
 //!
-//! A frame is BeginString (8), BodyLength (9), a body and CheckSum (10). It is sound where the checksum
-//! is right and the body is fields, MsgType (35) first. Which messages there are, and what their fields
-//! mean, is not told here.
+//! A frame is BeginString (8), BodyLength (9), a body and CheckSum (10). It is sound where the
+//! checksum is right and the body is fields, MsgType (35) first. Which messages there are, and what
+//! their fields mean, is not told here.
 #![tactic(auto)]
 
 mod cut;
+mod field_reader;
 mod frame;
+mod frame_law;
+#[cfg(test)]
+mod frame_tests;
 mod id;
 mod number;
 mod walk;
 mod writer;
 
-pub use frame::{Found, Frame, checksum};
+pub use frame::{Found, Frame, checksum, next_frame};
+pub use frame_law::{frame_is_within, frame_stays, one_frame_stands_there, one_list_is_spelled};
 pub use id::Id;
 pub use number::{Spelling, read_seq};
-pub use walk::Field;
+pub use walk::{Field, FieldWalk, fields};
 pub use writer::Writer;

@@ -1,0 +1,105 @@
+//! The field in front of a text, and whether a text is fields.
+ghost use Rattle.std.specs.Prelude.{◌≡◌, ℕ, ◌+◌, ◌<◌, ◌≤◌, List, IsTrue, ◌↔◌, IfSome, IfNone};
+ghost use Rattle.std.specs.Prelude.{is_some, Option};
+ghost use Rattle.std.specs.Str.Parse.{digits_value};
+ghost use Rattle.fix_fields.specs.Fields.{FieldValue, checksum_of};
+ghost use Rattle.fix_fields.specs.Frames.{AreDigits, HasFields};
+ghost use Rattle.fix_fields.specs.declared.walk.Field.{Field};
+ghost use Rattle.fix_fields.specs.FieldPlaces.{IsTagCut, BeginsTag, BeginsField, IsFieldList};
+ghost use Rattle.fix_fields.specs.FieldPlaces.{BeginsKind};
+
+use crate::cut::{SOH, digit_count};
+use crate::frame::checksum;
+use crate::number::number_after;
+use crate::walk::Field;
+use memchr::memchr;
+
+/// Whether so many digits in front are those of a tag.
+fn is_tag_cut(text: &[u8], count: usize) -> bool
+    ensures { IsTrue result ↔ IsTagCut text.now count }
+{
+    1 <= count && count <= 6 && count < text.len() && text[count] == b'=' && text[0] != b'0'
+}
+
+/// The tag in front, and the place after the equals sign behind it.
+fn first_tag(text: &[u8]) -> Option<(u32, usize)>
+    ensures some { IfSome result (λ t. BeginsTag text.now t.0 t.1) }
+    ensures none { IfNone result ((tag : ℕ) (from : ℕ) → BeginsTag text.now tag from → ⊥) }
+{
+    let count = digit_count(text);
+    if !is_tag_cut(text, count) {
+        return None;
+    }
+    let tag = number_after(0, &text[..count]);
+    Some((tag as u32, count + 1))
+}
+
+/// The field in front, where one stands there.
+pub(crate) fn first_field(text: &[u8]) -> Option<Field>
+    ensures some { IfSome result (λ f. BeginsField text.now f) }
+    ensures none { IfNone result ((f : Field) → BeginsField text.now f → ⊥) }
+{
+    let (tag, from) = first_tag(text)?;
+    let count = memchr(SOH, &text[from..])?;
+    Some(Field {
+        tag,
+        from,
+        to: from + count,
+    })
+}
+
+/// Whether the text is fields, one after another.
+fn is_field_list(text: &[u8]) -> bool
+    ensures { IsTrue result ↔ IsFieldList text.now }
+{
+    let mut rest = text;
+    while !rest.is_empty() {
+        match first_field(rest) {
+            None => return false,
+            Some(field) => rest = &rest[field.to + 1..],
+        }
+    }
+    true
+}
+
+/// Whether the field there is MsgType (35) with a value.
+fn is_kind(field: &Field) -> bool
+    ensures { IsTrue result ↔ ((field.now.tag ≡ 35) × (field.now.from < field.now.to)) }
+{
+    field.tag == 35 && field.from < field.to
+}
+
+/// Whether the text begins with MsgType (35) with a value.
+fn begins_with_kind(text: &[u8]) -> bool
+    ensures { IsTrue result ↔ ((f : Field) × BeginsKind text.now f) }
+{
+    match first_field(text) {
+        None => false,
+        Some(field) => is_kind(&field),
+    }
+}
+
+/// Whether the three digits are the checksum of these bytes.
+fn is_checksum_of(sum_digits: &[u8], before: &[u8]) -> bool
+    requires { AreDigits 3 3 sum_digits.now }
+    ensures { IsTrue result ↔ (digits_value 10 sum_digits.now ≡ checksum_of before.now) }
+{
+    number_after(0, sum_digits) == u64::from(checksum(before))
+}
+
+/// Whether the digits are the checksum of what stands before CheckSum (10), and the body is fields,
+/// MsgType (35) with a value first.
+pub(crate) fn is_sound(before: &[u8], sum_digits: &[u8], body: &[u8]) -> bool
+    requires { AreDigits 3 3 sum_digits.now }
+    ensures { (fields : Option (List FieldValue))
+        × HasFields before.now sum_digits.now body.now fields
+        × (result ≡ is_some fields) }
+{
+    if !is_checksum_of(sum_digits, before) {
+        return false;
+    }
+    if !begins_with_kind(body) {
+        return false;
+    }
+    is_field_list(body)
+}
