@@ -1,6 +1,7 @@
 -- How prices, quantities, sequence numbers and ids are spelled.
 use Rattle.std.specs.Prelude.{ℕ, ◌+◌, ◌==◌, ◌||◌, ◌&&◌, List, [], ◌∷◌, ◌++◌, length, take, drop}
-use Rattle.std.specs.Prelude.{Result, Ok, Err, Bool, false, not, nat_lt, nat_le, if◌then◌else◌, replicate}
+use Rattle.std.specs.Prelude.{Result, Ok, Err, Bool, false, not, nat_lt, nat_le, if◌then◌else◌}
+use Rattle.std.specs.Prelude.{replicate}
 use Rattle.std.specs.List.{list_all, before_first, after_first}
 use Rattle.std.specs.Char.{is_ascii_digit}
 use Rattle.std.specs.Str.Parse.{digits_value}
@@ -12,17 +13,20 @@ abbrev pub without_minus : List ℕ → List ℕ
 without_minus [] = []
 without_minus (byte ∷ bytes) = if byte == 45 then bytes else byte ∷ bytes
 
+-- a minus sign stands in front
 abbrev pub begins_with_minus : List ℕ → Bool
 begins_with_minus [] = false
 begins_with_minus (byte ∷ bytes) = byte == 45
 
+-- the point of a decimal
 abbrev pub is_point : ℕ → Bool
 is_point byte = byte == 46
 
--- the digits before the point of a decimal, and those after it
+-- the digits before the point of a decimal
 abbrev pub whole_part : List ℕ → List ℕ
 whole_part text = before_first is_point (without_minus text)
 
+-- the digits after the point of a decimal
 abbrev pub fraction_part : List ℕ → List ℕ
 fraction_part text = after_first is_point (without_minus text)
 

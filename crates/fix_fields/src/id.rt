@@ -1,14 +1,22 @@
 //! Ids.
-ghost use Rattle.std.specs.Prelude.{◌≡◌, ℕ, ◌≤◌, List, length, nat_le, ◌&&◌, ◌++◌, drop};
+ghost use Rattle.std.specs.Prelude.{◌≡◌, ℕ, ◌≤◌, List, length, nat_eq, Some, refl, ◌++◌, drop};
 ghost use Rattle.std.specs.List.{list_all};
-ghost use Rattle.fix_fields.specs.Numbers.{id_of};
+ghost use Rattle.std.specs.Ordering.{nat_cmp};
+ghost use Rattle.std.specs.Cmp.{partial_equiv_from_equiv};
+ghost use Rattle.std.specs.Cmp.Lexicographic.{pointwise, slice_cmp, nat_list_eq_equiv};
+ghost use Rattle.std.specs.Cmp.Lexicographic.{nat_list_cmp_total, texts_ties, texts_po};
+ghost use Rattle.fix_fields.specs.Numbers.{id_of, is_printable};
 ghost use Rattle.fix_fields.specs.IdText.{padded_id};
 
 use crate::number::Spelling;
+use std::cmp::Ordering;
 use std::marker::Model;
 
+/// The most bytes of an id.
+const ID_MOST: usize = 64;
+
 /// 1 to 64 bytes of 32 to 126, held in place. Contracts see the list of its bytes.
-#[derive(Clone, Copy, Debug, PartialEq, Eq, PartialOrd, Ord)]
+#[derive(Clone, Copy, Debug)]
 pub struct Id {
     bytes: [u8; 64],
     len: usize,
@@ -32,6 +40,23 @@ impl Model for Id {
 }
 
 impl Id {
+    /// The text as an id: `Form` where a byte isn't one of 32 to 126, then `Range` where there is
+    /// no byte or more than 64.
+    pub fn read(text: &[u8]) -> Result<Id, Spelling>
+        ensures { result ≡ id_of text.now }
+    {
+        if !is_printable(text) {
+            return Err(Spelling::Form);
+        }
+        if text.is_empty() || text.len() > ID_MOST {
+            return Err(Spelling::Range);
+        }
+        Ok(Id {
+            bytes: padded(text),
+            len: text.len(),
+        })
+    }
+
     /// The bytes.
     pub fn bytes(&self) -> &[u8]
         ensures { result.now ≡ self.now }
@@ -40,27 +65,49 @@ impl Id {
     }
 }
 
-impl Id {
-    /// The text as an id.
-    pub fn read(text: &[u8]) -> Result<Id, Spelling>
-        ensures { result ≡ id_of text.now }
-    {
-        if !is_printable(text) {
-            return Err(Spelling::Form);
-        }
-        if text.is_empty() || text.len() > 64 {
-            return Err(Spelling::Range);
-        }
-        Ok(Id {
-            bytes: padded(text),
-            len: text.len(),
-        })
+// Two ids are equal where their texts are.
+impl PartialEq for Id {
+    ghost eq = { pointwise nat_eq };
+
+    ghost laws = { partial_equiv_from_equiv nat_list_eq_equiv };
+
+    fn eq(&self, other: &Self) -> bool {
+        self.bytes() == other.bytes()
+    }
+}
+
+impl Eq for Id {
+    ghost laws = { nat_list_eq_equiv };
+}
+
+impl PartialOrd for Id {
+    ghost partial_cmp = { λ a b. Some (slice_cmp nat_cmp a b) };
+
+    ghost laws = { texts_po };
+
+    fn partial_cmp(&self, other: &Self) -> Option<Ordering> {
+        Some(self.cmp(other))
+    }
+}
+
+// Ids stand in the order of their texts, as words in a dictionary do.
+impl Ord for Id {
+    ghost cmp = { slice_cmp nat_cmp };
+
+    ghost total = { nat_list_cmp_total };
+
+    ghost matches_partial_cmp = { λ a b. refl };
+
+    ghost matches_eq = { texts_ties };
+
+    fn cmp(&self, other: &Self) -> Ordering {
+        self.bytes().cmp(other.bytes())
     }
 }
 
 /// Whether each byte is one of 32 to 126.
 fn is_printable(text: &[u8]) -> bool
-    ensures { result ≡ list_all (λ byte. nat_le 32 byte && nat_le byte 126) text.now }
+    ensures { result ≡ list_all is_printable text.now }
 {
     text.iter().all(|byte| 32 <= *byte && *byte <= 126)
 }

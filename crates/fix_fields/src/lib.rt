@@ -13,12 +13,18 @@ mod frame_law;
 mod frame_tests;
 mod id;
 mod number;
+#[cfg(test)]
+mod number_tests;
 mod walk;
 mod writer;
+#[cfg(test)]
+mod writer_tests;
+mod written;
 
 pub use frame::{Found, Frame, checksum, next_frame};
 pub use frame_law::{frame_is_within, frame_stays, one_frame_stands_there, one_list_is_spelled};
 pub use id::Id;
-pub use number::{Spelling, read_seq};
+pub use number::{Spelling, read_price, read_qty, read_seq};
 pub use walk::{Field, FieldWalk, fields};
-pub use writer::Writer;
+pub use writer::{WRITTEN_MOST, Writer};
+pub use written::written_is_read;
