@@ -1,0 +1,10 @@
+pub mod Posts
+pub mod Legal
+pub mod PlainSteps
+pub mod Components
+pub mod Events
+pub mod TreeCalls
+pub mod Room
+pub mod Opened
+pub mod Sound
+pub mod Held

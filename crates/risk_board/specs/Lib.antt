@@ -1,4 +1,6 @@
 pub mod Calls
 pub mod Hands
 pub mod History
+pub mod Kept
 pub mod Plain
+pub mod Tree

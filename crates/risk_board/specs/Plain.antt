@@ -1,8 +1,11 @@
 -- A plain board: the lines of each tree and the calls of each session, a read's stamp being the number
 -- of lines that it saw.
-use Rattle.std.specs.Prelude.{ℕ, List, [], length, map, replicate}
+use Rattle.std.specs.Prelude.{◌≡◌, ◌≢◌, ℕ, List, [], length, map, replicate, slice_get}
+use Rattle.std.specs.Prelude.{slice_index_or, refl}
+use Rattle.std.proofs.Common.{◌∙◌}
 use Rattle.risk_board.specs.declared.hand.Line.{Line}
 use Rattle.risk_board.specs.declared.hand.Call.{Call}
+use Rattle.risk_board.specs.Hands.{HandValue, KeepsOrigin}
 use Rattle.risk_board.specs.History.{Event, IsLegal, events_of_calls, components_of}
 
 -- a board's bounds, its lines by tree, and its calls by session
@@ -24,3 +27,60 @@ empty_board trees sessions quota =
 abbrev pub IsLegalTree : (List ℕ → ℕ) → ℕ → BoardValue → ℕ → List Line → Type 0
 IsLegalTree whole unit board tree lines =
     IsLegal whole unit (components_of (length board.calls)) lines (plain_events tree board.calls)
+
+-- a hand of a plain board: the board with its calls so far, its session, and its room
+pub record PlainHandValue : Type 0 where
+  pub board : BoardValue
+  pub session : ℕ
+  pub spare : ℕ
+
+-- what a plain hand is, where no post is above the cap
+abbrev pub hand_of : ℕ → PlainHandValue → HandValue
+hand_of cap hand = record {
+  number = hand.session;
+  trees = length hand.board.lines;
+  quota = hand.board.quota;
+  cap = cap;
+  spare = hand.spare;
+  calls = slice_index_or hand.board.calls hand.session [];
+}
+
+-- the same session of a board with the same bounds and the same calls of every other session
+pub record KeepsOthers (before now : PlainHandValue) : Type 0 where
+  pub session : now.session ≡ before.session
+  pub trees : length now.board.lines ≡ length before.board.lines
+  pub quota : now.board.quota ≡ before.board.quota
+  pub sessions : length now.board.calls ≡ length before.board.calls
+  pub others : (other : ℕ) → other ≢ before.session
+      → slice_get now.board.calls other ≡ slice_get before.board.calls other
+
+-- a hand's value keeps its origin at once, and over two steps
+pub keeps_others_itself : (hand : PlainHandValue) → KeepsOthers hand hand
+keeps_others_itself hand = record {
+  session = refl;
+  trees = refl;
+  quota = refl;
+  sessions = refl;
+  others = λ other apart. refl;
+}
+
+pub keeps_others_through : (first next last : PlainHandValue) → KeepsOthers first next
+    → KeepsOthers next last → KeepsOthers first last
+keeps_others_through first next last one two = record {
+  session = two.session ∙ one.session;
+  trees = two.trees ∙ one.trees;
+  quota = two.quota ∙ one.quota;
+  sessions = two.sessions ∙ one.sessions;
+  others = λ other apart.
+      two.others other (λ same. apart (same ∙ one.session)) ∙ one.others other apart;
+}
+
+-- two values of one origin have the same number and bounds
+pub keeps_others_means : (cap : ℕ) (before now : PlainHandValue) → KeepsOthers before now
+    → KeepsOrigin (hand_of cap before) (hand_of cap now)
+keeps_others_means cap before now keeps = record {
+  number = keeps.session;
+  trees = keeps.trees;
+  quota = keeps.quota;
+  cap = refl;
+}

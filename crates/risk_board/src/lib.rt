@@ -5,6 +5,15 @@
 //! the lines of its history; it serves sessions that run in turn, and no thread.
 #![tactic(auto)]
 
+mod board;
 mod hand;
+mod kept;
+mod plain_hand;
+mod tree;
 
+pub use board::PlainBoard;
 pub use hand::{Call, Hand, Line, Seen};
+pub use plain_hand::PlainHand;
+
+#[cfg(test)]
+mod tests;
