@@ -3,6 +3,7 @@ use Rattle.std.proofs.Common.{◌≡◌, ◌≢◌, ℕ, ◌+◌, ◌==◌, List
 use Rattle.std.proofs.Common.{arith, Bool, true, false, cond, eq-eqb, zero-add}
 use Rattle.std.proofs.lemmas.List.Sums.{sum_by-cons, sum_by_push}
 use Rattle.std.proofs.lemmas.List.{append-nil as append_nil}
+use Rattle.std.proofs.lemmas.Bool.{ne_eqb}
 use Rattle.risk_board.specs.declared.hand.Call.{Call}
 use Rattle.risk_board.specs.declared.hand.Call.TheVariants.{Post, Read}
 use Rattle.risk_board.specs.Calls.{post_count, is_post_in}
@@ -43,15 +44,12 @@ events-read tree calls stamp value =
     ∙ ap (λ b. events tree calls ++ cond b (Saw stamp stamp value ∷ []) [])
     (eq-eqb tree tree refl)
 
-unequal : (a b : ℕ) → a ≢ b → (a == b) ≡ false
-unequal a b apart = grind arith
-
 -- a call in another tree adds none
 pub events-other_post : (tree other : ℕ) (calls : List Call) (value : ℕ) → other ≢ tree
     → events tree (calls ++ Post other value ∷ []) ≡ events tree calls
 events-other_post tree other calls value apart =
     events-append tree calls (Post other value ∷ [])
-    ∙ ap (λ b. events tree calls ++ cond b (Posted value ∷ []) []) (unequal other tree apart)
+    ∙ ap (λ b. events tree calls ++ cond b (Posted value ∷ []) []) (ne_eqb other tree apart)
     ∙ append_nil _
 
 pub events-other_read : (tree other : ℕ) (calls : List Call) (stamp value : ℕ) → other ≢ tree
@@ -59,7 +57,7 @@ pub events-other_read : (tree other : ℕ) (calls : List Call) (stamp value : �
 events-other_read tree other calls stamp value apart =
     events-append tree calls (Read other stamp value ∷ [])
     ∙ ap (λ b. events tree calls ++ cond b (Saw stamp stamp value ∷ []) [])
-    (unequal other tree apart)
+    (ne_eqb other tree apart)
     ∙ append_nil _
 
 -- the count goes up at a post in the tree, and at no other call
@@ -73,7 +71,7 @@ pub post_count-other_post : (tree other : ℕ) (calls : List Call) (value : ℕ)
     → post_count tree (calls ++ Post other value ∷ []) ≡ post_count tree calls
 post_count-other_post tree other calls value apart =
     sum_by_push (λ call. cond (is_post_in tree call) 1 0) calls (Post other value)
-    ∙ ap (λ b. post_count tree calls + cond b 1 0) (unequal other tree apart)
+    ∙ ap (λ b. post_count tree calls + cond b 1 0) (ne_eqb other tree apart)
     ∙ omega arith
 
 pub post_count-read : (tree other : ℕ) (calls : List Call) (stamp value : ℕ)

@@ -7,4 +7,6 @@ pub mod TreeCalls
 pub mod Room
 pub mod Opened
 pub mod Sound
+pub mod Found
+pub mod HandCalls
 pub mod Held

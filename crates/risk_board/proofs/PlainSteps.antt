@@ -1,9 +1,10 @@
 -- A plain tree after a post of one of its sessions, and after a read.
-use Rattle.std.proofs.Common.{◌≡◌, ◌≢◌, ℕ, ◌+◌, ◌<◌, ◌≤◌, ◌==◌, List, [], ◌∷◌, ◌++◌, length, refl}
-use Rattle.std.proofs.Common.{ap, sym, arith, false, zero, suc, slice_set, ◌⊎◌, inl, inr}
+use Rattle.std.proofs.Common.{◌≡◌, ◌≢◌, ℕ, ◌+◌, ◌<◌, ◌≤◌, List, [], ◌∷◌, ◌++◌, length, refl}
+use Rattle.std.proofs.Common.{ap, sym, arith, zero, suc, slice_set, ◌⊎◌, inl, inr}
 use Rattle.std.proofs.Common.{length-append, length-set}
 use Rattle.std.specs.Prelude.{Some, slice_get, replicate}
 use Rattle.std.specs.List.{AllByRecursion}
+use Rattle.std.proofs.lemmas.Bool.{ne_eqb}
 use Rattle.risk_board.specs.declared.hand.Line.{Line}
 use Rattle.risk_board.specs.History.{Event, posted, IsOwnLegal, array_after}
 use Rattle.risk_board.specs.History.Event.{Posted, Saw}
@@ -40,9 +41,6 @@ all_below_same m n [] same below = below
 all_below_same m n (x ∷ lines) same below =
     (omega (arith, below.0), all_below_same m n lines same below.1)
 
-unequal : (a b : ℕ) → a ≢ b → (a == b) ≡ false
-unequal a b apart = grind arith
-
 -- one session after a post, its own or another's
 post_at : (whole : List ℕ → ℕ) (unit components : ℕ) (lines : List Line)
     (events : List (List Event)) (session : ℕ) (own : List Event) (value : ℕ)
@@ -66,7 +64,7 @@ post_at whole unit components lines events session own value at plain other othe
     let longer : length lines ≤ length (lines ++ last ∷ []) =
     omega (arith, length-append lines (last ∷ [])) in (
       other_post whole unit components lines other others last
-          (unequal session other (λ q. p.0 (sym q))) (plain.each other others p.1).0,
+          (ne_eqb session other (λ q. p.0 (sym q))) (plain.each other others p.1).0,
       are_places_of_more (length lines) _ others longer (plain.each other others p.1).1,
     )
 

@@ -1,7 +1,7 @@
 use Rattle.std.proofs.Common.{ℕ, List, subst}
 use Rattle.fold_law.specs.Whole.{whole_of}
 use Rattle.risk_board.specs.Plain.{BoardValue, IsLegalTree}
-use Rattle.risk_board.proofs.Held.{board_has_tree, tree_tells}
+use Rattle.risk_board.proofs.Found.{board_has_tree, tree_tells}
 use Rattle.risk_board.proofs.Legal.{plain_is_legal}
 use Rattle.risk_board.proofs.board.PlainBoard.lines.Goals as goal
 

@@ -1,7 +1,8 @@
 use Rattle.std.proofs.Common.{◌≤◌, ap, arith}
 use Rattle.risk_board.specs.Plain.{PlainHandValue}
-use Rattle.risk_board.proofs.Held.{has_tree, tree_tells, is_session, has_read, held_with_read}
-use Rattle.risk_board.proofs.Held.{hand_has_call, others_stay}
+use Rattle.risk_board.proofs.Found.{has_tree, tree_tells, is_session}
+use Rattle.risk_board.proofs.HandCalls.{has_read, hand_has_call, others_stay}
+use Rattle.risk_board.proofs.Held.{held_with_read}
 use Rattle.risk_board.proofs.TreeCalls.{lines_fit, components_fit}
 use Rattle.risk_board.proofs.plain_hand.PlainHandHand.read.Goals as goal
 
@@ -51,24 +52,18 @@ invariant_of-self g c =
 pub returns-clause-added : goal.returns-clause-added
 returns-clause-added g c =
     let hand = c.self.inside in
-    let below = has_tree hand.kept hand.session hand.spare c.args.self.now c.args.tree
-    c.self.view_is c.requires.tree in
-    let has = has_read hand.kept c.self.invariant c.args.tree c.index.result.now below
-    c.index.ensures c.index_mut-own.result.now c.index_mut-own.ensures.value
-    c.push_reserved.new.self c.root-seen.result.stamp c.root-seen.result.value
-    c.push_reserved.ensures.items in
-    hand_has_call has (is_session hand.kept c.self.invariant.sound hand.session
-    c.self.invariant.in_range) hand.spare g.F.Fold.CAP c.args.self.now c.self.view_is
+    let has = has_read hand.kept hand.session c.index_mut-own.result.now c.self.invariant.in_range
+    c.index_mut-own.ensures.value c.args.tree c.push_reserved.new.self c.root-seen.result.stamp
+    c.root-seen.result.value c.push_reserved.ensures.items in
+    hand_has_call has (is_session hand.kept hand.session c.self.invariant.in_range)
+    hand.spare g.F.Fold.CAP c.args.self.now c.self.view_is
 
 -- and no other session's have changed
 pub returns-clause-origin : goal.returns-clause-origin
 returns-clause-origin g c =
     let hand = c.self.inside in
-    let below = has_tree hand.kept hand.session hand.spare c.args.self.now c.args.tree
-    c.self.view_is c.requires.tree in
-    let has = has_read hand.kept c.self.invariant c.args.tree c.index.result.now below
-    c.index.ensures c.index_mut-own.result.now c.index_mut-own.ensures.value
-    c.push_reserved.new.self c.root-seen.result.stamp c.root-seen.result.value
-    c.push_reserved.ensures.items in
-    others_stay has (is_session hand.kept c.self.invariant.sound hand.session
-    c.self.invariant.in_range) hand.spare c.args.self.now c.self.view_is
+    let has = has_read hand.kept hand.session c.index_mut-own.result.now c.self.invariant.in_range
+    c.index_mut-own.ensures.value c.args.tree c.push_reserved.new.self c.root-seen.result.stamp
+    c.root-seen.result.value c.push_reserved.ensures.items in
+    others_stay has (is_session hand.kept hand.session c.self.invariant.in_range)
+    hand.spare c.args.self.now c.self.view_is
