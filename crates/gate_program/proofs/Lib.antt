@@ -2,3 +2,10 @@ pub mod Rows
 pub mod Steps
 pub mod Within
 pub mod Covered
+pub mod LimitDigits
+pub mod FileNames
+pub mod RowLists
+pub mod PlacedActs
+pub mod PlacedSoFar
+pub mod MovedSessions
+pub mod PlacedFollows

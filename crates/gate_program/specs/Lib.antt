@@ -8,3 +8,8 @@ pub mod Admitted
 pub mod Follows
 pub mod Run
 pub mod Gate
+pub mod Fetches
+pub mod LimitRows
+pub mod LimitsOf
+pub mod CommandOf
+pub mod RowCells

@@ -2,7 +2,15 @@
 #![tactic(auto)]
 
 mod acts;
+mod csv_rows;
+mod input;
+mod journal;
+#[cfg(test)]
+mod leaf_tests;
+mod limits;
+mod placed;
 mod refusal;
+mod words;
 
 pub use acts::{Act, End};
 pub use refusal::Refusal;
