@@ -38,7 +38,7 @@ done-tells g x y c = record {
 
 pub close-tells : goal.close-tells
 close-tells g x y c = record {
-  closed = tt;
+  closed = refl;
   cause = one_count_has_cause _ _ _ _ _ (ap (λ s. s.writes) c.ensures.after) (nonzero_is_above _);
   reads = λ name. omega (arith, ap (λ s. s.reads) c.ensures.after);
 }
