@@ -1,0 +1,23 @@
+//! Words that carry a stamp beside a value, the places of the words of trees, and single counted
+//! steps on one word.
+//!
+//! A word is `{ stamp, value }`: the 24 high bits of a u64 are the stamp, the 40 low bits the value.
+//! A tree is a row of words: its root is node 1, the children of node k are the nodes 2k and 2k + 1,
+//! and the leaves are the last nodes. A step is one atomic load, store or exchange of one word.
+//! Nothing here says what a stamp or a value means, and no call takes memory or waits.
+#![tactic(auto)]
+
+mod limits;
+mod shape;
+mod step;
+mod steps;
+mod word;
+
+pub use limits::{LEVELS, TREES};
+pub use shape::Shape;
+pub use step::{exchange_if, load, store};
+pub use steps::{Steps, count_steps};
+pub use word::{each_word_is_one_pair, pack, stamp_of, value_of};
+
+#[cfg(test)]
+mod tests;
