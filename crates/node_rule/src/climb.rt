@@ -1,0 +1,130 @@
+//! A session's seat, with its lists of calls and installs.
+ghost use Rattle.std.specs.Prelude.{◌≡◌, ◌-◌, ◌≤◌, ◌<◌, OnOk, OnErr, IfSome};
+ghost use Rattle.node_rule.specs.Views.{climb_of};
+ghost use Rattle.node_rule.specs.Own.{IsSession, number_in, posts_by, node_in, IsBelowRoot};
+ghost use Rattle.node_rule.specs.Standing.{KeepsTable};
+
+use crate::view::{Ascent, Install, Plan, View};
+use atomic_table::Seat;
+use fold_law::{Fold, Memory};
+use risk_board::Call;
+use std::marker::{Model, PhantomData};
+
+/// A session's seat, with its lists of calls and installs, or the keeper's seat. Contracts see the
+/// table and its plan, the seat's view, and for how many more calls there is room. A number counts
+/// from 0.
+#[derive(Drop)]
+pub struct Climb<F: Fold> {
+    pub(crate) seat: Seat<(), View>,
+    pub(crate) plan: Plan,
+    pub(crate) keeps: bool,
+    pub(crate) number: u32,
+    pub(crate) calls: Vec<Call>,
+    pub(crate) trail: Vec<Install>,
+    pub(crate) counts: Vec<u32>,
+    pub(crate) ascent: Option<Ascent>,
+    pub(crate) spare: u32,
+    pub(crate) fold: PhantomData<F>,
+}
+
+impl<F: Fold> Model for Climb<F> {
+    ghost use Rattle.std.specs.Prelude.{◌≡◌, [], vec_len, vec_capacity};
+    ghost use Rattle.node_rule.specs.Standing.{Standing, IsSound, HasRoom, AreCounted};
+
+    ghost Value = { Standing };
+
+    ghost view = { λ c. record {
+      table = c.seat.table_id;
+      plan = c.plan;
+      view = c.seat.me.0;
+      spare = c.spare;
+    } };
+
+    ghost invariant = { λ c.
+        IsSound F.under c.keeps c.plan c.number c.calls.items c.trail.items c.ascent c.seat.me.0
+        × (c.seat.me.1 ≡ [])
+        × HasRoom c.plan.levels c.spare (vec_len c.calls) (vec_capacity c.calls) (vec_len c.trail)
+        (vec_capacity c.trail) c.ascent
+        × AreCounted c.keeps c.plan c.calls.items c.counts.items };
+}
+
+impl<F: Fold> Climb<F> {
+    /// The tree of the climb on its way.
+    pub fn tree(&self) -> u32
+        ensures { IfSome (climb_of self.now.view) (λ x. result ≡ x.tree) }
+    {
+        match self.ascent {
+            Some(x) => x.tree,
+            None => 0,
+        }
+    }
+
+    /// The node at which the climb stands, below the root; between two posts the root.
+    pub fn node(&self) -> u32
+        ensures node { result ≡ node_in (climb_of self.now.view) }
+        ensures below { IfSome (climb_of self.now.view) (IsBelowRoot self.now.plan) }
+    {
+        match self.ascent {
+            Some(x) => x.node,
+            None => 1,
+        }
+    }
+
+    /// The stamp of the node that covers the post of the climb on its way.
+    pub fn held(&self) -> u32
+        ensures { IfSome (climb_of self.now.view) (λ x. result ≡ x.held) }
+    {
+        match self.ascent {
+            Some(x) => x.held,
+            None => 0,
+        }
+    }
+
+    /// The session's number.
+    pub fn number(&self) -> u32
+        requires session { IsSession self.now.view }
+        ensures { result ≡ number_in self.now.view }
+    {
+        self.number
+    }
+
+    /// How many more posts the quota lets the session make in the tree.
+    pub fn left(&self, tree: u32) -> u32
+        requires session { IsSession self.now.view }
+        requires tree { tree < self.now.plan.trees }
+        ensures { result ≡ self.now.plan.quota - posts_by tree self.now.view }
+    {
+        self.plan.quota.saturating_sub(self.counts[tree as usize])
+    }
+
+    /// For how many more calls there is room.
+    pub fn spare(&self) -> u32
+        ensures { result ≡ self.now.spare }
+    {
+        self.spare
+    }
+
+    /// Makes room for so many calls, and for the installs that they and the climb on its way may
+    /// make.
+    pub fn reserve(&mut self, calls: u32) -> Result<(), Memory>
+        requires { calls ≤ 1000 }
+        ensures ok { OnOk result (calls ≤ self.new.spare) }
+        ensures table { KeepsTable self.old self.new }
+        ensures view { self.new.view ≡ self.old.view }
+        ensures spare { self.old.spare ≤ self.new.spare }
+        ensures err { OnErr result (self.new ≡ self.old) }
+    {
+        if self.spare >= calls {
+            return Ok(());
+        }
+        let Ok(()) = self.calls.reserve(calls as usize) else {
+            return Err(Memory);
+        };
+        let installs = self.plan.levels * calls + self.plan.levels;
+        let Ok(()) = self.trail.reserve(installs as usize) else {
+            return Err(Memory);
+        };
+        self.spare = calls;
+        Ok(())
+    }
+}

@@ -1,0 +1,241 @@
+//! The words of the trees, and the steps of a climb.
+ghost use Rattle.std.specs.Prelude.{◌≡◌, ℕ, ◌+◌, ◌*◌, ◌^◌, ◌<◌, ◌≤◌, Some};
+ghost use Rattle.std.specs.Bool.{OnTrue, OnFalse};
+ghost use Rattle.node_rule.specs.declared.view.Stage.TheVariants.{Fresh, First, Lost, Second};
+ghost use Rattle.node_rule.specs.Standing.{IsOf, KeepsSeat};
+ghost use Rattle.node_rule.specs.Standing.{IsFresh, HasLostOnce, HasTry, HasFullTry};
+ghost use Rattle.node_rule.specs.Standing.{HasLoaded, HasLost};
+ghost use Rattle.node_rule.specs.StampPart.{IsPlan};
+ghost use Rattle.node_rule.specs.Steps.{first_stage, left_stage, right_stage, after_win};
+ghost use Rattle.node_rule.specs.Views.{staged};
+
+use crate::climb::Climb;
+use crate::rule::{Exchange, LoadLeft, LoadParent, LoadRight, NodeRule};
+use crate::tries::{after_lost, full_word, install, risen_to, try_held};
+use crate::view::{Ascent, Plan, Stage, Try, View};
+use atomic_table::Table;
+use fold_law::Fold;
+use stamp_word::{Shape, Steps, exchange_if, load, stamp_of};
+use std::alloc::Global;
+use std::marker::Model;
+use std::sync::ledger::Ledger;
+
+/// The words of the trees, under the running rule. Contracts see the table and its plan.
+#[derive(Drop)]
+pub struct Words<F: Fold> {
+    pub(crate) table: Table<(), View, Plan, NodeRule<F>, Global>,
+    pub(crate) plan: Plan,
+    pub(crate) alloc: Global,
+}
+
+impl<F: Fold> Model for Words<F> {
+    ghost use Rattle.std.specs.Prelude.{◌≡◌, ◌*◌, ◌^◌};
+    ghost use Rattle.node_rule.specs.StampPart.{IsPlan};
+    ghost use Rattle.node_rule.specs.Standing.{Forested};
+
+    ghost Value = { Forested };
+
+    ghost view = { λ w. record { table = w.table.shared.table_id; plan = w.plan } };
+
+    ghost invariant = { λ w. IsPlan w.plan × (w.table.shared.key ≡ w.plan)
+        × (w.table.shared.table_id.slots ≡ 0)
+        × (w.table.shared.table_id.words ≡ w.plan.trees * (2 * 2 ^ w.plan.levels)) };
+}
+
+impl<F: Fold> Words<F> {
+    /// The shape of the trees.
+    pub fn shape(&self) -> Shape
+        ensures levels { result.levels ≡ self.now.plan.levels }
+        ensures trees { result.trees ≡ self.now.plan.trees }
+    {
+        shape_of(&self.plan)
+    }
+
+    /// Loads the parent of the climb's node, for the first try.
+    pub fn first_load<L: Ledger>(&self, climb: &mut Climb<F>, steps: &mut Steps<L>)
+        requires table { IsOf self.now climb.old }
+        requires stage { IsFresh climb.old }
+        ensures table { KeepsSeat climb.old climb.new }
+        ensures view { HasLoaded first_stage climb.old climb.new }
+        ensures one_step { steps.new ≡ steps.old + 1 }
+    {
+        let Some(x) = climb.ascent else {
+            unreachable!()
+        };
+        let place = shape_of(&self.plan).path(x.tree, x.node / 2);
+        let word = load::<(), View, Plan, NodeRule<F>, LoadParent, L>(
+            &self.table.shared,
+            &mut climb.seat,
+            place,
+            steps,
+        );
+        climb.ascent = Some(with_parent(x, word));
+    }
+
+    /// Loads the parent of the climb's node again, for the second try.
+    pub fn second_load<L: Ledger>(&self, climb: &mut Climb<F>, steps: &mut Steps<L>)
+        requires table { IsOf self.now climb.old }
+        requires stage { HasLostOnce climb.old }
+        ensures table { KeepsSeat climb.old climb.new }
+        ensures view { HasLoaded first_stage climb.old climb.new }
+        ensures one_step { steps.new ≡ steps.old + 1 }
+    {
+        let Some(x) = climb.ascent else {
+            unreachable!()
+        };
+        let place = shape_of(&self.plan).path(x.tree, x.node / 2);
+        let word = load::<(), View, Plan, NodeRule<F>, LoadParent, L>(
+            &self.table.shared,
+            &mut climb.seat,
+            place,
+            steps,
+        );
+        climb.ascent = Some(with_parent(x, word));
+    }
+
+    /// Loads the left child of the parent, once the parent is loaded.
+    pub fn load_left<L: Ledger>(&self, climb: &mut Climb<F>, steps: &mut Steps<L>)
+        requires table { IsOf self.now climb.old }
+        requires stage { HasTry climb.old }
+        ensures table { KeepsSeat climb.old climb.new }
+        ensures view { HasLoaded left_stage climb.old climb.new }
+        ensures one_step { steps.new ≡ steps.old + 1 }
+    {
+        let Some(x) = climb.ascent else {
+            unreachable!()
+        };
+        let place = shape_of(&self.plan).path(x.tree, 2 * (x.node / 2));
+        let word = load::<(), View, Plan, NodeRule<F>, LoadLeft<F>, L>(
+            &self.table.shared,
+            &mut climb.seat,
+            place,
+            steps,
+        );
+        climb.ascent = Some(with_left_word(x, word));
+    }
+
+    /// Loads the right child of the parent, once the parent is loaded.
+    pub fn load_right<L: Ledger>(&self, climb: &mut Climb<F>, steps: &mut Steps<L>)
+        requires table { IsOf self.now climb.old }
+        requires stage { HasTry climb.old }
+        ensures table { KeepsSeat climb.old climb.new }
+        ensures view { HasLoaded right_stage climb.old climb.new }
+        ensures one_step { steps.new ≡ steps.old + 1 }
+    {
+        let Some(x) = climb.ascent else {
+            unreachable!()
+        };
+        let place = shape_of(&self.plan).path(x.tree, 2 * (x.node / 2) + 1);
+        let word = load::<(), View, Plan, NodeRule<F>, LoadRight<F>, L>(
+            &self.table.shared,
+            &mut climb.seat,
+            place,
+            steps,
+        );
+        climb.ascent = Some(with_right_word(x, word));
+    }
+
+    /// Exchanges the parent's word for the next stamp with the join of the loaded children's values.
+    /// It answers true where it won: the word was still the one that the try loaded.
+    pub fn exchange<L: Ledger>(&self, climb: &mut Climb<F>, steps: &mut Steps<L>) -> bool
+        requires table { IsOf self.now climb.old }
+        requires stage { HasFullTry climb.old }
+        ensures table { KeepsSeat climb.old climb.new }
+        ensures won { OnTrue result (climb.new.view ≡ after_win climb.old.view) }
+        ensures lost { OnFalse result (HasLost climb.old climb.new) }
+        ensures one_step { steps.new ≡ steps.old + 1 }
+    {
+        let Some(x) = climb.ascent else {
+            unreachable!()
+        };
+        let Some(tried) = try_held(&x) else {
+            unreachable!()
+        };
+        let word = full_word::<F>(&tried, &x);
+        let place = shape_of(&self.plan).path(x.tree, x.node / 2);
+        match exchange_if::<(), View, Plan, NodeRule<F>, Exchange, L>(
+            &self.table.shared,
+            &mut climb.seat,
+            place,
+            tried.parent,
+            word,
+            steps,
+        ) {
+            Ok(()) => {
+                climb.trail.push_reserved(install(&x, &tried));
+                climb.ascent = risen_to(&x, stamp_of(tried.parent) + 1);
+                true
+            }
+            Err(found) => {
+                climb.ascent = after_lost(&x, found);
+                false
+            }
+        }
+    }
+}
+
+pub(crate) fn shape_of(plan: &Plan) -> Shape
+    requires planned { IsPlan plan.now }
+    ensures { (result.levels ≡ plan.now.levels) × (result.trees ≡ plan.now.trees) }
+{
+    Shape {
+        levels: plan.levels,
+        trees: plan.trees,
+    }
+}
+
+fn with_parent(x: Ascent, word: u64) -> Ascent
+    ensures { result ≡ staged x (first_stage x.stage word) }
+{
+    let tried = Try {
+        parent: word,
+        left: None,
+        right: None,
+    };
+    let stage = match x.stage {
+        Stage::Fresh => Stage::First(tried),
+        Stage::Lost(stamp) => Stage::Second(stamp, tried),
+        other => other,
+    };
+    Ascent { stage, ..x }
+}
+
+fn with_left_word(x: Ascent, word: u64) -> Ascent
+    ensures { result ≡ staged x (left_stage x.stage word) }
+{
+    let stage = match x.stage {
+        Stage::First(tried) => Stage::First(Try {
+            left: Some(word),
+            ..tried
+        }),
+        Stage::Second(stamp, tried) => Stage::Second(
+            stamp,
+            Try {
+                left: Some(word),
+                ..tried
+            },
+        ),
+        other => other,
+    };
+    Ascent { stage, ..x }
+}
+
+fn with_right_word(x: Ascent, word: u64) -> Ascent
+    ensures { result ≡ staged x (right_stage x.stage word) }
+{
+    let stage = match x.stage {
+        Stage::First(tried) => Stage::First(Try {
+            right: Some(word),
+            ..tried
+        }),
+        Stage::Second(stamp, tried) => Stage::Second(
+            stamp,
+            Try {
+                right: Some(word),
+                ..tried
+            },
+        ),
+        other => other,
+    };
+    Ascent { stage, ..x }
+}
