@@ -1,0 +1,31 @@
+-- What one try, and a whole refresh, do to a climb.
+use Rattle.std.specs.Prelude.{◌≡◌, ℕ, ◌⊎◌, Some}
+use Rattle.node_rule.specs.declared.view.View.TheVariants.{Session}
+use Rattle.node_rule.specs.declared.view.Track.{Track}
+use Rattle.node_rule.specs.declared.view.Install.{Install}
+use Rattle.node_rule.specs.declared.view.Ascent.{Ascent}
+use Rattle.node_rule.specs.Views.{installed, risen}
+use Rattle.node_rule.specs.Steps.{climb_lost}
+use Rattle.node_rule.specs.Standing.{Standing}
+
+-- one install more, and the climb is at the parent
+abbrev pub Wins : Standing → Standing → Type 0
+Wins old new =
+    (track : Track) × (x : Ascent) × (i : Install) × (stamp : ℕ)
+    × (old.view ≡ Session old.plan.levels track (Some x))
+    × (new.view ≡ Session old.plan.levels (installed track i) (risen x stamp))
+
+-- no install more; after the first try the climb may try again, after the second it is at the parent
+abbrev pub Loses : Standing → Standing → Type 0
+Loses old new =
+    (track : Track) × (x : Ascent) × (found : ℕ)
+    × (old.view ≡ Session old.plan.levels track (Some x))
+    × (new.view ≡ Session old.plan.levels track (climb_lost x found x.stage))
+
+-- the climb is at the parent, with at most one install more
+abbrev pub Rises : Standing → Standing → Type 0
+Rises old new =
+    (track : Track) × (x : Ascent) × (after : Track) × (stamp : ℕ)
+    × (old.view ≡ Session old.plan.levels track (Some x))
+    × (new.view ≡ Session old.plan.levels after (risen x stamp))
+    × ((after ≡ track) ⊎ ((i : Install) × (after ≡ installed track i)))

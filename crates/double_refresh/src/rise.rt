@@ -1,0 +1,43 @@
+//! One or two tries at the parent of a climb's node.
+ghost use Rattle.std.specs.Prelude.{◌≡◌, ℕ, ◌+◌, ◌≤◌};
+ghost use Rattle.std.specs.Bool.{OnTrue, OnFalse};
+ghost use Rattle.node_rule.specs.Standing.{IsOf, KeepsSeat, IsFresh, HasTry};
+ghost use Rattle.double_refresh.specs.Refreshing.{Wins, Loses, Rises};
+
+use fold_law::Fold;
+use node_rule::{Climb, Words};
+use stamp_word::Steps;
+use std::sync::ledger::Ledger;
+
+// The rest of a try: the children are loaded, and the parent's word is exchanged.
+fn attempt<F: Fold, L: Ledger>(words: &Words<F>, climb: &mut Climb<F>, steps: &mut Steps<L>) -> bool
+    requires table { IsOf words.now climb.old }
+    requires stage { HasTry climb.old }
+    ensures table { KeepsSeat climb.old climb.new }
+    ensures won { OnTrue result (Wins climb.old climb.new) }
+    ensures lost { OnFalse result (Loses climb.old climb.new) }
+    ensures steps { steps.new ≡ steps.old + 3 }
+{
+    words.load_left(climb, steps);
+    words.load_right(climb, steps);
+    words.exchange(climb, steps)
+}
+
+/// Takes a climb, which has loaded nothing for its parent yet, up to the parent: below the root it
+/// stands there, with a held stamp that covers its post and nothing loaded for the next parent;
+/// where the parent is the root, it is between two posts. It wins at most one exchange.
+pub fn refresh<F: Fold, L: Ledger>(words: &Words<F>, climb: &mut Climb<F>, steps: &mut Steps<L>)
+    requires table { IsOf words.now climb.old }
+    requires stage { IsFresh climb.old }
+    ensures table { KeepsSeat climb.old climb.new }
+    ensures rises { Rises climb.old climb.new }
+    ensures least { steps.old + 4 ≤ steps.new }
+    ensures steps { steps.new ≤ steps.old + 8 }
+{
+    words.first_load(climb, steps);
+    if attempt(words, climb, steps) {
+        return;
+    }
+    words.second_load(climb, steps);
+    attempt(words, climb, steps);
+}
