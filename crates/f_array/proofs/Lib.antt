@@ -1,0 +1,5 @@
+pub mod Rises
+pub mod PassLemmas
+pub mod TakingBack
+pub mod NewPasses
+pub mod HandCounts

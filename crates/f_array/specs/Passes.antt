@@ -1,0 +1,84 @@
+-- What a pass is, and what its calls leave.
+use Rattle.std.specs.Prelude.{◌≡◌, ℕ, zero, suc, ◌-◌, ◌≤◌, List, [], ◌∷◌, ◌++◌, length}
+use mathlib.Core.Option.{some}
+use lib.ListN.{get_elem?}
+use Rattle.atomic_table.specs.Seated.{TableId}
+use Rattle.risk_board.specs.declared.hand.Call.{Call}
+use Rattle.risk_board.specs.declared.hand.Call.TheVariants.{Post, Read}
+use Rattle.node_rule.specs.declared.view.View.{View}
+use Rattle.node_rule.specs.declared.view.View.TheVariants.{Keeper, Session, Spent}
+use Rattle.node_rule.specs.declared.view.Track.{Track}
+use Rattle.node_rule.specs.declared.view.Install.{Install}
+use Rattle.node_rule.specs.declared.view.Plan.{Plan}
+use Rattle.node_rule.specs.Views.{called, new_track}
+use Rattle.node_rule.specs.Standing.{Forested, Standing}
+
+-- the table of the pass's forest and its plan, what the session did, and for how many calls there is
+-- room
+pub record PassValue : Type 0 where
+  pub table : TableId
+  pub plan : Plan
+  pub track : Track
+  pub spare : ℕ
+
+-- what the session of a view did
+abbrev pub track_of : View → Track
+track_of (Keeper levels given joined) = new_track 0
+track_of (Session levels track climb) = track
+track_of Spent = new_track 0
+
+-- the pass with this climb
+abbrev pub pass_of : Standing → PassValue
+pass_of c = record { table = c.table; plan = c.plan; track = track_of c.view; spare = c.spare }
+
+-- the keeper has given so many numbers, and no session is back
+abbrev pub IsDealtUpTo : ℕ → Standing → Type 0
+IsDealtUpTo given c = c.view ≡ Keeper c.plan.levels given []
+
+-- the keeper has given all numbers
+abbrev pub IsAllGiven : Standing → Type 0
+IsAllGiven c = IsDealtUpTo c.plan.sessions c
+
+-- the pass is of this forest
+abbrev pub IsPassOf : Forested → PassValue → Type 0
+IsPassOf forest pass = (pass.table ≡ forest.table) × (pass.plan ≡ forest.plan)
+
+-- a pass of the same forest and number
+abbrev pub IsSamePass : PassValue → PassValue → Type 0
+IsSamePass old new =
+    (new.table ≡ old.table) × (new.plan ≡ old.plan) × (new.track.number ≡ old.track.number)
+
+-- a pass that has made no call
+abbrev pub new_pass : Forested → ℕ → PassValue
+new_pass forest number =
+    record { table = forest.table; plan = forest.plan; track = new_track number; spare = 0 }
+
+-- the first passes, by number
+abbrev pub new_passes : Forested → ℕ → List PassValue
+new_passes forest zero = []
+new_passes forest (suc n) = new_passes forest n ++ new_pass forest n ∷ []
+
+-- all but the room is as before
+abbrev pub KeepsPass : PassValue → PassValue → Type 0
+KeepsPass old new = new ≡ record old { spare = new.spare }
+
+-- the pass with one call more, and room for one fewer
+abbrev pub with_call : Call → PassValue → PassValue
+with_call call pass = record pass { track = called pass.track call; spare = pass.spare - 1 }
+
+-- the track with more installs
+abbrev pub with_installs : List Install → Track → Track
+with_installs more track = record track { trail = track.trail ++ more }
+
+-- the pass with one post more, which won at most one exchange a level
+abbrev pub HasPostAdded : ℕ → ℕ → PassValue → PassValue → Type 0
+HasPostAdded tree value old new =
+    (more : List Install) × (length more ≤ old.plan.levels)
+    × (new ≡ record (with_call (Post tree value) old) {
+      track = with_installs more (called old.track (Post tree value));
+    })
+
+-- no earlier read of this root by the pass has a later stamp
+abbrev pub IsLatestIn : ℕ → ℕ → PassValue → Type 0
+IsLatestIn tree stamp pass =
+    (k s v : ℕ) → get_elem? pass.track.calls k ≡ some (Read tree s v) → s ≤ stamp

@@ -1,0 +1,126 @@
+//! A session's hand on a forest.
+ghost use Rattle.std.specs.Prelude.{◌≡◌, ℕ, ◌+◌, ◌≤◌, ◌<◌};
+ghost use Rattle.risk_board.specs.declared.hand.Call.TheVariants.{Read};
+ghost use Rattle.node_rule.specs.Sums.{posts_in};
+ghost use Rattle.f_array.specs.Passes.{IsPassOf, IsSamePass, HasPostAdded, with_call};
+ghost use Rattle.f_array.specs.Handed.{hand_of, same_pass_itself, same_pass_next, same_pass_keeps};
+
+use crate::forest::Forest;
+use crate::pass::Pass;
+use fold_law::{Fold, Memory};
+use risk_board::{Hand, Seen};
+use stamp_word::count_steps;
+use std::marker::{Brand, Model};
+use std::sync::ledger::{Blank, Ledger};
+
+/// The hand over a forest: a pass, with a reference to its forest. Contracts see the forest's table
+/// and plan, and the pass. Each call makes a counter of its own, and promises no number of steps.
+#[derive(Drop)]
+pub struct TreeHand<'a, F: Fold> {
+    forest: &'a Forest<F>,
+    pass: Pass<F>,
+}
+
+impl<'a, F: Fold> Model for TreeHand<'a, F> {
+    ghost use Rattle.f_array.specs.Passes.{IsPassOf};
+    ghost use Rattle.f_array.specs.Handed.{HeldPass};
+
+    ghost Value = { HeldPass };
+
+    ghost view = { λ h. record { forest = h.forest.now; pass = h.pass } };
+
+    ghost invariant = { λ h. IsPassOf h.forest.now h.pass };
+}
+
+impl<'a, F: Fold> TreeHand<'a, F> {
+    /// The hand of a pass of this forest.
+    pub fn new(forest: &'a Forest<F>, pass: Pass<F>) -> TreeHand<'a, F>
+        requires { IsPassOf forest.now pass }
+        ensures forest { result.forest ≡ forest.now }
+        ensures pass { result.pass ≡ pass }
+    {
+        TreeHand { forest, pass }
+    }
+
+    /// The pass, with the hand's calls.
+    pub fn give_back(self) -> Pass<F>
+        ensures pass { result ≡ self.entry.pass }
+        ensures forest { IsPassOf self.entry.forest result }
+    {
+        let TreeHand { forest: _, pass } = self;
+        pass
+    }
+}
+
+impl<'a, F: Fold> Hand for TreeHand<'a, F> {
+    ghost meaning = { λ h. hand_of F.CAP h.pass };
+
+    ghost SameOrigin = { λ a b. IsSamePass a.pass b.pass };
+
+    fn number(&self) -> u32 {
+        self.pass.number()
+    }
+
+    fn left(&self, tree: u32) -> u32 {
+        self.pass.left(tree)
+    }
+
+    fn spare(&self) -> u32 {
+        self.pass.spare()
+    }
+
+    fn reserve(&mut self, calls: u32) -> Result<(), Memory> {
+        self.pass.reserve(calls)
+    }
+
+    fn post(&mut self, tree: u32, value: u64) {
+        post_counted::<F, Brand>(self.forest, &mut self.pass, tree, value, Blank::new(1));
+    }
+
+    fn read(&mut self, tree: u32) -> Seen {
+        read_counted::<F, Brand>(self.forest, &mut self.pass, tree, Blank::new(1))
+    }
+
+    ghost origin_same = { λ a. same_pass_itself a.pass };
+
+    ghost origin_next = { λ a b c. same_pass_next a.pass b.pass c.pass };
+
+    ghost origin_means = { λ a b. same_pass_keeps F.CAP a.pass b.pass };
+}
+
+// A post with a count of its own.
+fn post_counted<F: Fold, L: Ledger>(
+    forest: &Forest<F>,
+    pass: &mut Pass<F>,
+    tree: u32,
+    value: u64,
+    blank: Blank,
+)
+    requires forest { IsPassOf forest.now pass.old }
+    requires tree { tree < pass.old.plan.trees }
+    requires left { posts_in tree pass.old.track < pass.old.plan.quota }
+    requires spare { 1 ≤ pass.old.spare }
+    requires capped { value ≤ F.CAP }
+    requires blank { (blank.name ≡ L.name) × (blank.parts ≡ L.parts) × (0 < L.parts) }
+    ensures { HasPostAdded tree value pass.old pass.new }
+{
+    let mut steps = count_steps::<L>(blank);
+    forest.post(pass, tree, value, &mut steps);
+}
+
+// A read with a count of its own.
+fn read_counted<F: Fold, L: Ledger>(
+    forest: &Forest<F>,
+    pass: &mut Pass<F>,
+    tree: u32,
+    blank: Blank,
+) -> Seen
+    requires forest { IsPassOf forest.now pass.old }
+    requires tree { tree < pass.old.plan.trees }
+    requires spare { 1 ≤ pass.old.spare }
+    requires blank { (blank.name ≡ L.name) × (blank.parts ≡ L.parts) × (0 < L.parts) }
+    ensures { pass.new ≡ with_call (Read tree result.stamp result.value) pass.old }
+{
+    let mut steps = count_steps::<L>(blank);
+    forest.read(pass, tree, &mut steps)
+}
