@@ -9,10 +9,12 @@ use Rattle.fix_fields.specs.Frames.{FrameValue}
 use Rattle.risk_board.specs.History.{Event}
 use Rattle.risk_board.specs.History.Event.{Posted, Saw}
 use Rattle.gate_program.specs.declared.acts.Act.{Act}
-use Rattle.gate_program.specs.declared.acts.Act.TheVariants.{Post, Read, Sent, Refused, Noted, Ended}
+use Rattle.gate_program.specs.declared.acts.Act.TheVariants.{Post, Read, Sent, Refused, Noted}
+use Rattle.gate_program.specs.declared.acts.Act.TheVariants.{Ended}
 use Rattle.gate_program.specs.declared.refusal.Refusal.{Refusal}
 use Rattle.gate_program.specs.declared.refusal.Refusal.TheVariants.{Firm}
-use Rattle.gate_program.specs.Session.{LimitsValue, SessionValue, OrderValue, SeenAt, opening, next_read}
+use Rattle.gate_program.specs.Session.{LimitsValue, SessionValue, OrderValue, SeenAt, opening}
+use Rattle.gate_program.specs.Session.{next_read}
 use Rattle.gate_program.specs.Session.{after_frames, after_frame, after_checks, after_verdict}
 use Rattle.gate_program.specs.Session.{early_refusal, legs_of, order_of, exposure_of}
 use Rattle.gate_program.specs.Session.{value_of_orders, last_post, latest, client_after, posts_in}
@@ -24,7 +26,8 @@ use Rattle.gate_program.specs.Admitted.{CoversOrders}
 
 -- an event that counts or doesn't, in front of others
 counted_in_front : (here : Bool) (event : Event) (first both later : List Event)
-    → both ≡ first ++ later → cond here (event ∷ both) both ≡ cond here (event ∷ first) first ++ later
+    → both ≡ first ++ later → cond here (event ∷ both) both ≡ cond here
+    (event ∷ first) first ++ later
 counted_in_front true event first both later is = ap (λ s. event ∷ s) is
 counted_in_front false event first both later is = is
 
@@ -33,7 +36,8 @@ pub events_of-append : (tree : ℕ) (first later : List Act)
     → events_of tree (first ++ later) ≡ events_of tree first ++ events_of tree later
 events_of-append tree [] later = refl
 events_of-append tree (Post in_tree index value ∷ first) later =
-    counted_in_front (in_tree == tree) (Posted value) (events_of tree first) (events_of tree (first ++ later))
+    counted_in_front (in_tree == tree) (Posted value) (events_of tree first)
+    (events_of tree (first ++ later))
     (events_of tree later) (events_of-append tree first later)
 events_of-append tree (Read in_tree stamp place value ∷ first) later =
     counted_in_front (in_tree == tree) (Saw stamp place value) (events_of tree first)
@@ -140,13 +144,15 @@ even_after_sending limit acts orders order index frame seen even within =
     record {
       posted = ap (λ (s : Standing). s.posted) stands ∙ sym last;
       admitted = ap (λ (s : Standing). s.admitted) stands
-          ∙ after_larger limit (last_post 0 acts) new seen.value (standing_of limit acts) even.posted
+          ∙ after_larger limit (last_post 0 acts) new seen.value
+          (standing_of limit acts) even.posted
           even.admitted more within
           ∙ sym last;
       worth = sym last;
     }
 
-even_after_retraction : (limit : ℕ) (acts : List Act) (orders : List OrderValue) (order : OrderValue)
+even_after_retraction : (limit : ℕ) (acts : List Act) (orders : List OrderValue)
+    (order : OrderValue)
     (index again : ℕ) (seen : SeenAt) → IsEven limit acts orders
     → nat_lt limit seen.value ≡ true
     → IsEven limit (retracted_acts acts index (value_of_orders (orders ++ order ∷ [])) seen again
@@ -201,7 +207,8 @@ even_after_checks : (limits : LimitsValue) (fields : List FieldValue) (order : O
 even_after_checks limits fields order session None even =
     even_after_read limits fields order session even _ refl
 even_after_checks limits fields order session (Some refusal) even =
-    even_after_note limits.firm session.acts session.orders session.frames (code_of refusal) 0 0 even
+    even_after_note limits.firm session.acts session.orders session.frames
+    (code_of refusal) 0 0 even
 
 even_after_frames : (limits : LimitsValue) (frames : List FrameValue) (session : SessionValue)
     → IsEven limits.firm session.acts session.orders

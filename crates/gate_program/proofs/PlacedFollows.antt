@@ -14,6 +14,7 @@ use Rattle.gate_program.specs.declared.acts.End.{End}
 use Rattle.gate_program.specs.Session.{LimitsValue, SessionValue, opening, after_frame}
 use Rattle.gate_program.specs.Session.{after_frames, AreTaken, is_taken}
 use Rattle.gate_program.specs.Trees.{placed, reads_of}
+use Rattle.gate_program.proofs.Covered.{covers_orders}
 use Rattle.gate_program.specs.Follows.{FollowsInput, StopsAt, session_of, input_most}
 use Rattle.gate_program.proofs.PlacedActs.{reads_of-placed, reads_of-append}
 use Rattle.gate_program.proofs.MovedSessions.{moved, reads_made, TakesReads, one_after_another}
@@ -94,4 +95,6 @@ follows_placed place limits bytes acts end venue client own =
       end_is = own.end_is;
       venue_is = own.venue_is ∙ ap (λ (x : SessionValue). concat x.venue) (sym ends);
       client_is = own.client_is ∙ ap (λ (x : SessionValue). concat x.client) (sym ends);
+      covered = λ count. covers_orders limits (reads_of (map (placed place) acts))
+          (take count own.frames);
     }

@@ -1,5 +1,6 @@
 -- What is admitted stays within the limit: at each read within it, all that is posted is.
-use Rattle.std.proofs.Common.{◌≡◌, ℕ, zero, suc, ◌+◌, ◌≤◌, ◌==◌, List, [], ◌∷◌, ◌++◌, length, take, fold}
+use Rattle.std.proofs.Common.{◌≡◌, ℕ, zero, suc, ◌+◌, ◌≤◌, ◌==◌, List, [], ◌∷◌, ◌++◌, length, take}
+use Rattle.std.proofs.Common.{fold}
 use Rattle.std.proofs.Common.{refl, ap, sym, ◌∙◌, subst, arith, replicate, Bool, true, false, cond}
 use Rattle.std.proofs.Common.{append_assoc, add_assoc, add-zero, zero-add, length-append}
 use Rattle.std.specs.Prelude.{Some, slice_get, sum_by, nat_le}

@@ -15,6 +15,7 @@ use Rattle.gate_program.specs.declared.acts.End.TheVariants as ending
 use Rattle.gate_program.specs.Session.{LimitsValue, SessionValue, opening, after_frames}
 use Rattle.gate_program.specs.Session.{AreTaken, is_taken, end_of}
 use Rattle.gate_program.specs.Trees.{reads_of}
+use Rattle.gate_program.specs.Admitted.{CoversOrders}
 
 -- the most bytes of a session's input
 abbrev pub input_most : ℕ
@@ -45,6 +46,8 @@ pub record FollowsInput (limits : LimitsValue) (bytes : List ℕ) (acts : List A
   pub end_is : end ≡ end_of (nat_lt input_most (length bytes)) (place_after 0 frames) next
   pub venue_is : venue ≡ concat (session_of limits acts frames).venue
   pub client_is : client ≡ concat (session_of limits acts frames).client
+  -- after each frame, what the orders sent so far are worth is admitted
+  pub covered : (count : ℕ) → CoversOrders limits (session_of limits acts (take count frames))
 
 -- an end that is by the input, and not by a fault
 abbrev pub IsByInput : End → Type 0

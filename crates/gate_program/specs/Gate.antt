@@ -111,8 +111,9 @@ HasJournal before after run acts lines true = WriteRose before after (journal_na
 abbrev pub text_after : ℕ → List ℕ
 text_after status =
     if status == 0 then codes "status 0" ++ 10 ∷ []
+    else (if status == 4 then codes "status 4" ++ 10 ∷ []
     else (if status == 5 then read_fault_text
-    else (if status == 6 then write_fault_text else not_built_text))
+    else (if status == 6 then write_fault_text else not_built_text)))
 
 -- names that are no outputs keep their texts
 abbrev pub KeepsOthers : PortsValue → PortsValue → RunWords → Type 0

@@ -10,7 +10,8 @@ use Rattle.gate_program.specs.declared.acts.Act.{Act}
 use Rattle.gate_program.specs.declared.acts.End.{End}
 use Rattle.gate_program.specs.declared.acts.End.TheVariants as ending
 use Rattle.gate_program.specs.Session.{LimitsValue}
-use Rattle.gate_program.specs.Trees.{tree_count, fold_of, events_of}
+use Rattle.gate_program.specs.Trees.{tree_count, fold_of, events_of, limit_of}
+use Rattle.gate_program.specs.Admitted.{StaysWithin}
 use Rattle.gate_program.specs.Words.{RunWords, venue_name, client_name}
 use Rattle.gate_program.specs.Follows.{FollowsInput}
 
@@ -72,13 +73,16 @@ EndHolds limits before after run session bytes acts (ending.TooLong place) =
 EndHolds limits before after run session bytes acts (ending.NotBuilt place) =
     FollowsText limits after run session bytes acts (ending.NotBuilt place)
 
--- each tree has one legal history
+-- each tree has one legal history, and what is admitted in it stays within its limit
 pub record IsHistory (limits : LimitsValue) (acts : List (List Act)) (lines : List (List Line))
     : Type 0 where
   pub trees : length lines ≡ tree_count limits
   pub legal : (tree : ℕ) (own : List Line) → slice_get lines tree ≡ Some own
       → IsLegal (fold_of limits tree) 0 (components_of (length acts)) own
       (map (events_of tree) acts)
+  pub within : (tree : ℕ) (own : List Line) → slice_get lines tree ≡ Some own
+      → IfSome (limit_of limits tree)
+      (λ limit. StaysWithin limit (length acts) own (map (events_of tree) acts))
 
 abbrev pub is_memory : End → Bool
 is_memory ending.Memory = true

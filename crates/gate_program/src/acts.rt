@@ -1,6 +1,6 @@
 //! What a session did, act by act. Sessions, trees, frames and places in bytes are counted from 0.
 
-/// How a session ended. A place is that of the first byte, in the session's file, that wasn't taken.
+/// How a session ended. A place is that of the first byte in the session's file that wasn't taken.
 #[derive(Clone, Copy, Debug, PartialEq, Eq)]
 pub enum End {
     /// The whole input was taken.
@@ -30,7 +30,7 @@ pub enum Act {
         index: u32,
         value: u64,
     },
-    /// A read of the tree's root, and its place in the tree's history: after how many lines it stands.
+    /// A read of the tree's root. Its place in the tree's history is after how many lines it stands.
     Read {
         tree: u32,
         stamp: u32,

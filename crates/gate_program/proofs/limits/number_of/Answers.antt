@@ -11,7 +11,8 @@ overflow_mul-value c =
 
 pub overflow_add-value : goal.overflow_add-value
 overflow_add-value c =
-    let next = next_digit c.args.digits.now c.loop-digit.digit-index c.loop-digit.value (omega arith)
+    let next = next_digit c.args.digits.now c.loop-digit.digit-index c.loop-digit.value
+    (omega arith)
     c.requires.digits c.loop-digit.invariant in
     let low = first_are_low c.args.digits.now (c.loop-digit.digit-index + 1) c.requires.digits
     c.requires.short in

@@ -1,0 +1,212 @@
+-- What each stage of a run leaves in its folder.
+use Rattle.std.specs.Prelude.{◌≡◌, ℕ, List, [], ◌∷◌, ◌++◌, length, Option, Some, None, IfSome, ◌⊎◌}
+use Rattle.std.specs.Prelude.{MatchOption, Bool, false, slice_get}
+use Rattle.std.specs.Str.{bytes_eq}
+use Rattle.fold_law.specs.Sum.{sum_of}
+use Rattle.fold_law.specs.Whole.{whole_of}
+use Rattle.gate_ports.specs.Faults.{NeverFalls}
+use Rattle.gate_ports.specs.Names.{Texts, with_text, IsThere, IsOpened, IsEmptySink, MeansName}
+use Rattle.risk_board.specs.declared.hand.Line.{Line}
+use Rattle.risk_board.specs.History.{events_of_calls}
+use Rattle.risk_board.specs.Plain.{BoardValue, IsLegalTree}
+use Rattle.gate_program.specs.declared.acts.Act.{Act}
+use Rattle.gate_program.specs.declared.acts.End.{End}
+use Rattle.gate_program.specs.declared.acts.End.TheVariants as ending
+use Rattle.gate_program.specs.declared.status.Status.{Status}
+use Rattle.gate_program.specs.declared.status.Status.TheVariants as status
+use Rattle.gate_program.specs.Session.{LimitsValue}
+use Rattle.gate_program.specs.Trees.{events_of, calls_of}
+use Rattle.gate_program.specs.JournalText.{journal_text}
+use Rattle.gate_program.specs.Words.{RunWords, venue_name, client_name, journal_name}
+use Rattle.gate_program.specs.Words.{output_names, is_among}
+use Rattle.gate_program.specs.Run.{PortsValue, ReadRose, WriteRose, OutputRose, session_name}
+use Rattle.gate_program.specs.Run.{standing_of}
+use Rattle.gate_program.specs.Follows.{IsByInput, FollowsSource}
+use Rattle.gate_program.specs.Gate.{AreLimits, HasJournal}
+
+-- a folder as clauses name it, beside a standard output that tells nothing
+abbrev pub folder_of : {D : Type 0} → (D → Option Texts) → (D → List ℕ → ℕ) → (D → List ℕ → ℕ) → D
+    → PortsValue
+folder_of texts read_faults write_faults folder = record {
+  texts = texts folder;
+  read_faults = read_faults folder;
+  write_faults = write_faults folder;
+  held = None;
+  out_faults = 0;
+}
+
+-- the names that were there are there
+abbrev pub KeepsNames : Option Texts → Option Texts → Type 0
+KeepsNames before after = (name : List ℕ) → IsThere before name → IsThere after name
+
+-- no count of faults fell, and no name went away
+pub record Went (before after : PortsValue) : Type 0 where
+  pub read : NeverFalls before.read_faults after.read_faults
+  pub written : NeverFalls before.write_faults after.write_faults
+  pub names : KeepsNames before.texts after.texts
+
+-- the name's text is these bytes, or goes on behind so many of them, where the folder tells it
+abbrev pub HasFront : Option Texts → List ℕ → ℕ → List ℕ → Type 0
+HasFront told name most bytes =
+    IfSome told (λ texts. (text : List ℕ) × (texts name ≡ Some text)
+    × ((text ≡ bytes) ⊎ ((length bytes ≡ most) × (rest : List ℕ) × (text ≡ bytes ++ rest))))
+
+-- the name's text is a limit file with these limits, where the folder tells it
+abbrev pub HasLimits : Option Texts → List ℕ → LimitsValue → Type 0
+HasLimits told name limits =
+    IfSome told (λ texts. (text : List ℕ) × (texts name ≡ Some text) × AreLimits text limits)
+
+-- the name's text is no limit file of this stage, where the folder tells it
+abbrev pub HasNoLimits : Option Texts → List ℕ → Type 0
+HasNoLimits told name =
+    IfSome told (λ texts. (text : List ℕ) × (texts name ≡ Some text)
+    × ((limits : LimitsValue) → AreLimits text limits → ⊥))
+
+-- why a name was not read
+abbrev pub IsUnread : PortsValue → PortsValue → List ℕ → Status → Type 0
+IsUnread before after name status.ReadFault = ReadRose before after name
+IsUnread before after name status.Memory = Unit {0}
+IsUnread before after name other = ⊥
+
+-- why there are no limits
+abbrev pub HasLimitsFault : PortsValue → PortsValue → List ℕ → Status → Type 0
+HasLimitsFault before after name status.ReadFault = ReadRose before after name
+HasLimitsFault before after name status.NotBuilt = HasNoLimits before.texts name
+HasLimitsFault before after name status.Memory = Unit {0}
+HasLimitsFault before after name other = ⊥
+
+-- why an output was not made
+abbrev pub IsUnmade : PortsValue → PortsValue → List ℕ → List ℕ → Status → Type 0
+IsUnmade before after venue client status.WriteFault =
+    WriteRose before after venue ⊎ WriteRose before after client
+IsUnmade before after venue client status.Memory = Unit {0}
+IsUnmade before after venue client other = ⊥
+
+-- why a session was not opened
+abbrev pub IsUnopened : PortsValue → PortsValue → List ℕ → List ℕ → List ℕ → Status → Type 0
+IsUnopened before after session venue client status.ReadFault = ReadRose before after session
+IsUnopened before after session venue client status.WriteFault =
+    WriteRose before after venue ⊎ WriteRose before after client
+IsUnopened before after session venue client status.Memory = Unit {0}
+IsUnopened before after session venue client other = ⊥
+
+-- the texts with two names set
+abbrev pub with_two : List ℕ → List ℕ → List ℕ → List ℕ → Texts → Texts
+with_two venue to_venue client to_client texts =
+    with_text client to_client (with_text venue to_venue texts)
+
+-- a new source over a name's text
+pub record IsNewSource (told : Option Texts) (name : List ℕ) (left own : Option (List ℕ))
+    (faults : ℕ)
+    : Type 0 where
+  pub opened : IsOpened told name left
+  pub means : MeansName own name
+  pub fresh : faults ≡ 0
+
+-- a new sink for a name
+pub record IsNewSink (told : Option Texts) (name : List ℕ) (held own : Option (List ℕ)) (faults : ℕ)
+    : Type 0 where
+  pub empty : IsEmptySink told held
+  pub means : MeansName own name
+  pub fresh : faults ≡ 0
+
+-- an object that a name may be given back for
+pub record IsOwn (told : Option Texts) (name : List ℕ) (own : Option (List ℕ)) : Type 0 where
+  pub means : MeansName own name
+  pub there : IsThere told name
+
+-- Two names have what their sinks held, and each other name its text, where the folder tells them. A
+-- folder that tells no texts tells none afterwards.
+abbrev pub AreClosed : Option Texts → Option Texts → List ℕ → List ℕ → Option (List ℕ)
+    → Option (List ℕ) → Type 0
+AreClosed before after venue client held_venue held_client =
+    MatchOption before (after ≡ None)
+    (λ texts. (to_venue : List ℕ) × (to_client : List ℕ)
+    × (after ≡ Some (with_two venue to_venue client to_client texts))
+    × IfSome held_venue (λ own. own ≡ to_venue) × IfSome held_client (λ own. own ≡ to_client))
+
+-- each other name has its text, where the folder tells it
+abbrev pub ChangesOnly : Option Texts → Option Texts → List ℕ → Type 0
+ChangesOnly before after name =
+    MatchOption before (after ≡ None)
+    (λ old. IfSome after (λ new. (other : List ℕ) → bytes_eq other name ≡ false
+    → new other ≡ old other))
+
+-- the names of the outputs of one session in a folder of outputs
+pub record AreOutputs (out venue client journal : List ℕ) : Type 0 where
+  pub venue_is : venue ≡ venue_name out 0
+  pub client_is : client ≡ client_name out 0
+  pub journal_is : journal ≡ journal_name out
+
+-- what the texts are when the outputs and the journal are written
+pub record HasTexts (run : RunWords) (old new : Texts) (held_venue held_client : Option (List ℕ))
+    : Type 0 where
+  pub to_venue : List ℕ
+  pub to_client : List ℕ
+  pub venue_holds : new (venue_name run.out 0) ≡ Some to_venue
+  pub client_holds : new (client_name run.out 0) ≡ Some to_client
+  pub venue_told : IfSome held_venue (λ own. own ≡ to_venue)
+  pub client_told : IfSome held_client (λ own. own ≡ to_client)
+  pub others : (name : List ℕ) → is_among name (output_names run.out 1) ≡ false
+      → new name ≡ old name
+
+-- the outputs and the journal are written, where the folder tells its texts
+abbrev pub AreWritten : RunWords → Option Texts → Option Texts → Option (List ℕ) → Option (List ℕ)
+    → Type 0
+AreWritten run before after held_venue held_client =
+    MatchOption before (after ≡ None)
+    (λ old. IfSome after (λ new. HasTexts run old new held_venue held_client))
+
+-- these lines are the board's, and with its calls one legal history
+pub record HasLines (board : BoardValue) (lines : List Line) : Type 0 where
+  pub lines_are : slice_get board.lines 0 ≡ Some lines
+  pub legal : IsLegalTree (whole_of sum_of 0) 0 board 0 lines
+
+-- the text is the journal of these acts and the board's lines
+pub record IsJournalOf (board : BoardValue) (acts : List Act) (text : List ℕ) : Type 0 where
+  pub lines : List Line
+  pub has_lines : HasLines board lines
+  pub spelled : text ≡ journal_text (acts ∷ []) (lines ∷ [])
+
+-- The journal was written or refused, no other text changed, and the status is by that and by the
+-- session's end.
+pub record HasStood (run : RunWords) (before after : PortsValue) (board : BoardValue)
+    (acts : List Act) (end : End) (status : ℕ) : Type 0 where
+  pub lines : List Line
+  pub refused : Bool
+  pub has_lines : HasLines board lines
+  pub journal : HasJournal before after run (acts ∷ []) (lines ∷ []) refused
+  pub others : ChangesOnly before.texts after.texts (journal_name run.out)
+  pub stands : status ≡ standing_of (end ∷ []) refused
+
+-- the outputs were closed too
+pub record HasFinished (run : RunWords) (before after : PortsValue) (board : BoardValue)
+    (acts : List Act) (end : End) (held_venue held_client : Option (List ℕ)) (status : ℕ)
+    : Type 0 where
+  pub lines : List Line
+  pub refused : Bool
+  pub has_lines : HasLines board lines
+  pub journal : HasJournal before after run (acts ∷ []) (lines ∷ []) refused
+  pub written : AreWritten run before.texts after.texts held_venue held_client
+  pub stands : status ≡ standing_of (end ∷ []) refused
+
+-- the board has the calls of these acts and one tree, and a read's place is its stamp
+pub record HasPlayed (board : BoardValue) (acts : List Act) : Type 0 where
+  pub calls : board.calls ≡ calls_of acts ∷ []
+  pub trees : length board.lines ≡ 1
+  pub events : events_of 0 acts ≡ events_of_calls (λ stamp. stamp) 0 (calls_of acts)
+
+-- a session that was opened ran on a board of its own, was closed, and stands in the journal
+pub record HasEnded (limits : LimitsValue) (run : RunWords) (before after : PortsValue)
+    (left held_venue held_client : Option (List ℕ)) (status : ℕ) : Type 0 where
+  pub board : BoardValue
+  pub acts : List Act
+  pub end : End
+  pub venue_after : Option (List ℕ)
+  pub client_after : Option (List ℕ)
+  pub played : HasPlayed board acts
+  pub follows : IsByInput end
+      → FollowsSource limits left acts end held_venue venue_after held_client client_after
+  pub read : end ≡ ending.ReadFault → ReadRose before after (session_name run 0)
+  pub write : end ≡ ending.WriteFault → OutputRose before after run 0
+  pub finished : HasFinished run before after board acts end venue_after client_after status

@@ -1,0 +1,157 @@
+//! What is read and opened before a session runs.
+ghost use Rattle.std.specs.Prelude.{◌≡◌, ◌+◌, [], IfOk, IfErr, string_bytes};
+ghost use Rattle.std.specs.Option.{option_map};
+ghost use Rattle.gate_program.specs.Gate.{default_quota};
+ghost use Rattle.gate_program.specs.LimitsOf.{limits_value};
+ghost use Rattle.gate_program.specs.Stages.{folder_of, Went, HasFront, HasLimits, HasLimitsFault};
+ghost use Rattle.gate_program.specs.Stages.{IsUnread, IsUnmade, IsUnopened, IsNewSource, IsNewSink};
+ghost use Rattle.gate_program.specs.Stages.{with_two};
+
+use crate::input::{FetchEnd, fetch_up_to};
+use crate::limits::{Limits, limits_from};
+use crate::status::Status;
+use crate::words::Outputs;
+use gate_ports::{Folder, PortFault};
+use std::alloc::Global;
+
+/// The most bytes of a limit file.
+const LIMIT_BYTES: usize = 1_048_576;
+
+/// Reads a name to its end, or to one byte more than a limit file may have.
+fn fetch_name<D: Folder>(alloc: Global, name: &str, folder: &mut D) -> Result<Vec<u8>, Status>
+    ensures went { Went (folder_of D.texts D.read_faults D.write_faults folder.old)
+        (folder_of D.texts D.read_faults D.write_faults folder.new) }
+    ensures texts { D.texts folder.new ≡ D.texts folder.old }
+    ensures ok { IfOk result (λ bytes.
+        HasFront (D.texts folder.old) name.now (LIMIT_BYTES + 1) bytes.items) }
+    ensures err { IfErr result (λ status.
+        IsUnread (folder_of D.texts D.read_faults D.write_faults folder.old)
+        (folder_of D.texts D.read_faults D.write_faults folder.new) name.now status) }
+{
+    let mut input = match folder.open(name) {
+        Ok(input) => input,
+        Err(PortFault::Failed) => return Err(Status::ReadFault),
+        Err(PortFault::Memory) => return Err(Status::Memory),
+    };
+    let fetched = fetch_up_to(alloc, &mut input, LIMIT_BYTES + 1);
+    folder.done(name, input);
+    match fetched.end {
+        FetchEnd::Whole => Ok(fetched.bytes),
+        FetchEnd::Failed => Err(Status::ReadFault),
+        FetchEnd::Memory => Err(Status::Memory),
+    }
+}
+
+/// Reads the limit file.
+pub(crate) fn read_limits<D: Folder>(
+    alloc: Global,
+    name: &str,
+    folder: &mut D,
+) -> Result<Limits, Status>
+    ensures went { Went (folder_of D.texts D.read_faults D.write_faults folder.old)
+        (folder_of D.texts D.read_faults D.write_faults folder.new) }
+    ensures texts { D.texts folder.new ≡ D.texts folder.old }
+    ensures ok { IfOk result (λ limits.
+        HasLimits (D.texts folder.old) name.now (limits_value limits)) }
+    ensures quota { IfOk result (λ limits. limits.quota ≡ default_quota) }
+    ensures err { IfErr result (λ status.
+        HasLimitsFault (folder_of D.texts D.read_faults D.write_faults folder.old)
+        (folder_of D.texts D.read_faults D.write_faults folder.new) name.now status) }
+{
+    let bytes = match fetch_name(alloc, name, folder) {
+        Ok(bytes) => bytes,
+        Err(status) => return Err(status),
+    };
+    match limits_from(&bytes) {
+        Some(limits) => Ok(limits),
+        None => Err(Status::NotBuilt),
+    }
+}
+
+/// The outputs of a session.
+#[derive(Drop)]
+pub(crate) struct Sinks<K> {
+    pub venue: K,
+    pub client: K,
+}
+
+/// Makes the two outputs of a session. Where the second can't be made the first is closed empty.
+fn create_outputs<D: Folder>(outputs: &Outputs, folder: &mut D) -> Result<Sinks<D::Out>, Status>
+    ensures went { Went (folder_of D.texts D.read_faults D.write_faults folder.old)
+        (folder_of D.texts D.read_faults D.write_faults folder.new) }
+    ensures texts { IfOk result (λ sinks. D.texts folder.new ≡ option_map
+        (with_two (string_bytes outputs.now.venue) [] (string_bytes outputs.now.client) [])
+        (D.texts folder.old)) }
+    ensures venue { IfOk result (λ sinks. IsNewSink (D.texts folder.old)
+        (string_bytes outputs.now.venue)
+        (D.Out.held sinks.venue) (D.Out.name sinks.venue) (D.Out.faults sinks.venue)) }
+    ensures client { IfOk result (λ sinks. IsNewSink (D.texts folder.old)
+        (string_bytes outputs.now.client)
+        (D.Out.held sinks.client) (D.Out.name sinks.client) (D.Out.faults sinks.client)) }
+    ensures err { IfErr result (λ status.
+        IsUnmade (folder_of D.texts D.read_faults D.write_faults folder.old)
+        (folder_of D.texts D.read_faults D.write_faults folder.new)
+        (string_bytes outputs.now.venue) (string_bytes outputs.now.client) status) }
+{
+    let venue_name = outputs.venue.as_str();
+    let venue = match folder.create(venue_name) {
+        Ok(venue) => venue,
+        Err(PortFault::Failed) => return Err(Status::WriteFault),
+        Err(PortFault::Memory) => return Err(Status::Memory),
+    };
+    match folder.create(outputs.client.as_str()) {
+        Ok(client) => Ok(Sinks { venue, client }),
+        Err(fault) => {
+            folder.close(venue_name, venue);
+            match fault {
+                PortFault::Failed => Err(Status::WriteFault),
+                PortFault::Memory => Err(Status::Memory),
+            }
+        }
+    }
+}
+
+/// A session's input and its outputs.
+#[derive(Drop)]
+pub(crate) struct Opened<S, K> {
+    pub input: S,
+    pub sinks: Sinks<K>,
+}
+
+/// Opens a session and makes its outputs. Where an output can't be made the input is given back.
+pub(crate) fn open_session<D: Folder>(
+    session: &str,
+    outputs: &Outputs,
+    folder: &mut D,
+) -> Result<Opened<D::In, D::Out>, Status>
+    ensures went { Went (folder_of D.texts D.read_faults D.write_faults folder.old)
+        (folder_of D.texts D.read_faults D.write_faults folder.new) }
+    ensures texts { IfOk result (λ opened. D.texts folder.new ≡ option_map
+        (with_two (string_bytes outputs.now.venue) [] (string_bytes outputs.now.client) [])
+        (D.texts folder.old)) }
+    ensures input { IfOk result (λ opened. IsNewSource (D.texts folder.old) session.now
+        (D.In.left opened.input) (D.In.name opened.input) (D.In.faults opened.input)) }
+    ensures venue { IfOk result (λ opened. let sink = opened.sinks.venue in
+        IsNewSink (D.texts folder.old) (string_bytes outputs.now.venue)
+        (D.Out.held sink) (D.Out.name sink) (D.Out.faults sink)) }
+    ensures client { IfOk result (λ opened. let sink = opened.sinks.client in
+        IsNewSink (D.texts folder.old) (string_bytes outputs.now.client)
+        (D.Out.held sink) (D.Out.name sink) (D.Out.faults sink)) }
+    ensures err { IfErr result (λ status.
+        IsUnopened (folder_of D.texts D.read_faults D.write_faults folder.old)
+        (folder_of D.texts D.read_faults D.write_faults folder.new) session.now
+        (string_bytes outputs.now.venue) (string_bytes outputs.now.client) status) }
+{
+    let input = match folder.open(session) {
+        Ok(input) => input,
+        Err(PortFault::Failed) => return Err(Status::ReadFault),
+        Err(PortFault::Memory) => return Err(Status::Memory),
+    };
+    match create_outputs(outputs, folder) {
+        Ok(sinks) => Ok(Opened { input, sinks }),
+        Err(status) => {
+            folder.done(session, input);
+            Err(status)
+        }
+    }
+}

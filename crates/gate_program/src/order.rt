@@ -1,0 +1,15 @@
+//! What is read of an order.
+ghost use Rattle.std.specs.Prelude.{◌≤◌};
+
+use fix_fields::Id;
+
+/// A limit order to buy: its ClOrdID (11), its OrderQty (38) in whole units and its Price (44) in
+/// ten-thousandths of a currency unit.
+#[derive(Clone, Copy, Debug)]
+pub(crate) struct Order {
+    pub id: Id,
+    pub quantity: u64,
+    pub price: u64,
+    ghost quantity_fits: { quantity ≤ 1000000000 },
+    ghost price_fits: { price ≤ 9999999999 },
+}

@@ -1,0 +1,93 @@
+//! A session over a plain board of its own.
+ghost use Rattle.std.specs.Prelude.{◌≡◌, ◌⊎◌, map};
+ghost use Rattle.gate_ports.specs.Faults.{Rose};
+ghost use Rattle.risk_board.specs.Plain.{empty_board};
+ghost use Rattle.gate_program.specs.Follows.{IsByInput, FollowsSource};
+ghost use Rattle.gate_program.specs.LimitsOf.{limits_value};
+ghost use Rattle.gate_program.specs.Trees.{placed};
+ghost use Rattle.gate_program.specs.Stages.{HasPlayed};
+
+use crate::acts::{Act, End};
+use crate::limits::Limits;
+use crate::open::{Opened, Sinks};
+use crate::placed::set_places;
+use crate::session::{SessionDone, run_session};
+use fold_law::Sum;
+use gate_ports::{Sink, Source};
+use risk_board::PlainBoard;
+use std::alloc::Global;
+
+/// What a session did, how it ended, and the board that it ran on.
+#[derive(Drop)]
+pub(crate) struct Ended {
+    pub acts: Vec<Act>,
+    pub end: End,
+    pub board: PlainBoard<Sum>,
+}
+
+/// A session that has run, with its objects.
+#[derive(Drop)]
+pub(crate) struct Played<S, K> {
+    pub ended: Ended,
+    pub opened: Opened<S, K>,
+}
+
+/// The acts with the place of each read by its stamp.
+fn with_places(acts: Vec<Act>) -> Vec<Act>
+    ensures { result.items ≡ map (placed (λ stamp. stamp)) acts.items }
+{
+    let mut acts = acts;
+    set_places(&mut acts);
+    acts
+}
+
+/// Runs a session over an empty board, and sets the place of each read to its stamp.
+pub(crate) fn play<S: Source, K: Sink>(
+    alloc: Global,
+    limits: &Limits,
+    board: PlainBoard<Sum>,
+    opened: Opened<S, K>,
+) -> Played<S, K>
+    requires { board ≡ empty_board 1 1 limits.now.quota }
+    ensures played { HasPlayed result.ended.board result.ended.acts.items }
+    ensures follows { IsByInput result.ended.end → FollowsSource (limits_value limits.now)
+        (S.left opened.input) result.ended.acts.items result.ended.end
+        (K.held opened.sinks.venue) (K.held result.opened.sinks.venue)
+        (K.held opened.sinks.client) (K.held result.opened.sinks.client) }
+
+    // A fault that ends the session is one of its own objects.
+    ensures read_fault { result.ended.end ≡ End.ReadFault
+        → Rose (S.faults opened.input) (S.faults result.opened.input) }
+    ensures write_fault { result.ended.end ≡ End.WriteFault
+        → Rose (K.faults opened.sinks.venue) (K.faults result.opened.sinks.venue)
+        ⊎ Rose (K.faults opened.sinks.client) (K.faults result.opened.sinks.client) }
+
+    // The objects are those that were opened.
+    ensures input_name { S.name result.opened.input ≡ S.name opened.input }
+    ensures venue_name { K.name result.opened.sinks.venue ≡ K.name opened.sinks.venue }
+    ensures client_name { K.name result.opened.sinks.client ≡ K.name opened.sinks.client }
+{
+    let Opened { input, sinks } = opened;
+    let Sinks { venue, client } = sinks;
+    let hand = board.hand(0);
+    let done = run_session(alloc, limits, hand, input, venue, client);
+    let SessionDone {
+        hand,
+        acts,
+        end,
+        source,
+        venue,
+        client,
+    } = done;
+    Played {
+        ended: Ended {
+            acts: with_places(acts),
+            end,
+            board: hand.give_back(),
+        },
+        opened: Opened {
+            input: source,
+            sinks: Sinks { venue, client },
+        },
+    }
+}

@@ -1,0 +1,73 @@
+//! How a call of the gate ends.
+ghost use Rattle.std.specs.Prelude.{◌≡◌, ◌∷◌, [], ◌≢◌, Bool};
+ghost use Rattle.gate_program.specs.Run.{standing_of};
+ghost use Rattle.gate_program.specs.Statuses.{number_of, told_text};
+
+use crate::acts::End;
+
+/// How a call of the gate ends.
+#[derive(Clone, Copy, Debug, PartialEq, Eq)]
+pub(crate) enum Status {
+    /// All was read and all was written.
+    Done,
+    /// The words are no form.
+    Usage,
+    /// A session's input ends within a frame, or what stands there is no frame, or one too long.
+    CutShort,
+    /// A read failed.
+    ReadFault,
+    /// A write failed.
+    WriteFault,
+    /// Memory was wanting.
+    Memory,
+    /// The limit file or a session has a form that isn't built yet.
+    NotBuilt,
+}
+
+impl Status {
+    /// The exit status of the program.
+    pub(crate) fn number(self) -> u8
+        ensures { result ≡ number_of self }
+    {
+        match self {
+            Status::Done => 0,
+            Status::Usage => 2,
+            Status::CutShort => 4,
+            Status::ReadFault => 5,
+            Status::WriteFault => 6,
+            Status::Memory => 8,
+            Status::NotBuilt => 9,
+        }
+    }
+
+    /// What standard output is given.
+    pub(crate) fn text(self) -> &'static [u8]
+        ensures { result.now ≡ told_text self }
+    {
+        match self {
+            Status::Done => b"status 0\n",
+            Status::Usage => b"usage: gate run LIMITS OUT SESSION\n",
+            Status::ReadFault => b"read fault\n",
+            Status::WriteFault => b"write fault\n",
+            Status::CutShort => b"status 4\n",
+            Status::NotBuilt => b"not built\n",
+            Status::Memory => b"",
+        }
+    }
+}
+
+/// The status after a session with this end. `refused` says whether the journal could not be
+/// written.
+pub(crate) fn standing(end: End, refused: bool) -> Status
+    ensures { number_of result ≡ standing_of (end ∷ []) refused }
+{
+    match end {
+        End::Memory => Status::Memory,
+        _ if refused => Status::WriteFault,
+        End::WriteFault => Status::WriteFault,
+        End::ReadFault => Status::ReadFault,
+        End::NotBuilt(_) => Status::NotBuilt,
+        End::Cut(_) | End::Broken(_) | End::TooLong(_) => Status::CutShort,
+        End::Whole => Status::Done,
+    }
+}
