@@ -1,0 +1,55 @@
+-- The definitions at a few rows.
+use Rattle.std.proofs.Common.{◌≡◌, List, ℕ, [], ◌∷◌, refl, Ok, Err, codes, None}
+use Rattle.csv.specs.Records.{field_at}
+use Rattle.limit_table.specs.Entries.{entry_of}
+use Rattle.limit_table.specs.Faults.{row_after}
+use Rattle.limit_table.specs.Tables.{limits_of, quota_of}
+use Rattle.limit_table.specs.declared.kind.Entry.TheVariants as entry
+use Rattle.limit_table.specs.declared.kind.Cause.TheVariants as cause
+
+-- firm,,1000,,,
+firm_row : List (List ℕ)
+firm_row = codes "firm" ∷ [] ∷ codes "1000" ∷ [] ∷ [] ∷ [] ∷ []
+
+-- symbol,XYZ,100000,1,12,100000
+symbol_row : List (List ℕ)
+symbol_row =
+    codes "symbol" ∷ codes "XYZ" ∷ codes "100000" ∷ codes "1" ∷ codes "12" ∷ codes "100000" ∷ []
+
+-- symbol,XYZ,100000,2,1.5,100000
+crossed_row : List (List ℕ)
+crossed_row =
+    codes "symbol" ∷ codes "XYZ" ∷ codes "100000" ∷ codes "2" ∷ codes "1.5" ∷ codes "100000" ∷ []
+
+-- the row of a firm sets its limit
+a_firm : entry_of firm_row ≡ Ok (entry.Firm 1000)
+unfolding firm_row field_at
+a_firm = refl
+
+-- the row of a symbol sets its limit, its prices in ten-thousandths and its size
+a_symbol : entry_of symbol_row ≡ Ok (entry.Symbol (record {
+  name = codes "XYZ";
+  limit = 100000;
+  low = 10000;
+  high = 120000;
+  size = 100000;
+}))
+unfolding symbol_row field_at
+a_symbol = refl
+
+-- a second row of the firm is a repeated one
+two_firms : row_after (entry.Firm 5 ∷ []) firm_row ≡ Err cause.Repeated
+unfolding firm_row field_at
+two_firms = refl
+
+-- a lowest price above the highest is told where nothing else is wrong
+crossed : row_after (entry.Firm 5 ∷ []) crossed_row ≡ Err cause.Band
+unfolding crossed_row field_at
+crossed = refl
+
+-- no row sets a limit of the firm, and none sets the quota
+no_rows : limits_of [] ≡ None
+no_rows = refl
+
+no_quota : quota_of [] ≡ 50000
+no_quota = refl

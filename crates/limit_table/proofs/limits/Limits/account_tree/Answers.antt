@@ -1,0 +1,7 @@
+use Rattle.std.proofs.Common.{arith}
+use Rattle.limit_table.proofs.Held.{held_accounts}
+use Rattle.limit_table.proofs.limits.Limits.account_tree.Goals as goal
+
+pub overflow_add-result : goal.overflow_add-result
+overflow_add-result c =
+    omega (arith, held_accounts c.args.self.now c.requires.held, c.requires.in_range)

@@ -1,0 +1,72 @@
+-- What one row sets, or what is wrong with it by itself.
+use Rattle.std.specs.Prelude.{ℕ, List, length, Option, Some, None, not, Result, Ok, Err}
+use Rattle.std.specs.Prelude.{◌==◌, if◌then◌else◌}
+use Rattle.limit_table.specs.Columns.{Texts, columns_of, are_blank, number_in, price_in, name_in}
+use Rattle.limit_table.specs.Kinds.{kind_named}
+use Rattle.limit_table.specs.declared.kind.Kind.{Kind}
+use Rattle.limit_table.specs.declared.kind.Kind.TheVariants as kind
+use Rattle.limit_table.specs.declared.kind.Entry.{Entry}
+use Rattle.limit_table.specs.declared.kind.Entry.TheVariants as entry
+use Rattle.limit_table.specs.declared.kind.Cause.{Cause}
+use Rattle.limit_table.specs.declared.kind.Cause.TheVariants as cause
+
+infixl 10 ◌>>=◌
+-- the first fault, or what comes of the value
+abbrev pub ◌>>=◌ : {A B : Type 0} → Result A Cause → (A → Result B Cause) → Result B Cause
+(Ok x) >>= f = f x
+(Err e) >>= f = Err e
+
+-- the largest limit in currency units
+abbrev pub amount_most : ℕ
+amount_most = 999999999999
+
+-- the columns of an account
+abbrev pub account_in : Texts → Result Entry Cause
+account_in row = do
+  limit ← number_in 0 amount_most row.limit
+  name ← name_in row.name
+  Ok (entry.Account (record { name = name; limit = limit }))
+
+-- the columns of a symbol
+abbrev pub symbol_in : Texts → Result Entry Cause
+symbol_in row = do
+  limit ← number_in 0 amount_most row.limit
+  low ← price_in row.low
+  high ← price_in row.high
+  size ← number_in 1 1000000000 row.size
+  name ← name_in row.name
+  Ok (entry.Symbol (record { name = name; limit = limit; low = low; high = high; size = size }))
+
+-- the columns of a screen that is dropped
+abbrev pub off_in : Texts → Result Entry Cause
+off_in row = do
+  from ← number_in 0 1000000000 row.limit
+  name ← name_in row.name
+  Ok (entry.Off (record { name = name; from = from }))
+
+-- one number by itself
+abbrev pub count_in : ℕ → ℕ → (ℕ → Entry) → Texts → Result Entry Cause
+count_in least most make row = do
+  count ← number_in least most row.limit
+  Ok (make count)
+
+-- the columns of a row of this kind
+abbrev pub entry_by : Kind → Texts → Result Entry Cause
+entry_by kind.Firm row = count_in 0 amount_most (λ limit. entry.Firm limit) row
+entry_by kind.Account row = account_in row
+entry_by kind.Symbol row = symbol_in row
+entry_by kind.Trip row = count_in 1 1000000 (λ count. entry.Trip count) row
+entry_by kind.Quota row = count_in 1 200000 (λ count. entry.Quota count) row
+entry_by kind.Repeat row = count_in 0 64 (λ count. entry.Repeat count) row
+entry_by kind.Off row = off_in row
+
+-- the columns of a row whose first column names this kind
+abbrev pub entry_named : Option Kind → Texts → Result Entry Cause
+entry_named None row = Err cause.Kind
+entry_named (Some k) row = if not (are_blank k row) then Err cause.RowShape else entry_by k row
+
+-- what a row sets, or the first thing that is wrong with it by itself
+abbrev pub entry_of : List (List ℕ) → Result Entry Cause
+entry_of fields =
+    if not (length fields == 6) then Err cause.RowShape
+    else entry_named (kind_named (columns_of fields).kind) (columns_of fields)
