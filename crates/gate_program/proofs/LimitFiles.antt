@@ -5,7 +5,8 @@ use Rattle.std.specs.Prelude.{Option, Some, None}
 use Rattle.gate_ports.specs.Names.{Texts}
 use Rattle.gate_program.specs.Session.{LimitsValue}
 use Rattle.gate_program.specs.Gate.{AreLimits}
-use Rattle.gate_program.specs.Stages.{HasFront, HasNoLimits}
+use Rattle.gate_program.specs.Stages.{HasFront}
+use Rattle.gate_program.specs.Gate.{HasNoLimits}
 
 length_of_row : (digits : List ℕ)
     → length (codes "firm,," ++ digits ++ codes ",,," ++ 10 ∷ []) ≡ length digits + 10

@@ -26,7 +26,10 @@ use Rattle.gate_program.specs.Words.{output_names}
 use Rattle.gate_program.specs.Run.{PortsValue, ReadRose, OutputRose, EndHolds}
 use Rattle.gate_program.specs.Run.{FollowsText, IsHistory, session_name}
 use Rattle.gate_program.specs.Gate.{HasRun, HasJournal, AreInputs}
-use Rattle.gate_program.specs.Stages.{Went, HasLimits, IsNewSource, AreWritten, HasLines}
+use Rattle.gate_program.specs.Gate.{HasLimits}
+use Rattle.gate_program.specs.Run.{is_memory}
+use Rattle.std.specs.List.{list_any}
+use Rattle.gate_program.specs.Stages.{Went, IsNewSource, AreWritten, HasLines}
 use Rattle.gate_program.specs.Stages.{HasPlayed, HasEnded, with_two}
 use Rattle.gate_program.proofs.Chains.{rose_from}
 
@@ -222,10 +225,11 @@ pub has_run : (limit_name out session : List ℕ) (limits : LimitsValue)
     (with_two (venue_name out 0) [] (client_name out 0) []) start.texts
     → IsNewSource start.texts session left own faults → IsEmptySink start.texts held_venue
     → IsEmptySink start.texts held_client
-    → HasEnded limits run opened after left held_venue held_client status
+    → (ended : HasEnded limits run opened after left held_venue held_client status)
+    → list_any is_memory (ended.end ∷ []) ≡ false
     → HasRun run start after status)
 has_run limit_name out session limits start opened after status left own hv hc faults
-    untold limits_are went made source venue client ended =
+    untold limits_are went made source venue client ended remembered =
     let run : RunWords = one_run limit_name out session in
     let va = ended.venue_after in
     let ca = ended.client_after in
@@ -241,6 +245,7 @@ has_run limit_name out session limits start opened after status left own hv hc f
       lines = ended.finished.lines ∷ [];
       refused = ended.finished.refused;
       limits_are = limits_are;
+      remembered = remembered;
       inputs_are = are_inputs start.texts session left own faults source;
       input_count = refl;
       act_count = refl;

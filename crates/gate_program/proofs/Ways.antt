@@ -1,5 +1,5 @@
 -- The ways of a run, as its stages come one behind another.
-use Rattle.std.proofs.Common.{◌≡◌, ◌≢◌, ℕ, List, [], refl, sym, subst}
+use Rattle.std.proofs.Common.{◌∷◌, ◌≡◌, ◌≢◌, ℕ, List, [], refl, sym, subst}
 use Rattle.std.proofs.Common.{◌∙◌, inl, inr, arith, Bool, true, false}
 use Rattle.std.specs.Prelude.{Option, None, ◌⊎◌}
 use Rattle.gate_ports.specs.Faults.{Rose, NeverFalls}
@@ -18,7 +18,10 @@ use Rattle.gate_program.specs.Run.{PortsValue, EndHolds, ReadRose, WriteRose, st
 use Rattle.gate_program.specs.Gate.{RunWent, HasJournal, IsTold, text_after, read_fault_text}
 use Rattle.gate_program.specs.Gate.{write_fault_text, not_built_text}
 use Rattle.gate_program.specs.Follows.{IsByInput, FollowsSource}
-use Rattle.gate_program.specs.Stages.{Went, IsUnopened, HasLimitsFault, HasLimits, AreOutputs}
+use Rattle.gate_program.specs.Stages.{Went, IsUnopened, HasLimitsFault, AreOutputs}
+use Rattle.gate_program.specs.Gate.{HasLimits}
+use Rattle.gate_program.specs.Run.{is_memory}
+use Rattle.std.specs.List.{list_any}
 use Rattle.gate_program.specs.Stages.{HasPlayed, HasFinished, HasEnded, IsNewSource, IsNewSink}
 use Rattle.gate_program.specs.Stages.{with_two}
 use Rattle.gate_program.specs.Statuses.{number_of, told_text}
@@ -39,31 +42,36 @@ beside texts reads writes held faults = record {
 -- the session or its outputs could not be opened
 pub unopened : (limit_name out session : List ℕ) (t0 : Option Texts) (r0 w0 : List ℕ → ℕ)
     (t1 : Option Texts) (r1 w1 : List ℕ → ℕ)
-    (s : Status) → IsUnopened (silent t0 r0 w0) (silent t1 r1 w1) session (venue_name out 0)
+    (limits : LimitsValue) (s : Status) → HasLimits t0 limit_name limits
+    → IsUnopened (silent t0 r0 w0) (silent t1 r1 w1) session (venue_name out 0)
     (client_name out 0) s
     → (number_of s ≡ 8) ⊎ RunWent (one_run limit_name out session) (silent t0 r0 w0)
     (silent t1 r1 w1) (number_of s)
-unopened l o n t0 r0 w0 t1 r1 w1 status.ReadFault rose =
+unopened l o n t0 r0 w0 t1 r1 w1 limits status.ReadFault limits_are rose =
     inr (inr (inr (inl (record {
+      limits = limits;
+      limits_are = limits_are;
       session = 0;
       in_range = omega arith;
       rose = rose;
       told =
           inl (refl, tt);
     }))))
-unopened l o n t0 r0 w0 t1 r1 w1 status.WriteFault rose =
+unopened l o n t0 r0 w0 t1 r1 w1 limits status.WriteFault limits_are rose =
     inr (inr (inr (inr (inl (record {
+      limits = limits;
+      limits_are = limits_are;
       session = 0;
       in_range = omega arith;
       rose = rose;
       told =
           inl (refl, tt);
     })))))
-unopened l o n t0 r0 w0 t1 r1 w1 status.Memory fault = inl refl
-unopened l o n t0 r0 w0 t1 r1 w1 status.Done fault = absurd fault
-unopened l o n t0 r0 w0 t1 r1 w1 status.Usage fault = absurd fault
-unopened l o n t0 r0 w0 t1 r1 w1 status.CutShort fault = absurd fault
-unopened l o n t0 r0 w0 t1 r1 w1 status.NotBuilt fault = absurd fault
+unopened l o n t0 r0 w0 t1 r1 w1 limits status.Memory limits_are fault = inl refl
+unopened l o n t0 r0 w0 t1 r1 w1 limits status.Done limits_are fault = absurd fault
+unopened l o n t0 r0 w0 t1 r1 w1 limits status.Usage limits_are fault = absurd fault
+unopened l o n t0 r0 w0 t1 r1 w1 limits status.CutShort limits_are fault = absurd fault
+unopened l o n t0 r0 w0 t1 r1 w1 limits status.NotBuilt limits_are fault = absurd fault
 
 -- there are no limits
 pub no_limits_went : (run : RunWords) (t0 : Option Texts) (r0 w0 : List ℕ → ℕ) (t1 : Option Texts)
@@ -106,12 +114,16 @@ module _ (run : RunWords) (t : Option Texts) (r0 w0 r1 w1 : List ℕ → ℕ) (t
   went_earlier n (inr (inl h)) =
       inr (inl (record { other = h.other; texts = h.texts; told = h.told }))
   went_earlier n (inr (inr (inl h))) = inr (inr (inl (record {
+    limits = h.limits;
+    limits_are = h.limits_are;
     session = h.session;
     in_range = h.in_range;
     rose = rose_from _ _ _ (reads _) h.rose;
     told = h.told;
   })))
   went_earlier n (inr (inr (inr (inl h)))) = inr (inr (inr (inl (record {
+    limits = h.limits;
+    limits_are = h.limits_are;
     session = h.session;
     in_range = h.in_range;
     rose = elim h.rose [
@@ -129,6 +141,7 @@ module _ (run : RunWords) (t : Option Texts) (r0 w0 r1 w1 : List ℕ → ℕ) (t
     lines = h.lines;
     refused = h.refused;
     limits_are = h.limits_are;
+    remembered = h.remembered;
     inputs_are = h.inputs_are;
     input_count = h.input_count;
     act_count = h.act_count;
@@ -209,12 +222,16 @@ module _ (run : RunWords) (t0 : Option Texts) (r0 w0 : List ℕ → ℕ) (t1 : O
     told = told_at s 9 answer (stands not_built_text 9 _ h.told) (λ is. omega arith) memory told;
   }))
   went_told s answer memory (inr (inr (inl h))) told = inr (inr (inl (record {
+    limits = h.limits;
+    limits_are = h.limits_are;
     session = h.session;
     in_range = h.in_range;
     rose = h.rose;
     told = told_at s 5 answer (stands read_fault_text 5 _ h.told) (λ is. omega arith) memory told;
   })))
   went_told s answer memory (inr (inr (inr (inl h)))) told = inr (inr (inr (inl (record {
+    limits = h.limits;
+    limits_are = h.limits_are;
     session = h.session;
     in_range = h.in_range;
     rose = h.rose;
@@ -228,6 +245,7 @@ module _ (run : RunWords) (t0 : Option Texts) (r0 w0 : List ℕ → ℕ) (t1 : O
     lines = h.lines;
     refused = h.refused;
     limits_are = h.limits_are;
+    remembered = h.remembered;
     inputs_are = h.inputs_are;
     input_count = h.input_count;
     act_count = h.act_count;
@@ -297,6 +315,19 @@ has_ended limit_name out session limits before after board acts end status left 
       finished = finished;
     })
 
+-- a session that wanted memory stands at 8, and any other did what its run says
+memory_or_run : {R : Type 0} (end : End) (refused : Bool) (status : ℕ)
+    → status ≡ standing_of (end ∷ []) refused
+    → (list_any is_memory (end ∷ []) ≡ false → R) → (status ≡ 8) ⊎ R
+memory_or_run ending.Memory refused status stands run = inl stands
+memory_or_run ending.Whole refused status stands run = inr (run refl)
+memory_or_run (ending.Cut place) refused status stands run = inr (run refl)
+memory_or_run (ending.Broken place) refused status stands run = inr (run refl)
+memory_or_run (ending.TooLong place) refused status stands run = inr (run refl)
+memory_or_run ending.ReadFault refused status stands run = inr (run refl)
+memory_or_run ending.WriteFault refused status stands run = inr (run refl)
+memory_or_run (ending.NotBuilt place) refused status stands run = inr (run refl)
+
 -- a session was opened behind the limits, and ended
 pub ended_went : (limit_name out session : List ℕ) (limits : LimitsValue) (t0 : Option Texts)
     (r0 w0 : List ℕ → ℕ)
@@ -315,24 +346,27 @@ ended_went limit_name out session limits t0 r0 w0 opened t2 r2 w2 status left ow
 ended_went limit_name out session limits t0 r0 w0 opened t2 r2 w2 status left own hv vn hc cn f v c
     venue client journal
     names limits_are went made source to_venue to_client (inr ended) =
-    inr (inr (inr (inr (inr (has_run limit_name out session limits (silent t0 r0 w0) opened
+    memory_or_run ended.end ended.finished.refused status ended.finished.stands
+    (λ remembered. inr (inr (inr (inr (has_run limit_name out session limits (silent t0 r0 w0) opened
     (silent t2 r2 w2) status left own hv hc f
     refl limits_are went
     (subst (λ (n : List ℕ). opened.texts ≡ option_map (with_two n [] (client_name out 0) []) t0)
     names.venue_is
     (subst (λ (n : List ℕ). opened.texts ≡ option_map (with_two venue [] n []) t0) names.client_is
     made))
-    source to_venue.empty to_client.empty ended)))))
+    source to_venue.empty to_client.empty ended remembered)))))
 
 -- the session or its outputs could not be opened, by the names that they have
 pub unopened_named : (limit_name out session : List ℕ) (t0 : Option Texts) (r0 w0 : List ℕ → ℕ)
     (t1 : Option Texts) (r1 w1 : List ℕ → ℕ)
-    (s : Status) (venue client journal : List ℕ) → AreOutputs out venue client journal
+    (limits : LimitsValue) (s : Status) (venue client journal : List ℕ)
+    → HasLimits t0 limit_name limits → AreOutputs out venue client journal
     → IsUnopened (silent t0 r0 w0) (silent t1 r1 w1) session venue client s
     → (number_of s ≡ 8) ⊎ RunWent (one_run limit_name out session) (silent t0 r0 w0)
     (silent t1 r1 w1) (number_of s)
-unopened_named limit_name out session t0 r0 w0 t1 r1 w1 s venue client journal names fault =
-    unopened limit_name out session t0 r0 w0 t1 r1 w1 s
+unopened_named limit_name out session t0 r0 w0 t1 r1 w1 limits s venue client journal limits_are
+    names fault =
+    unopened limit_name out session t0 r0 w0 t1 r1 w1 limits s limits_are
     (subst (λ (n : List ℕ). IsUnopened (silent t0 r0 w0) (silent t1 r1 w1) session n
     (client_name out 0) s) names.venue_is
     (subst (λ (n : List ℕ). IsUnopened (silent t0 r0 w0) (silent t1 r1 w1) session venue n s)

@@ -1,7 +1,7 @@
 -- What a call of the gate did, by how far it came.
 use Rattle.std.specs.Prelude.{◌≡◌, ℕ, ◌<◌, ◌≤◌, ◌==◌, List, [], ◌∷◌, ◌++◌, length, map, slice_get, Option}
 use Rattle.std.specs.Prelude.{Some, None, IfSome, IsTrue, Bool, true, false, codes, ◌⊎◌, if◌then◌else◌}
-use Rattle.std.specs.List.{list_all}
+use Rattle.std.specs.List.{list_all, list_any}
 use Rattle.std.specs.Char.{is_ascii_digit}
 use Rattle.std.specs.Str.Parse.{digits_value}
 use Rattle.std.specs.Io.KnownBytes.{Appends}
@@ -17,7 +17,7 @@ use Rattle.gate_program.specs.Words.{RunWords, Command, command_of, output_names
 use Rattle.gate_program.specs.Words.{is_among}
 use Rattle.gate_program.specs.Words.Command.{Run}
 use Rattle.gate_program.specs.Run.{PortsValue, Holds, ReadRose, WriteRose, OutputRose, session_name}
-use Rattle.gate_program.specs.Run.{EndHolds, IsHistory, standing_of}
+use Rattle.gate_program.specs.Run.{EndHolds, IsHistory, standing_of, is_memory}
 
 -- a folder and standard output as clauses name them
 abbrev pub ports_of : {D O : Type 0} → (D → Option Texts) → (D → List ℕ → ℕ) → (D → List ℕ → ℕ)
@@ -67,6 +67,17 @@ pub record AreLimits (text : List ℕ) (limits : LimitsValue) : Type 0 where
   pub firm : limits.firm ≡ digits_value 10 digits
   pub quota : limits.quota ≡ default_quota
 
+-- the name's text is a limit file with these limits, where the folder tells it
+abbrev pub HasLimits : Option Texts → List ℕ → LimitsValue → Type 0
+HasLimits told name limits =
+    IfSome told (λ texts. (text : List ℕ) × (texts name ≡ Some text) × AreLimits text limits)
+
+-- the name's text is no limit file of this stage, where the folder tells it
+abbrev pub HasNoLimits : Option Texts → List ℕ → Type 0
+HasNoLimits told name =
+    IfSome told (λ texts. (text : List ℕ) × (texts name ≡ Some text)
+    × ((limits : LimitsValue) → AreLimits text limits → ⊥))
+
 -- The words are no form.
 pub record HasNoForm (words : List (List ℕ)) (before after : PortsValue) (status : ℕ) : Type 0 where
   pub no_form : command_of words ≡ None
@@ -81,20 +92,23 @@ pub record HasUnreadLimits (run : RunWords) (before after : PortsValue) (status 
 
 -- The limit file isn't of this stage.
 pub record HasOtherLimits (run : RunWords) (before after : PortsValue) (status : ℕ) : Type 0 where
-  pub other : IfSome before.texts (λ texts. (text : List ℕ) × (texts run.limits ≡ Some text)
-      × ((limits : LimitsValue) → AreLimits text limits → ⊥))
+  pub other : HasNoLimits before.texts run.limits
   pub texts : after.texts ≡ before.texts
   pub told : Tells before after not_built_text 9 status
 
--- A session's name could not be opened.
+-- A session's name could not be opened, behind a limit file of this stage.
 pub record HasUnopenedSession (run : RunWords) (before after : PortsValue) (status : ℕ) : Type 0 where
+  pub limits : LimitsValue
+  pub limits_are : HasLimits before.texts run.limits limits
   pub session : ℕ
   pub in_range : session < length run.sessions
   pub rose : ReadRose before after (session_name run session)
   pub told : Tells before after read_fault_text 5 status
 
--- An output of a session could not be created.
+-- An output of a session could not be created, behind a limit file of this stage.
 pub record HasRefusedOutput (run : RunWords) (before after : PortsValue) (status : ℕ) : Type 0 where
+  pub limits : LimitsValue
+  pub limits_are : HasLimits before.texts run.limits limits
   pub session : ℕ
   pub in_range : session < length run.sessions
   pub rose : OutputRose before after run session
@@ -136,8 +150,9 @@ pub record HasRun (run : RunWords) (before after : PortsValue) (status : ℕ) : 
   pub lines : List (List Line)
   -- whether the journal could not be written
   pub refused : Bool
-  pub limits_are : IfSome before.texts (λ texts. (text : List ℕ) × (texts run.limits ≡ Some text)
-      × AreLimits text limits)
+  pub limits_are : HasLimits before.texts run.limits limits
+  -- a session that wanted memory gives 8, which stands by itself
+  pub remembered : list_any is_memory ends ≡ false
   pub inputs_are : AreInputs before.texts run.sessions inputs
   pub input_count : length inputs ≡ length run.sessions
   pub act_count : length acts ≡ length run.sessions

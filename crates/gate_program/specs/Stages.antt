@@ -22,7 +22,7 @@ use Rattle.gate_program.specs.Words.{output_names, is_among}
 use Rattle.gate_program.specs.Run.{PortsValue, ReadRose, WriteRose, OutputRose, session_name}
 use Rattle.gate_program.specs.Run.{standing_of}
 use Rattle.gate_program.specs.Follows.{IsByInput, FollowsSource}
-use Rattle.gate_program.specs.Gate.{AreLimits, HasJournal}
+use Rattle.gate_program.specs.Gate.{HasNoLimits, HasJournal}
 
 -- a folder as clauses name it, beside a standard output that tells nothing
 abbrev pub folder_of : {D : Type 0} → (D → Option Texts) → (D → List ℕ → ℕ) → (D → List ℕ → ℕ) → D
@@ -50,17 +50,6 @@ abbrev pub HasFront : Option Texts → List ℕ → ℕ → List ℕ → Type 0
 HasFront told name most bytes =
     IfSome told (λ texts. (text : List ℕ) × (texts name ≡ Some text)
     × ((text ≡ bytes) ⊎ ((length bytes ≡ most) × (rest : List ℕ) × (text ≡ bytes ++ rest))))
-
--- the name's text is a limit file with these limits, where the folder tells it
-abbrev pub HasLimits : Option Texts → List ℕ → LimitsValue → Type 0
-HasLimits told name limits =
-    IfSome told (λ texts. (text : List ℕ) × (texts name ≡ Some text) × AreLimits text limits)
-
--- the name's text is no limit file of this stage, where the folder tells it
-abbrev pub HasNoLimits : Option Texts → List ℕ → Type 0
-HasNoLimits told name =
-    IfSome told (λ texts. (text : List ℕ) × (texts name ≡ Some text)
-    × ((limits : LimitsValue) → AreLimits text limits → ⊥))
 
 -- why a name was not read
 abbrev pub IsUnread : PortsValue → PortsValue → List ℕ → Status → Type 0

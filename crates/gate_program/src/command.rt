@@ -2,8 +2,8 @@
 ghost use Rattle.std.specs.Prelude.{◌≡◌, ◌⊎◌, map, string_bytes};
 ghost use Rattle.gate_program.specs.CommandOf.{run_value};
 ghost use Rattle.gate_program.specs.LimitsOf.{limits_value};
-ghost use Rattle.gate_program.specs.Gate.{GateRun, RunWent, ports_of, default_quota};
-ghost use Rattle.gate_program.specs.Stages.{folder_of, HasLimits, AreOutputs, IsOwn, HasEnded};
+ghost use Rattle.gate_program.specs.Gate.{HasLimits, GateRun, RunWent, ports_of, default_quota};
+ghost use Rattle.gate_program.specs.Stages.{folder_of, AreOutputs, IsOwn, HasEnded};
 ghost use Rattle.gate_program.specs.Statuses.{number_of};
 
 use crate::close::{close_session, finish};

@@ -3,7 +3,8 @@ ghost use Rattle.std.specs.Prelude.{◌≡◌, ◌+◌, [], IfOk, IfErr, string_
 ghost use Rattle.std.specs.Option.{option_map};
 ghost use Rattle.gate_program.specs.Gate.{default_quota};
 ghost use Rattle.gate_program.specs.LimitsOf.{limits_value};
-ghost use Rattle.gate_program.specs.Stages.{folder_of, Went, HasFront, HasLimits, HasLimitsFault};
+ghost use Rattle.gate_program.specs.Stages.{folder_of, Went, HasFront, HasLimitsFault};
+ghost use Rattle.gate_program.specs.Gate.{HasLimits};
 ghost use Rattle.gate_program.specs.Stages.{IsUnread, IsUnmade, IsUnopened, IsNewSource, IsNewSink};
 ghost use Rattle.gate_program.specs.Stages.{with_two};
 

@@ -38,8 +38,8 @@ returns-in-Ok-open_session g c =
 
 pub returns : goal.returns
 returns g c = unopened_named c.args.run.now.limits.now c.args.run.now.out.now
-    c.args.run.now.session.now _ _ _ _ _ _ c.in-Err-open_session.status
-    _ _ _ (record {
+    c.args.run.now.session.now _ _ _ _ _ _ (limits_value c.args.limits.now)
+    c.in-Err-open_session.status _ _ _ c.requires.limits (record {
       venue_is = c.in-Ok.ensures.venue;
       client_is = c.in-Ok.ensures.client;
       journal_is = c.in-Ok.ensures.journal;
