@@ -10,3 +10,4 @@ pub mod Sound
 pub mod Found
 pub mod HandCalls
 pub mod Held
+pub mod HandLines

@@ -1,10 +1,11 @@
 -- A plain board: the lines of each tree and the calls of each session, a read's stamp being the number
 -- of lines that it saw.
-use Rattle.std.specs.Prelude.{◌≡◌, ◌≢◌, ℕ, List, [], length, map, replicate, slice_get}
-use Rattle.std.specs.Prelude.{slice_index_or, refl}
+use Rattle.std.specs.Prelude.{◌≡◌, ◌≢◌, ℕ, ◌+◌, List, [], ◌∷◌, ◌++◌, length, map, replicate}
+use Rattle.std.specs.Prelude.{slice_get, slice_index_or, slice_set, refl}
 use Rattle.std.proofs.Common.{◌∙◌}
 use Rattle.risk_board.specs.declared.hand.Line.{Line}
 use Rattle.risk_board.specs.declared.hand.Call.{Call}
+use Rattle.risk_board.specs.Calls.{post_count}
 use Rattle.risk_board.specs.Hands.{HandValue, KeepsOrigin}
 use Rattle.risk_board.specs.History.{Event, IsLegal, events_of_calls, components_of}
 
@@ -44,6 +45,23 @@ hand_of cap hand = record {
   spare = hand.spare;
   calls = slice_index_or hand.board.calls hand.session [];
 }
+
+-- the lines of a tree so far
+abbrev pub lines_in : ℕ → PlainHandValue → List Line
+lines_in tree hand = slice_index_or hand.board.lines tree []
+
+-- the line that a post of the hand's session adds
+abbrev pub line_of_post : ℕ → ℕ → PlainHandValue → Line
+line_of_post tree value hand = record {
+  session = hand.session;
+  index = post_count tree (slice_index_or hand.board.calls hand.session []) + 1;
+  value = value;
+}
+
+-- the lines of all trees after the post: its line comes last in its tree
+abbrev pub lines_with_post : ℕ → ℕ → PlainHandValue → List (List Line)
+lines_with_post tree value hand =
+    slice_set hand.board.lines tree (lines_in tree hand ++ line_of_post tree value hand ∷ [])
 
 -- the same session of a board with the same bounds and the same calls of every other session
 pub record KeepsOthers (before now : PlainHandValue) : Type 0 where

@@ -70,7 +70,10 @@ impl<F: Fold> PlainHand<F> {
 }
 
 impl<F: Fold> Hand for PlainHand<F> {
-    ghost use Rattle.risk_board.specs.Plain.{hand_of, KeepsOthers};
+    ghost use Rattle.risk_board.specs.declared.hand.Call.TheVariants as Call;
+    ghost use Rattle.risk_board.specs.Calls.{post_count};
+    ghost use Rattle.risk_board.specs.Hands.{with_call};
+    ghost use Rattle.risk_board.specs.Plain.{hand_of, KeepsOthers, lines_in, lines_with_post};
 
     ghost meaning = { hand_of F.CAP };
 
@@ -97,14 +100,34 @@ impl<F: Fold> Hand for PlainHand<F> {
         Ok(())
     }
 
-    fn post(&mut self, tree: u32, value: u64) {
+    /// The post's line comes last in its tree, and the other trees' lines stay.
+    fn post(&mut self, tree: u32, value: u64)
+        requires tree { tree < (hand_of F.CAP self.old).trees }
+        requires left { post_count tree (hand_of F.CAP self.old).calls
+            < (hand_of F.CAP self.old).quota }
+        requires spare { 1 ≤ (hand_of F.CAP self.old).spare }
+        requires capped { value ≤ (hand_of F.CAP self.old).cap }
+        ensures added { hand_of F.CAP self.new
+            ≡ with_call (Call.Post tree value) (hand_of F.CAP self.old) }
+        ensures origin { KeepsOthers self.old self.new }
+        ensures lines { self.new.board.lines ≡ lines_with_post tree value self.old }
+    {
         self.kept.trees[tree as usize].post(self.session, value);
         let own = &mut self.kept.calls[self.session as usize];
         own.push_reserved(Call::Post { tree, value });
         self.spare -= 1;
     }
 
-    fn read(&mut self, tree: u32) -> Seen {
+    /// The stamp counts the tree's lines, and no line changes.
+    fn read(&mut self, tree: u32) -> Seen
+        requires tree { tree < (hand_of F.CAP self.old).trees }
+        requires spare { 1 ≤ (hand_of F.CAP self.old).spare }
+        ensures added { let call = Call.Read tree result.stamp result.value in
+            hand_of F.CAP self.new ≡ with_call call (hand_of F.CAP self.old) }
+        ensures origin { KeepsOthers self.old self.new }
+        ensures stamp { result.stamp ≡ length (lines_in tree self.old) }
+        ensures lines { self.new.board.lines ≡ self.old.board.lines }
+    {
         let seen = self.kept.trees[tree as usize].root::<F>();
         let own = &mut self.kept.calls[self.session as usize];
         own.push_reserved(Call::Read {

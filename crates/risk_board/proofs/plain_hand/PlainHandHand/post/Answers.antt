@@ -3,6 +3,7 @@ use Rattle.risk_board.specs.Calls.{post_count}
 use Rattle.risk_board.specs.Plain.{PlainHandValue}
 use Rattle.risk_board.proofs.Found.{has_tree, tree_tells, is_session}
 use Rattle.risk_board.proofs.HandCalls.{has_post, hand_has_call, others_stay}
+use Rattle.risk_board.proofs.HandLines.{lines_posted}
 use Rattle.risk_board.proofs.Held.{held_with_post}
 use Rattle.risk_board.proofs.TreeCalls.{has_component, has_count, count_is_within}
 use Rattle.risk_board.proofs.plain_hand.PlainHandHand.post.Goals as goal
@@ -78,3 +79,13 @@ returns-clause-origin g c =
     c.push_reserved.ensures.items in
     others_stay has (is_session hand.kept hand.session c.self.invariant.in_range)
     hand.spare c.args.self.now c.self.view_is
+
+-- the post's line comes last in its tree
+pub returns-clause-lines : goal.returns-clause-lines
+returns-clause-lines g c =
+    let hand = c.self.inside in
+    let below = has_tree hand.kept hand.session hand.spare c.args.self.now c.args.tree
+    c.self.view_is c.requires.tree in
+    lines_posted hand.kept c.self.invariant c.args.tree c.index_mut.result.now below
+    c.index_mut.ensures.value c.args.self.now c.self.view_is
+    c.post.new.self c.args.value c.post.ensures.posted

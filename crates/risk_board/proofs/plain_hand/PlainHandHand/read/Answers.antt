@@ -1,7 +1,8 @@
-use Rattle.std.proofs.Common.{◌≤◌, ap, arith}
+use Rattle.std.proofs.Common.{◌≤◌, ap, sym, ◌∙◌, arith, length}
 use Rattle.risk_board.specs.Plain.{PlainHandValue}
 use Rattle.risk_board.proofs.Found.{has_tree, tree_tells, is_session}
 use Rattle.risk_board.proofs.HandCalls.{has_read, hand_has_call, others_stay}
+use Rattle.risk_board.proofs.HandLines.{lines_are}
 use Rattle.risk_board.proofs.Held.{held_with_read}
 use Rattle.risk_board.proofs.TreeCalls.{lines_fit, components_fit}
 use Rattle.risk_board.proofs.plain_hand.PlainHandHand.read.Goals as goal
@@ -67,3 +68,17 @@ returns-clause-origin g c =
     c.root-seen.result.value c.push_reserved.ensures.items in
     others_stay has (is_session hand.kept hand.session c.self.invariant.in_range)
     hand.spare c.args.self.now c.self.view_is
+
+-- the stamp counts the lines
+pub returns-clause-stamp : goal.returns-clause-stamp
+returns-clause-stamp g c =
+    let hand = c.self.inside in
+    let below = has_tree hand.kept hand.session hand.spare c.args.self.now c.args.tree
+    c.self.view_is c.requires.tree in
+    c.root-seen.ensures.stamp
+    ∙ ap length (sym (lines_are hand.kept c.self.invariant c.args.tree c.index.result.now below
+    c.index.ensures c.args.self.now c.self.view_is))
+
+-- which stay
+pub returns-clause-lines : goal.returns-clause-lines
+returns-clause-lines g c = ap (λ (h : PlainHandValue). h.board.lines) c.self.view_is
