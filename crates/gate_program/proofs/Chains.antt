@@ -1,13 +1,12 @@
 -- Counts of faults over several steps, and numbers of statuses.
 use Rattle.std.proofs.Common.{◌≡◌, ◌≢◌, ℕ, ◌≤◌, List, refl, arith, Bool, true, false, cond}
 use Rattle.gate_ports.specs.Faults.{Rose}
-use Rattle.gate_program.specs.declared.acts.End.{End}
+use Rattle.risk_journal.specs.declared.acts.End.{End}
 use Rattle.gate_program.specs.declared.status.Status.{Status}
 use Rattle.gate_program.specs.declared.status.Status.TheVariants as status
 use Rattle.gate_program.specs.Statuses.{number_of, told_text}
 use Rattle.gate_program.specs.Gate.{text_after}
 use Rattle.gate_program.specs.Run.{standing_of}
-
 -- a count that rose later rose
 pub rose_from : (first next last : ℕ) → first ≤ next → Rose next last → Rose first last
 rose_from first next last later rose = omega arith

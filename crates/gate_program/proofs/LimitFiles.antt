@@ -3,11 +3,10 @@ use Rattle.std.proofs.Common.{◌≡◌, ℕ, ◌+◌, ◌≤◌, List, [], ◌�
 use Rattle.std.proofs.Common.{arith, codes, inl, inr, length-append}
 use Rattle.std.specs.Prelude.{Option, Some, None}
 use Rattle.gate_ports.specs.Names.{Texts}
-use Rattle.gate_program.specs.Session.{LimitsValue}
+use Rattle.session_engine.specs.Session.{LimitsValue}
 use Rattle.gate_program.specs.Gate.{AreLimits}
 use Rattle.gate_program.specs.Stages.{HasFront}
 use Rattle.gate_program.specs.Gate.{HasNoLimits}
-
 length_of_row : (digits : List ℕ)
     → length (codes "firm,," ++ digits ++ codes ",,," ++ 10 ∷ []) ≡ length digits + 10
 length_of_row digits = simp length-append (omega arith)

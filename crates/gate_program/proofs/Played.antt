@@ -5,15 +5,14 @@ use Rattle.std.specs.Prelude.{Option, Some, None, slice_index_or}
 use Rattle.risk_board.specs.declared.hand.Call.{Call}
 use Rattle.risk_board.specs.History.{events_of_calls}
 use Rattle.risk_board.specs.Plain.{BoardValue, PlainHandValue, KeepsOthers, empty_board}
-use Rattle.gate_program.specs.declared.acts.Act.{Act}
-use Rattle.gate_program.specs.declared.acts.End.{End}
-use Rattle.gate_program.specs.Session.{LimitsValue}
-use Rattle.gate_program.specs.Trees.{calls_of, placed}
-use Rattle.gate_program.specs.Follows.{FollowsSource}
+use Rattle.risk_journal.specs.declared.acts.Act.{Act}
+use Rattle.risk_journal.specs.declared.acts.End.{End}
+use Rattle.session_engine.specs.Session.{LimitsValue}
+use Rattle.risk_journal.specs.ActLists.{calls_of, placed}
+use Rattle.session_engine.specs.Follows.{FollowsSource}
 use Rattle.gate_program.specs.Stages.{HasPlayed}
-use Rattle.gate_program.proofs.PlacedActs.{events_of-placed, calls_of-placed}
-use Rattle.gate_program.proofs.PlacedFollows.{follows_placed}
-
+use Rattle.risk_journal.proofs.PlacedActs.{events_of-placed, calls_of-placed}
+use Rattle.session_engine.proofs.PlacedFollows.{follows_placed}
 only_session : (calls : List (List Call)) (own : List Call) → length calls ≡ 1
     → slice_index_or calls 0 [] ≡ own → calls ≡ own ∷ []
 only_session [] own one is = absurd (omega arith)

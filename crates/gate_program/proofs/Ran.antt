@@ -13,14 +13,15 @@ use Rattle.gate_ports.specs.Names.{Texts, IsEmptySink}
 use Rattle.risk_board.specs.declared.hand.Line.{Line}
 use Rattle.risk_board.specs.History.{IsLegal, Event, events_of_calls, components_of}
 use Rattle.risk_board.specs.Plain.{BoardValue}
-use Rattle.gate_program.specs.declared.acts.Act.{Act}
-use Rattle.gate_program.specs.declared.acts.End.{End}
-use Rattle.gate_program.specs.declared.acts.End.TheVariants as ending
-use Rattle.gate_program.specs.Session.{LimitsValue}
-use Rattle.gate_program.specs.Trees.{events_of, fold_of, limit_of}
-use Rattle.gate_program.specs.Admitted.{StaysWithin}
-use Rattle.gate_program.proofs.Within.{legal_stays_within}
-use Rattle.gate_program.specs.Follows.{IsByInput, FollowsSource, FollowsInput}
+use Rattle.risk_journal.specs.declared.acts.Act.{Act}
+use Rattle.risk_journal.specs.declared.acts.End.{End}
+use Rattle.risk_journal.specs.declared.acts.End.TheVariants as ending
+use Rattle.session_engine.specs.Session.{LimitsValue}
+use Rattle.risk_journal.specs.ActLists.{events_of}
+use Rattle.session_engine.specs.Trees.{fold_of, limit_of}
+use Rattle.session_engine.specs.Admitted.{StaysWithin}
+use Rattle.session_engine.proofs.Within.{legal_stays_within}
+use Rattle.session_engine.specs.Follows.{IsByInput, FollowsSource, FollowsInput}
 use Rattle.gate_program.specs.Words.{RunWords, venue_name, client_name, journal_name, is_among}
 use Rattle.gate_program.specs.Words.{output_names}
 use Rattle.gate_program.specs.Run.{PortsValue, ReadRose, OutputRose, EndHolds}
@@ -32,7 +33,6 @@ use Rattle.std.specs.List.{list_any}
 use Rattle.gate_program.specs.Stages.{Went, IsNewSource, AreWritten, HasLines}
 use Rattle.gate_program.specs.Stages.{HasPlayed, HasEnded, with_two}
 use Rattle.gate_program.proofs.Chains.{rose_from}
-
 -- a run of one session
 abbrev pub one_run : List ℕ → List ℕ → List ℕ → RunWords
 one_run limits out session = record { limits = limits; out = out; sessions = session ∷ [] }

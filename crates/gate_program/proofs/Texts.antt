@@ -9,16 +9,15 @@ use Rattle.std.proofs.lemmas.Bool.Decides.{nat_tests}
 use Rattle.std.proofs.lemmas.Slice.Eq.{bytes_eq-Decides}
 use Rattle.gate_ports.specs.Names.{Texts, IsThere, MeansName}
 use Rattle.risk_board.specs.Plain.{BoardValue}
-use Rattle.gate_program.specs.declared.acts.Act.{Act}
-use Rattle.gate_program.specs.declared.acts.End.{End}
+use Rattle.risk_journal.specs.declared.acts.Act.{Act}
+use Rattle.risk_journal.specs.declared.acts.End.{End}
 use Rattle.gate_program.specs.Words.{venue_name, client_name, journal_name}
-use Rattle.gate_program.specs.JournalText.{journal_text}
+use Rattle.risk_journal.specs.JournalText.{journal_text}
 use Rattle.gate_program.specs.Run.{PortsValue, Holds, WriteRose, standing_of}
 use Rattle.gate_program.specs.Stages.{Went, AreOutputs, AreClosed, AreWritten, HasTexts}
 use Rattle.gate_program.specs.Stages.{ChangesOnly, HasStood, HasFinished, IsJournalOf, IsNewSource}
 use Rattle.gate_program.specs.Stages.{IsOwn, with_two}
 use Rattle.gate_program.proofs.Ran.{one_run, journal_from}
-
 itself : (x : ℕ) → (x == x) ≡ true
 itself x = grind (arith, nat_tests)
 

@@ -7,17 +7,17 @@ use Rattle.gate_ports.specs.Names.{Texts}
 use Rattle.std.specs.Option.{option_map}
 use Rattle.risk_board.specs.declared.hand.Line.{Line}
 use Rattle.risk_board.specs.Plain.{BoardValue}
-use Rattle.gate_program.specs.declared.acts.Act.{Act}
-use Rattle.gate_program.specs.declared.acts.End.{End}
-use Rattle.gate_program.specs.declared.acts.End.TheVariants as ending
+use Rattle.risk_journal.specs.declared.acts.Act.{Act}
+use Rattle.risk_journal.specs.declared.acts.End.{End}
+use Rattle.risk_journal.specs.declared.acts.End.TheVariants as ending
 use Rattle.gate_program.specs.declared.status.Status.{Status}
 use Rattle.gate_program.specs.declared.status.Status.TheVariants as status
-use Rattle.gate_program.specs.Session.{LimitsValue}
+use Rattle.session_engine.specs.Session.{LimitsValue}
 use Rattle.gate_program.specs.Words.{RunWords, venue_name, client_name}
 use Rattle.gate_program.specs.Run.{PortsValue, EndHolds, ReadRose, WriteRose, standing_of}
 use Rattle.gate_program.specs.Gate.{RunWent, HasJournal, IsTold, text_after, read_fault_text}
 use Rattle.gate_program.specs.Gate.{write_fault_text, not_built_text}
-use Rattle.gate_program.specs.Follows.{IsByInput, FollowsSource}
+use Rattle.session_engine.specs.Follows.{IsByInput, FollowsSource}
 use Rattle.gate_program.specs.Stages.{Went, IsUnopened, HasLimitsFault, AreOutputs}
 use Rattle.gate_program.specs.Gate.{HasLimits}
 use Rattle.gate_program.specs.Run.{is_memory}
@@ -28,7 +28,6 @@ use Rattle.gate_program.specs.Statuses.{number_of, told_text}
 use Rattle.gate_program.proofs.Chains.{rose_from, rose_is_some, zero_stands, told_text_is}
 use Rattle.gate_program.proofs.Chains.{standing_of_isnt_usage}
 use Rattle.gate_program.proofs.Ran.{one_run, silent, journal_from, has_run}
-
 -- a folder beside a standard output
 abbrev pub beside : Option Texts → (List ℕ → ℕ) → (List ℕ → ℕ) → Option (List ℕ) → ℕ → PortsValue
 beside texts reads writes held faults = record {

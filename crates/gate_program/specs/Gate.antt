@@ -9,16 +9,15 @@ use Rattle.gate_ports.specs.Faults.{Rose}
 use Rattle.gate_ports.specs.Bytes.{AppendsFront}
 use Rattle.gate_ports.specs.Names.{Texts}
 use Rattle.risk_board.specs.declared.hand.Line.{Line}
-use Rattle.gate_program.specs.declared.acts.Act.{Act}
-use Rattle.gate_program.specs.declared.acts.End.{End}
-use Rattle.gate_program.specs.Session.{LimitsValue}
-use Rattle.gate_program.specs.JournalText.{journal_text}
+use Rattle.risk_journal.specs.declared.acts.Act.{Act}
+use Rattle.risk_journal.specs.declared.acts.End.{End}
+use Rattle.session_engine.specs.Session.{LimitsValue}
+use Rattle.risk_journal.specs.JournalText.{journal_text}
 use Rattle.gate_program.specs.Words.{RunWords, Command, command_of, output_names, journal_name}
 use Rattle.gate_program.specs.Words.{is_among}
 use Rattle.gate_program.specs.Words.Command.{Run}
 use Rattle.gate_program.specs.Run.{PortsValue, Holds, ReadRose, WriteRose, OutputRose, session_name}
 use Rattle.gate_program.specs.Run.{EndHolds, IsHistory, standing_of, is_memory}
-
 -- a folder and standard output as clauses name them
 abbrev pub ports_of : {D O : Type 0} → (D → Option Texts) → (D → List ℕ → ℕ) → (D → List ℕ → ℕ)
     → (O → Option (List ℕ)) → (O → ℕ) → D → O → PortsValue

@@ -6,15 +6,15 @@ use Rattle.gate_ports.specs.Faults.{Rose}
 use Rattle.gate_ports.specs.Names.{Texts}
 use Rattle.risk_board.specs.declared.hand.Line.{Line}
 use Rattle.risk_board.specs.History.{IsLegal, components_of}
-use Rattle.gate_program.specs.declared.acts.Act.{Act}
-use Rattle.gate_program.specs.declared.acts.End.{End}
-use Rattle.gate_program.specs.declared.acts.End.TheVariants as ending
-use Rattle.gate_program.specs.Session.{LimitsValue}
-use Rattle.gate_program.specs.Trees.{tree_count, fold_of, events_of, limit_of}
-use Rattle.gate_program.specs.Admitted.{StaysWithin}
+use Rattle.risk_journal.specs.declared.acts.Act.{Act}
+use Rattle.risk_journal.specs.declared.acts.End.{End}
+use Rattle.risk_journal.specs.declared.acts.End.TheVariants as ending
+use Rattle.session_engine.specs.Session.{LimitsValue}
+use Rattle.session_engine.specs.Trees.{tree_count, fold_of, limit_of}
+use Rattle.risk_journal.specs.ActLists.{events_of}
+use Rattle.session_engine.specs.Admitted.{StaysWithin}
 use Rattle.gate_program.specs.Words.{RunWords, venue_name, client_name}
-use Rattle.gate_program.specs.Follows.{FollowsInput}
-
+use Rattle.session_engine.specs.Follows.{FollowsInput}
 -- a folder and standard output at a moment: texts and counts of faults by name, where they are told
 pub record PortsValue : Type 0 where
   pub texts : Option Texts

@@ -9,21 +9,20 @@ use Rattle.gate_ports.specs.Names.{Texts, with_text, IsThere, IsOpened, IsEmptyS
 use Rattle.risk_board.specs.declared.hand.Line.{Line}
 use Rattle.risk_board.specs.History.{events_of_calls}
 use Rattle.risk_board.specs.Plain.{BoardValue, IsLegalTree}
-use Rattle.gate_program.specs.declared.acts.Act.{Act}
-use Rattle.gate_program.specs.declared.acts.End.{End}
-use Rattle.gate_program.specs.declared.acts.End.TheVariants as ending
+use Rattle.risk_journal.specs.declared.acts.Act.{Act}
+use Rattle.risk_journal.specs.declared.acts.End.{End}
+use Rattle.risk_journal.specs.declared.acts.End.TheVariants as ending
 use Rattle.gate_program.specs.declared.status.Status.{Status}
 use Rattle.gate_program.specs.declared.status.Status.TheVariants as status
-use Rattle.gate_program.specs.Session.{LimitsValue}
-use Rattle.gate_program.specs.Trees.{events_of, calls_of}
-use Rattle.gate_program.specs.JournalText.{journal_text}
+use Rattle.session_engine.specs.Session.{LimitsValue}
+use Rattle.risk_journal.specs.ActLists.{events_of, calls_of}
+use Rattle.risk_journal.specs.JournalText.{journal_text}
 use Rattle.gate_program.specs.Words.{RunWords, venue_name, client_name, journal_name}
 use Rattle.gate_program.specs.Words.{output_names, is_among}
 use Rattle.gate_program.specs.Run.{PortsValue, ReadRose, WriteRose, OutputRose, session_name}
 use Rattle.gate_program.specs.Run.{standing_of}
-use Rattle.gate_program.specs.Follows.{IsByInput, FollowsSource}
+use Rattle.session_engine.specs.Follows.{IsByInput, FollowsSource}
 use Rattle.gate_program.specs.Gate.{HasNoLimits, HasJournal}
-
 -- a folder as clauses name it, beside a standard output that tells nothing
 abbrev pub folder_of : {D : Type 0} → (D → Option Texts) → (D → List ℕ → ℕ) → (D → List ℕ → ℕ) → D
     → PortsValue

@@ -9,8 +9,6 @@ ghost use Rattle.gate_program.specs.Stages.{HasFinished};
 ghost use Rattle.gate_program.specs.Words.{journal_name};
 ghost use Rattle.gate_program.specs.Statuses.{number_of};
 
-use crate::acts::Act;
-use crate::journal::{Journal, write_journal};
 use crate::open::{Opened, Sinks};
 use crate::play::{Ended, Played};
 use crate::status::{Status, standing};
@@ -18,6 +16,7 @@ use crate::words::{Outputs, Run};
 use fold_law::{Memory, Sum};
 use gate_ports::{Folder, PortFault, give_all};
 use risk_board::{Line, PlainBoard};
+use risk_journal::{Act, Journal, write_journal};
 use std::alloc::Global;
 
 /// Gives a session's input back, and closes its outputs, the venue's first.

@@ -1,13 +1,12 @@
 //! The top call.
 ghost use Rattle.std.specs.Prelude.{◌≡◌, ◌⊎◌, map, string_bytes};
 ghost use Rattle.gate_program.specs.CommandOf.{run_value};
-ghost use Rattle.gate_program.specs.LimitsOf.{limits_value};
+ghost use Rattle.session_engine.specs.LimitsOf.{limits_value};
 ghost use Rattle.gate_program.specs.Gate.{HasLimits, GateRun, RunWent, ports_of, default_quota};
 ghost use Rattle.gate_program.specs.Stages.{folder_of, AreOutputs, IsOwn, HasEnded};
 ghost use Rattle.gate_program.specs.Statuses.{number_of};
 
 use crate::close::{close_session, finish};
-use crate::limits::Limits;
 use crate::open::{Opened, open_session, read_limits};
 use crate::play::play;
 use crate::status::Status;
@@ -16,6 +15,7 @@ use crate::words::{Command, Outputs, Run, command_from, outputs_in};
 use fold_law::{Memory, Sum};
 use gate_ports::{Folder, Sink};
 use risk_board::PlainBoard;
+use session_engine::Limits;
 use std::alloc::Global;
 
 /// Runs a session that was opened over a board of its own, closes it and writes the journal.

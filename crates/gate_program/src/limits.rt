@@ -5,19 +5,11 @@ ghost use Rattle.std.specs.List.{list_all};
 ghost use Rattle.std.specs.Char.{is_ascii_digit};
 ghost use Rattle.std.specs.Str.Parse.{digits_value};
 ghost use Rattle.gate_program.specs.Gate.{AreLimits, default_quota};
-ghost use Rattle.gate_program.specs.Session.{LimitsValue};
+ghost use Rattle.session_engine.specs.Session.{LimitsValue};
 ghost use Rattle.gate_program.specs.LimitRows.{firm_row, is_amount};
-ghost use Rattle.gate_program.specs.LimitsOf.{limits_value};
+ghost use Rattle.session_engine.specs.LimitsOf.{limits_value};
 
-/// The limits of a run.
-#[derive(Clone, Copy, Debug, PartialEq, Eq)]
-pub(crate) struct Limits {
-    /// The firm's limit in whole currency units.
-    pub firm: u64,
-    /// The most posts of a session in a tree.
-    pub quota: u32,
-}
-
+use session_engine::Limits;
 /// The most posts of a session in a tree where no limit file says so.
 const QUOTA: u32 = 50000;
 

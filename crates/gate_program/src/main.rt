@@ -1,43 +1,22 @@
 //! The gate: the words of its command line, its limit file, its session and its journal.
 #![tactic(auto)]
 
-mod acts;
-mod admit;
 mod close;
-mod codes;
 mod command;
-mod csv_rows;
-mod decide;
-mod forward;
-mod ids;
-mod input;
-mod journal;
 #[cfg(test)]
 mod leaf_tests;
 mod limits;
 mod open;
-mod order;
-mod placed;
 mod play;
-mod put;
-mod read;
-mod refusal;
-mod report;
-mod session;
-mod slots;
 mod status;
-mod take;
 mod tell;
 #[cfg(test)]
 mod tests;
-mod totals;
 mod words;
 
-pub use acts::{Act, End};
 pub use command::gate;
 use fold_law::Memory;
 use gate_ports::{RealFolder, RealOut};
-pub use refusal::Refusal;
 use status::Status;
 use std::alloc::Global;
 use std::env;

@@ -2,17 +2,17 @@
 ghost use Rattle.std.specs.Prelude.{◌≡◌, ◌+◌, [], IfOk, IfErr, string_bytes};
 ghost use Rattle.std.specs.Option.{option_map};
 ghost use Rattle.gate_program.specs.Gate.{default_quota};
-ghost use Rattle.gate_program.specs.LimitsOf.{limits_value};
+ghost use Rattle.session_engine.specs.LimitsOf.{limits_value};
 ghost use Rattle.gate_program.specs.Stages.{folder_of, Went, HasFront, HasLimitsFault};
 ghost use Rattle.gate_program.specs.Gate.{HasLimits};
 ghost use Rattle.gate_program.specs.Stages.{IsUnread, IsUnmade, IsUnopened, IsNewSource, IsNewSink};
 ghost use Rattle.gate_program.specs.Stages.{with_two};
 
-use crate::input::{FetchEnd, fetch_up_to};
-use crate::limits::{Limits, limits_from};
+use crate::limits::limits_from;
 use crate::status::Status;
 use crate::words::Outputs;
-use gate_ports::{Folder, PortFault};
+use gate_ports::{FetchEnd, Folder, PortFault, fetch_up_to};
+use session_engine::Limits;
 use std::alloc::Global;
 
 /// The most bytes of a limit file.

@@ -2,19 +2,17 @@
 ghost use Rattle.std.specs.Prelude.{◌≡◌, ◌⊎◌, map};
 ghost use Rattle.gate_ports.specs.Faults.{Rose};
 ghost use Rattle.risk_board.specs.Plain.{empty_board};
-ghost use Rattle.gate_program.specs.Follows.{IsByInput, FollowsSource};
-ghost use Rattle.gate_program.specs.LimitsOf.{limits_value};
-ghost use Rattle.gate_program.specs.Trees.{placed};
+ghost use Rattle.session_engine.specs.Follows.{IsByInput, FollowsSource};
+ghost use Rattle.session_engine.specs.LimitsOf.{limits_value};
+ghost use Rattle.risk_journal.specs.ActLists.{placed};
 ghost use Rattle.gate_program.specs.Stages.{HasPlayed};
 
-use crate::acts::{Act, End};
-use crate::limits::Limits;
 use crate::open::{Opened, Sinks};
-use crate::placed::set_places;
-use crate::session::{SessionDone, run_session};
 use fold_law::Sum;
 use gate_ports::{Sink, Source};
 use risk_board::PlainBoard;
+use risk_journal::{Act, End, set_places};
+use session_engine::{Limits, SessionDone, run_session};
 use std::alloc::Global;
 
 /// What a session did, how it ended, and the board that it ran on.

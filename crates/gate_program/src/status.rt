@@ -3,7 +3,7 @@ ghost use Rattle.std.specs.Prelude.{◌≡◌, ◌∷◌, [], ◌≢◌, Bool};
 ghost use Rattle.gate_program.specs.Run.{standing_of};
 ghost use Rattle.gate_program.specs.Statuses.{number_of, told_text};
 
-use crate::acts::End;
+use risk_journal::End;
 
 /// How a call of the gate ends.
 #[derive(Clone, Copy, Debug, PartialEq, Eq)]

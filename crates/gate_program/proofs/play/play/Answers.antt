@@ -1,12 +1,11 @@
 -- The hand came back with the session's calls.
 use Rattle.std.proofs.Common.{◌∙◌, List, ap, sym, subst}
-use Rattle.gate_program.specs.declared.acts.Act.{Act}
-use Rattle.gate_program.specs.Follows.{FollowsSource}
-use Rattle.gate_program.specs.LimitsOf.{limits_value}
+use Rattle.risk_journal.specs.declared.acts.Act.{Act}
+use Rattle.session_engine.specs.Follows.{FollowsSource}
+use Rattle.session_engine.specs.LimitsOf.{limits_value}
 use Rattle.gate_program.specs.Stages.{HasPlayed}
 use Rattle.gate_program.proofs.Played.{has_played, source_placed}
 use Rattle.gate_program.proofs.play.play.Goals as goal
-
 pub returns-clause-played : goal.returns-clause-played
 returns-clause-played g c =
     subst (λ (acts : List Act). HasPlayed c.give_back.result acts) (sym c.with_places.ensures)

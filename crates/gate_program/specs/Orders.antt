@@ -1,7 +1,0 @@
--- What an order means.
-use Rattle.gate_program.specs.declared.order.Order.{Order}
-use Rattle.gate_program.specs.Session.{OrderValue}
-
--- the order as a session's value has it
-abbrev pub order_value : Order → OrderValue
-order_value order = record { id = order.id; quantity = order.quantity; price = order.price }

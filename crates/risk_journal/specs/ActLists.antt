@@ -1,0 +1,74 @@
+-- What the acts of a session are: its posts and reads by tree, its calls, and its reads' places.
+use Rattle.std.specs.Prelude.{ℕ, ◌==◌, List, [], ◌∷◌, fold, count_by, if◌then◌else◌, Bool, false}
+use Rattle.risk_board.specs.History.{Event}
+use Rattle.risk_board.specs.History.Event.{Posted, Saw}
+use Rattle.risk_board.specs.declared.hand.Call.{Call}
+use Rattle.risk_board.specs.declared.hand.Call.TheVariants as call
+use Rattle.risk_journal.specs.declared.acts.Act.{Act}
+use Rattle.risk_journal.specs.declared.acts.Act.TheVariants.{Post, Read, Sent, Refused, Noted, Ended}
+
+-- a read of a tree's root: its stamp, its place in the tree's history and its value
+pub record SeenAt : Type 0 where
+  pub stamp : ℕ
+  pub place : ℕ
+  pub value : ℕ
+
+-- a post in the tree
+abbrev pub is_post_act_in : ℕ → Act → Bool
+is_post_act_in tree (Post in_tree index value) = in_tree == tree
+is_post_act_in tree act = false
+
+-- how many posts the acts have in a tree
+abbrev pub posts_in : ℕ → List Act → ℕ
+posts_in tree acts = count_by (is_post_act_in tree) acts
+
+-- the value last posted in a tree after one more act
+abbrev pub latest : ℕ → ℕ → Act → ℕ
+latest tree before (Post in_tree index value) = if in_tree == tree then value else before
+latest tree before act = before
+
+-- the value last posted in a tree, and 0 before any
+abbrev pub last_post : ℕ → List Act → ℕ
+last_post tree acts = fold (latest tree) 0 acts
+
+-- what a session did in a tree, by its acts
+abbrev pub events_of : ℕ → List Act → List Event
+events_of tree [] = []
+events_of tree (Post in_tree index value ∷ acts) =
+    if in_tree == tree then Posted value ∷ events_of tree acts else events_of tree acts
+events_of tree (Read in_tree stamp place value ∷ acts) =
+    if in_tree == tree then Saw stamp place value ∷ events_of tree acts else events_of tree acts
+events_of tree (Sent frame ∷ acts) = events_of tree acts
+events_of tree (Refused frame code first second ∷ acts) = events_of tree acts
+events_of tree (Noted frame code first second ∷ acts) = events_of tree acts
+events_of tree (Ended end ∷ acts) = events_of tree acts
+
+-- the reads of a session, in order
+abbrev pub reads_of : List Act → List SeenAt
+reads_of [] = []
+reads_of (Read tree stamp place value ∷ acts) =
+    record { stamp = stamp; place = place; value = value } ∷ reads_of acts
+reads_of (Post tree index value ∷ acts) = reads_of acts
+reads_of (Sent frame ∷ acts) = reads_of acts
+reads_of (Refused frame code first second ∷ acts) = reads_of acts
+reads_of (Noted frame code first second ∷ acts) = reads_of acts
+reads_of (Ended end ∷ acts) = reads_of acts
+
+-- the calls of a session on its hand, in order
+abbrev pub calls_of : List Act → List Call
+calls_of [] = []
+calls_of (Post tree index value ∷ acts) = call.Post tree value ∷ calls_of acts
+calls_of (Read tree stamp place value ∷ acts) = call.Read tree stamp value ∷ calls_of acts
+calls_of (Sent frame ∷ acts) = calls_of acts
+calls_of (Refused frame code first second ∷ acts) = calls_of acts
+calls_of (Noted frame code first second ∷ acts) = calls_of acts
+calls_of (Ended end ∷ acts) = calls_of acts
+
+-- an act with the place of a read by its stamp
+abbrev pub placed : (ℕ → ℕ) → Act → Act
+placed place (Read tree stamp before value) = Read tree stamp (place stamp) value
+placed place (Post tree index value) = Post tree index value
+placed place (Sent frame) = Sent frame
+placed place (Refused frame code first second) = Refused frame code first second
+placed place (Noted frame code first second) = Noted frame code first second
+placed place (Ended end) = Ended end

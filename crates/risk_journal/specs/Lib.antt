@@ -1,0 +1,3 @@
+pub mod ActLists
+pub mod JournalText
+pub mod RowCells

@@ -1,0 +1,262 @@
+-- A session whose reads have other places, and steps that don't see them.
+use Rattle.std.proofs.Common.{◌≡◌, ℕ, ◌+◌, ◌-◌, ◌≤◌, List, [], ◌∷◌, ◌++◌, length, map, fold}
+use Rattle.std.proofs.Common.{refl, sym, ap, ◌∙◌, arith, length-append, length-drop}
+use Rattle.std.proofs.Common.{Option, Some, None}
+use Rattle.std.proofs.Common.{nat_lt, ◌||◌, if◌then◌else◌}
+use Rattle.std.specs.List.{list_any}
+use Rattle.std.proofs.lemmas.List.{map-append}
+use Rattle.fix_fields.specs.Fields.{FieldValue}
+use Rattle.risk_journal.specs.declared.acts.Act.{Act}
+use Rattle.risk_journal.specs.declared.acts.Act.TheVariants.{Post, Read, Sent, Refused}
+use Rattle.session_engine.specs.declared.refusal.Refusal.{Refusal}
+use Rattle.session_engine.specs.Answers.{code_of}
+use Rattle.session_engine.specs.Session.{LimitsValue, SessionValue, OrderValue, Leg}
+use Rattle.risk_journal.specs.ActLists.{SeenAt}
+use Rattle.session_engine.specs.Session.{next_read}
+use Rattle.session_engine.specs.Session.{with_act, after_posting, after_reading, legs_of}
+use Rattle.risk_journal.specs.ActLists.{posts_in}
+use Rattle.session_engine.specs.Session.{first_above, verdict_of, early_refusal, post_new, post_old}
+use Rattle.session_engine.specs.Session.{roots_of, read_root, after_sending, after_refusing}
+use Rattle.session_engine.specs.Session.{after_verdict, after_admission, after_checks, after_order}
+use Rattle.session_engine.specs.Session.{order_of, after_frame, client_after}
+use Rattle.risk_journal.specs.ActLists.{placed, reads_of}
+use Rattle.risk_journal.proofs.PlacedActs.{seen_placed, reads_of-append, posts_in-placed}
+use Rattle.risk_journal.proofs.PlacedActs.{last_post-placed}
+-- the session with its reads' places by their stamps, in its acts and to come
+abbrev pub moved : (ℕ → ℕ) → SessionValue → SessionValue
+moved place session = record session {
+  acts = map (placed place) session.acts;
+  reads = map (seen_placed place) session.reads;
+}
+
+-- how many reads the session's acts have
+abbrev pub reads_made : SessionValue → ℕ
+reads_made session = length (reads_of session.acts)
+
+-- A step takes so many reads, and where they are there, it doesn't see their places.
+pub record TakesReads (place : ℕ → ℕ) (step : SessionValue → SessionValue) (session : SessionValue)
+    : Type 0 where
+  pub used : ℕ
+  pub made : reads_made (step session) ≡ reads_made session + used
+  pub left : length (step session).reads ≡ length session.reads - used
+  pub same : used ≤ length session.reads
+      → step (moved place session) ≡ moved place (step session)
+
+-- two steps one after another
+abbrev pub one_after_another : (place : ℕ → ℕ) (first second : SessionValue → SessionValue)
+    (session : SessionValue) → TakesReads place first session
+    → TakesReads place second (first session)
+    → TakesReads place (λ own. second (first own)) session
+one_after_another place first second session a b = record {
+  used = a.used + b.used;
+  made = omega (arith, a.made, b.made);
+  left = omega (arith, a.left, b.left);
+  same = λ enough. ap second (a.same (omega arith)) ∙ b.same (omega (arith, a.left));
+}
+
+-- a step that is another one at this session and at the moved one
+as_another : (place : ℕ → ℕ) (first second : SessionValue → SessionValue) (session : SessionValue)
+    → first session ≡ second session → first (moved place session) ≡ second (moved place session)
+    → TakesReads place first session → TakesReads place second session
+as_another place first second session here there a = record {
+  used = a.used;
+  made = ap reads_made (sym here) ∙ a.made;
+  left = ap (λ own. length own.reads) (sym here) ∙ a.left;
+  same = λ enough. sym there ∙ a.same enough ∙ ap (moved place) here;
+}
+
+-- no step
+no_step : (place : ℕ → ℕ) (session : SessionValue) → TakesReads place (λ own. own) session
+no_step place session = record {
+  used = 0;
+  made = omega arith;
+  left = omega arith;
+  same = λ enough. refl;
+}
+
+-- the reads of one act more
+made-snoc : (acts : List Act) (act : Act)
+    → length (reads_of (acts ++ act ∷ [])) ≡ length (reads_of acts) + length (reads_of (act ∷ []))
+made-snoc acts act =
+    ap length (reads_of-append acts (act ∷ []))
+    ∙ length-append (reads_of acts) (reads_of (act ∷ []))
+
+-- one act more, placed
+acts-snoc : (place : ℕ → ℕ) (acts : List Act) (act : Act)
+    → map (placed place) acts ++ placed place act ∷ [] ≡ map (placed place) (acts ++ act ∷ [])
+acts-snoc place acts act = sym (map-append (placed place) acts (act ∷ []))
+
+posting : (place : ℕ → ℕ) (tree value : ℕ) (session : SessionValue)
+    → TakesReads place (after_posting tree value) session
+posting place tree value session = record {
+  used = 0;
+  made = made-snoc session.acts (Post tree (posts_in tree session.acts + 1) value);
+  left = omega arith;
+  same = λ enough.
+      ap (λ count. with_act (Post tree (count + 1) value) (moved place session))
+      (posts_in-placed place tree session.acts)
+      ∙ ap (λ acts. record (moved place session) { acts = acts })
+      (acts-snoc place session.acts (Post tree (posts_in tree session.acts + 1) value));
+}
+
+-- a read that is there
+reading_same : (place : ℕ → ℕ) (tree : ℕ) (session : SessionValue) (reads : List SeenAt)
+    → 1 ≤ length reads
+    → after_reading tree (moved place (record session { reads = reads }))
+    ≡ moved place (after_reading tree (record session { reads = reads }))
+reading_same place tree session [] enough = absurd (omega arith)
+reading_same place tree session (seen ∷ more) enough =
+    ap (λ acts. record (moved place session) { acts = acts; reads = map (seen_placed place) more })
+    (acts-snoc place session.acts (Read tree seen.stamp seen.place seen.value))
+
+reading : (place : ℕ → ℕ) (tree : ℕ) (session : SessionValue)
+    → TakesReads place (after_reading tree) session
+reading place tree session = record {
+  used = 1;
+  made =
+      let seen = next_read session.reads in
+      made-snoc session.acts (Read tree seen.stamp seen.place seen.value);
+  left = length-drop 1 session.reads;
+  same = reading_same place tree session session.reads;
+}
+
+sending : (place : ℕ → ℕ) (fields : List FieldValue) (order : OrderValue) (session : SessionValue)
+    → TakesReads place (after_sending fields order) session
+sending place fields order session = record {
+  used = 0;
+  made = made-snoc session.acts (Sent session.frames);
+  left = omega arith;
+  same = λ enough.
+      ap (λ acts. record (moved place (after_sending fields order session)) { acts = acts })
+      (acts-snoc place session.acts (Sent session.frames));
+}
+
+refusing : (place : ℕ → ℕ) (fields : List FieldValue) (refusal : Refusal) (session : SessionValue)
+    → TakesReads place (after_refusing fields refusal) session
+refusing place fields refusal session = record {
+  used = 0;
+  made = made-snoc session.acts (Refused session.frames (code_of refusal) 0 0);
+  left = omega arith;
+  same = λ enough.
+      ap (λ acts. record (moved place (after_refusing fields refusal session)) { acts = acts })
+      (acts-snoc place session.acts (Refused session.frames (code_of refusal) 0 0));
+}
+
+posting_new : (place : ℕ → ℕ) (legs : List Leg) (session : SessionValue)
+    → TakesReads place (λ own. fold post_new own legs) session
+posting_new place [] session = no_step place session
+posting_new place (leg ∷ legs) session =
+    one_after_another place (λ own. post_new own leg) (λ own. fold post_new own legs) session
+    (posting place leg.tree leg.new session) (posting_new place legs (post_new session leg))
+
+posting_old : (place : ℕ → ℕ) (legs : List Leg) (session : SessionValue)
+    → TakesReads place (λ own. fold post_old own legs) session
+posting_old place [] session = no_step place session
+posting_old place (leg ∷ legs) session =
+    one_after_another place (λ own. post_old own leg) (λ own. fold post_old own legs) session
+    (posting place leg.tree leg.old session) (posting_old place legs (post_old session leg))
+
+reading_roots : (place : ℕ → ℕ) (trees : List ℕ) (session : SessionValue)
+    → TakesReads place (λ own. fold read_root own trees) session
+reading_roots place [] session = no_step place session
+reading_roots place (tree ∷ trees) session =
+    one_after_another place (λ own. read_root own tree) (λ own. fold read_root own trees) session
+    (reading place tree session) (reading_roots place trees (read_root session tree))
+
+judging : (place : ℕ → ℕ) (fields : List FieldValue) (order : OrderValue) (legs : List Leg)
+    (refusal : Option Refusal) (session : SessionValue)
+    → TakesReads place (after_verdict fields order legs refusal) session
+judging place fields order legs None session = sending place fields order session
+judging place fields order legs (Some refusal) session =
+    one_after_another place (λ own. fold post_old own legs) (after_refusing fields refusal) session
+    (posting_old place legs session) (refusing place fields refusal (fold post_old session legs))
+
+-- no verdict reads a place
+first_above-placed : (place : ℕ → ℕ) (legs : List Leg) (reads : List SeenAt)
+    → first_above legs (map (seen_placed place) reads) ≡ first_above legs reads
+first_above-placed place [] reads = refl
+first_above-placed place (leg ∷ legs) [] = refl
+first_above-placed place (leg ∷ legs) (seen ∷ reads) =
+    ap (λ later. if nat_lt leg.limit seen.value then Some leg.refusal else later)
+    (first_above-placed place legs reads)
+
+admitting : (place : ℕ → ℕ) (fields : List FieldValue) (order : OrderValue) (legs : List Leg)
+    (session : SessionValue) → TakesReads place (after_admission fields order legs) session
+admitting place fields order legs session =
+    let verdict = verdict_of legs session.reads in
+    let read_all : SessionValue → SessionValue =
+    λ own. fold read_root (fold post_new own legs) (roots_of legs) in
+    as_another place (λ own. after_verdict fields order legs verdict (read_all own))
+    (after_admission fields order legs) session refl
+    (ap (λ own. after_verdict fields order legs own (read_all (moved place session)))
+    (sym (first_above-placed place legs session.reads)))
+    (one_after_another place read_all (after_verdict fields order legs verdict) session
+    (one_after_another place (λ own. fold post_new own legs)
+    (λ own. fold read_root own (roots_of legs)) session
+    (posting_new place legs session)
+    (reading_roots place (roots_of legs) (fold post_new session legs)))
+    (judging place fields order legs verdict (read_all session)))
+
+checking : (place : ℕ → ℕ) (fields : List FieldValue) (order : OrderValue) (legs : List Leg)
+    (refusal : Option Refusal) (session : SessionValue)
+    → TakesReads place (after_checks fields order legs refusal) session
+checking place fields order legs None session = admitting place fields order legs session
+checking place fields order legs (Some refusal) session = refusing place fields refusal session
+
+-- the legs of an order don't know places
+legs_of-moved : (place : ℕ → ℕ) (limits : LimitsValue) (session : SessionValue) (order : OrderValue)
+    → legs_of limits (moved place session) order ≡ legs_of limits session order
+legs_of-moved place limits session order =
+    rw (last_post-placed place 0 session.acts) refl
+
+few_left-moved : (place : ℕ → ℕ) (limits : LimitsValue) (acts : List Act) (legs : List Leg)
+    → list_any (λ leg. nat_lt limits.quota (posts_in leg.tree (map (placed place) acts) + 2)) legs
+    ≡ list_any (λ leg. nat_lt limits.quota (posts_in leg.tree acts + 2)) legs
+few_left-moved place limits acts [] = refl
+few_left-moved place limits acts (leg ∷ legs) =
+    ap (λ count. nat_lt limits.quota (count + 2) || list_any (λ own. nat_lt limits.quota
+    (posts_in own.tree (map (placed place) acts) + 2)) legs)
+    (posts_in-placed place leg.tree acts)
+    ∙ ap (λ later. nat_lt limits.quota (posts_in leg.tree acts + 2) || later)
+    (few_left-moved place limits acts legs)
+
+early_refusal-moved : (place : ℕ → ℕ) (limits : LimitsValue) (session : SessionValue)
+    (legs : List Leg)
+    → early_refusal limits (moved place session) legs ≡ early_refusal limits session legs
+early_refusal-moved place limits session legs =
+    rw (few_left-moved place limits session.acts legs) refl
+
+ordering : (place : ℕ → ℕ) (limits : LimitsValue) (fields : List FieldValue)
+    (session : SessionValue) → TakesReads place (after_order limits fields) session
+ordering place limits fields session =
+    let order = order_of fields in
+    let legs = legs_of limits session order in
+    let refusal = early_refusal limits session legs in
+    let refusal_moved : early_refusal limits (moved place session)
+    (legs_of limits (moved place session) order) ≡ refusal =
+    ap (early_refusal limits (moved place session)) (legs_of-moved place limits session order)
+    ∙ early_refusal-moved place limits session legs in
+    as_another place (after_checks fields order legs refusal) (after_order limits fields) session
+    refl
+    (ap (λ own. after_checks fields order own refusal (moved place session))
+    (sym (legs_of-moved place limits session order))
+    ∙ ap (λ own. after_checks fields order (legs_of limits (moved place session) order) own
+    (moved place session)) (sym refusal_moved))
+    (checking place fields order legs refusal session)
+
+-- a frame takes so many reads and doesn't see their places
+pub framing : (place : ℕ → ℕ) (limits : LimitsValue) (fields : Option (List FieldValue))
+    (session : SessionValue) → TakesReads place (after_frame limits fields) session
+framing place limits None session = no_step place session
+framing place limits (Some fields) session =
+    let named : SessionValue =
+    record session { client_id = client_after fields session.client_id } in
+    let own = ordering place limits fields named in
+    record {
+      used = own.used;
+      made = own.made;
+      left = own.left;
+      same = λ enough.
+          ap (λ (after : SessionValue). record after { frames = session.frames + 1 })
+          (own.same enough);
+    }

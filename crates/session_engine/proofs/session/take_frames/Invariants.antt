@@ -1,0 +1,27 @@
+-- What holds between two frames.
+use Rattle.std.proofs.Common.{◌≡◌, ◌≤◌, ◌<◌, ◌-◌, length, vec_len, vec_capacity}
+use Rattle.std.specs.BTreeSet.{contains}
+use Rattle.std.specs.Ordering.{nat_cmp}
+use Rattle.std.specs.Cmp.Lexicographic.{slice_cmp}
+use Rattle.session_engine.specs.LimitsOf.{limits_value}
+use Rattle.session_engine.specs.Stands.{InStep}
+use Rattle.session_engine.specs.Runs.{RunsTo}
+use Rattle.session_engine.proofs.session.take_frames.Given as goal
+abbrev pub invariant-loop-frame : goal.invariant-loop-frame
+invariant-loop-frame g l = record {
+  step : InStep (g.H.Hand.meaning l.hand) l.state.acts.items l.state.totals;
+  quota : (g.H.Hand.meaning l.hand).quota ≡ l.limits.quota;
+  origin : g.H.Hand.SameOrigin l.initial.hand l.hand;
+  room : vec_len l.state.acts < vec_capacity l.state.acts;
+  runs : RunsTo (limits_value l.limits) l.bytes l.place (contains (slice_cmp nat_cmp) l.state.ids)
+      l.state.acts.items l.state.totals
+      (g.V.Sink.held l.initial.sinks.venue) (g.V.Sink.held l.sinks.venue)
+      (g.C.Sink.held l.initial.sinks.client) (g.C.Sink.held l.sinks.client);
+  venue_later : g.V.Sink.faults l.initial.sinks.venue ≤ g.V.Sink.faults l.sinks.venue;
+  client_later : g.C.Sink.faults l.initial.sinks.client ≤ g.C.Sink.faults l.sinks.client;
+  venue_name : g.V.Sink.name l.sinks.venue ≡ g.V.Sink.name l.initial.sinks.venue;
+  client_name : g.C.Sink.name l.sinks.client ≡ g.C.Sink.name l.initial.sinks.client;
+}
+
+abbrev pub decreases-loop-frame : goal.decreases-loop-frame
+decreases-loop-frame g l = length l.bytes - l.place

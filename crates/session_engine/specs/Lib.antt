@@ -1,0 +1,16 @@
+pub mod Admitted
+pub mod Answers
+pub mod Counted
+pub mod FieldRows
+pub mod Follows
+pub mod Ids
+pub mod LimitsOf
+pub mod Orders
+pub mod Parts
+pub mod Reaches
+pub mod Runs
+pub mod Session
+pub mod Slotted
+pub mod Stands
+pub mod Taken
+pub mod Trees

@@ -1,0 +1,232 @@
+//! A session: its input is fetched, its frames are taken one after another, and it ends.
+ghost use Rattle.std.specs.Prelude.{◌≡◌, ℕ, ◌+◌, ◌≤◌, ◌<◌, List, [], ◌∷◌, ◌++◌, ◌⊎◌, IsTrue, vec_len, vec_capacity, length, take};
+ghost use Rattle.std.specs.BTreeSet.{contains, IsEmpty};
+ghost use Rattle.fold_law.specs.declared.limits.TheConstants.{LEAF};
+ghost use Rattle.risk_board.specs.Hands.{KeepsOrigin};
+ghost use Rattle.gate_ports.specs.Faults.{Rose};
+ghost use Rattle.risk_journal.specs.ActLists.{calls_of};
+ghost use Rattle.session_engine.specs.Follows.{IsByInput, FollowsSource, EndsAs};
+ghost use Rattle.session_engine.specs.LimitsOf.{limits_value};
+ghost use Rattle.session_engine.specs.Stands.{InStep};
+ghost use Rattle.session_engine.specs.Runs.{RunsTo, StopsBy, end_after};
+ghost use Rattle.session_engine.specs.Counted.{no_totals};
+
+use crate::limits::Limits;
+use crate::take::{Sinks, State, Step, take_frame};
+use crate::totals::Totals;
+use fix_fields::{Found, Id, Writer, frame_is_within, frame_stays, next_frame};
+use gate_ports::{FetchEnd, Sink, Source, fetch_up_to};
+use risk_board::Hand;
+use risk_journal::{Act, End};
+use std::alloc::Global;
+use std::collections::BTreeSet;
+
+/// The most bytes of a session's input.
+const INPUT_MOST: usize = 33_554_432;
+
+/// Why no more frames were taken.
+#[derive(Clone, Copy, Debug, PartialEq, Eq)]
+pub(crate) enum Stop {
+    /// After the last frame taken, which ends at a place, this stands: no frame, or a frame that isn't
+    /// one of this stage.
+    Found { place: usize, next: Found },
+    /// A fault in a frame.
+    Fault(End),
+}
+
+/// Takes frames up to the first that isn't one of this stage.
+fn take_frames<H: Hand, V: Sink, C: Sink>(
+    limits: &Limits,
+    hand: &mut H,
+    state: &mut State,
+    sinks: &mut Sinks<V, C>,
+    bytes: &[u8],
+) -> Stop
+    requires step { InStep (H.meaning hand.old) state.old.acts.items state.old.totals }
+    requires quota { (H.meaning hand.old).quota ≡ limits.now.quota }
+    requires room { vec_len state.old.acts < vec_capacity state.old.acts }
+    requires few { length bytes.now ≤ 33554432 }
+    requires runs { RunsTo (limits_value limits.now) bytes.now 0
+        (contains ⟦<Id as Ord>⟧.cmp state.old.ids) state.old.acts.items state.old.totals
+        (V.held sinks.old.venue) (V.held sinks.old.venue)
+        (C.held sinks.old.client) (C.held sinks.old.client) }
+    ensures step { InStep (H.meaning hand.new) state.new.acts.items state.new.totals }
+    ensures origin { H.SameOrigin hand.old hand.new }
+    ensures room { vec_len state.new.acts < vec_capacity state.new.acts }
+    ensures found { StopsBy (limits_value limits.now) bytes.now result state.new.acts.items
+        (V.held sinks.old.venue) (V.held sinks.new.venue)
+        (C.held sinks.old.client) (C.held sinks.new.client) }
+    ensures write_fault { result ≡ Stop.Fault End.WriteFault
+        → Rose (V.faults sinks.old.venue) (V.faults sinks.new.venue)
+        ⊎ Rose (C.faults sinks.old.client) (C.faults sinks.new.client) }
+    ensures kinds { (end : End) → result ≡ Stop.Fault end
+        → (end ≡ End.WriteFault) ⊎ (end ≡ End.Memory) }
+    ensures venue_later { V.faults sinks.old.venue ≤ V.faults sinks.new.venue }
+    ensures client_later { C.faults sinks.old.client ≤ C.faults sinks.new.client }
+    ensures venue_name { V.name sinks.new.venue ≡ V.name sinks.old.venue }
+    ensures client_name { C.name sinks.new.client ≡ C.name sinks.old.client }
+{
+    frame_is_within();
+    let mut place = 0;
+    loop {
+        let next = next_frame(bytes, place);
+        let Found::Frame(frame) = next else {
+            return Stop::Found { place, next };
+        };
+        match take_frame(limits, hand, state, sinks, bytes, &frame) {
+            Step::Taken => place = frame.end,
+            Step::Other => return Stop::Found { place, next },
+            Step::Fault(end) => return Stop::Fault(end),
+        }
+    }
+}
+
+/// A session that has ended.
+#[derive(Drop)]
+pub struct SessionDone<H, S, V, C> {
+    pub hand: H,
+    pub acts: Vec<Act>,
+    pub end: End,
+    pub source: S,
+    pub venue: V,
+    pub client: C,
+}
+
+/// The bytes that a session reads of those that were fetched.
+fn input_of(bytes: &[u8]) -> &[u8]
+    ensures { result.now ≡ take 33554432 bytes.now }
+{
+    if bytes.len() > INPUT_MOST {
+        &bytes[..INPUT_MOST]
+    } else {
+        bytes
+    }
+}
+
+/// How a session ends whose frames were taken up to a place, where this stands next.
+fn end_after(fetch: FetchEnd, goes_on: bool, place: usize, next: Found) -> End
+    ensures { result ≡ end_after fetch goes_on place next }
+{
+    match next {
+        Found::Frame(frame) => End::NotBuilt(frame.start as u64),
+        _ if fetch == FetchEnd::Failed => End::ReadFault,
+        _ if fetch == FetchEnd::Memory => End::Memory,
+        _ if goes_on => End::NotBuilt(place as u64),
+        Found::End => End::Whole,
+        Found::Cut(at) | Found::Broken(at) | Found::TooLong(at) => End::NotBuilt(at as u64),
+    }
+}
+
+/// Runs a session up to its end, over at most so many bytes of its source.
+pub fn run_session<H: Hand, S: Source, V: Sink, C: Sink>(
+    alloc: Global,
+    limits: &Limits,
+    mut hand: H,
+    mut source: S,
+    venue: V,
+    client: C,
+) -> SessionDone<H, S, V, C>
+    requires trees { 1 ≤ (H.meaning hand).trees }
+    requires quota { (H.meaning hand).quota ≡ limits.now.quota }
+    requires cap { (H.meaning hand).cap ≡ LEAF }
+    requires idle { (H.meaning hand).calls ≡ [] }
+    ensures origin { H.SameOrigin hand result.hand }
+    ensures calls { (H.meaning result.hand).calls ≡ calls_of result.acts.items }
+    ensures follows { IsByInput result.end → FollowsSource (limits_value limits.now) (S.left source)
+        result.acts.items result.end (V.held venue) (V.held result.venue)
+        (C.held client) (C.held result.client) }
+    ensures read_fault { result.end ≡ End.ReadFault
+        → Rose (S.faults source) (S.faults result.source) }
+    ensures write_fault { result.end ≡ End.WriteFault
+        → Rose (V.faults venue) (V.faults result.venue)
+        ⊎ Rose (C.faults client) (C.faults result.client) }
+    ensures source_later { S.faults source ≤ S.faults result.source }
+    ensures venue_later { V.faults venue ≤ V.faults result.venue }
+    ensures client_later { C.faults client ≤ C.faults result.client }
+    ensures source_name { S.name result.source ≡ S.name source }
+    ensures venue_name { V.name result.venue ≡ V.name venue }
+    ensures client_name { C.name result.client ≡ C.name client }
+    ensures whole { result.end ≡ End.Whole → IsTrue (S.is_ended result.source) }
+    ensures ends { EndsAs result.acts.items result.end }
+{
+    let mut state = State {
+        acts: Vec::new(alloc),
+        ids: BTreeSet::new(alloc),
+        totals: Totals::zero(),
+        writer: Writer::new(),
+    };
+    if state.acts.reserve(1).is_err() {
+        return SessionDone {
+            hand,
+            acts: state.acts,
+            end: End::Memory,
+            source,
+            venue,
+            client,
+        };
+    }
+    let mut sinks = Sinks { venue, client };
+    let end = run_frames(
+        alloc,
+        limits,
+        &mut hand,
+        &mut source,
+        &mut state,
+        &mut sinks,
+    );
+    state.acts.push_reserved(Act::Ended { end });
+    SessionDone {
+        hand,
+        acts: state.acts,
+        end,
+        source,
+        venue: sinks.venue,
+        client: sinks.client,
+    }
+}
+
+/// Fetches the input and takes its frames, and says how the session ends.
+fn run_frames<H: Hand, S: Source, V: Sink, C: Sink>(
+    alloc: Global,
+    limits: &Limits,
+    hand: &mut H,
+    source: &mut S,
+    state: &mut State,
+    sinks: &mut Sinks<V, C>,
+) -> End
+    requires step { InStep (H.meaning hand.old) state.old.acts.items state.old.totals }
+    requires quota { (H.meaning hand.old).quota ≡ limits.now.quota }
+    requires room { vec_len state.old.acts < vec_capacity state.old.acts }
+    requires acts { state.old.acts.items ≡ [] }
+    requires ids { IsEmpty state.old.ids }
+    requires totals { state.old.totals ≡ no_totals }
+    ensures step { InStep (H.meaning hand.new) state.new.acts.items state.new.totals }
+    ensures origin { H.SameOrigin hand.old hand.new }
+    ensures room { vec_len state.new.acts < vec_capacity state.new.acts }
+    ensures follows { IsByInput result → FollowsSource (limits_value limits.now) (S.left source.old)
+        (state.new.acts.items ++ Act.Ended result ∷ []) result
+        (V.held sinks.old.venue) (V.held sinks.new.venue)
+        (C.held sinks.old.client) (C.held sinks.new.client) }
+    ensures read_fault { result ≡ End.ReadFault → Rose (S.faults source.old) (S.faults source.new) }
+    ensures write_fault { result ≡ End.WriteFault
+        → Rose (V.faults sinks.old.venue) (V.faults sinks.new.venue)
+        ⊎ Rose (C.faults sinks.old.client) (C.faults sinks.new.client) }
+    ensures whole { result ≡ End.Whole → IsTrue (S.is_ended source.new) }
+    ensures source_later { S.faults source.old ≤ S.faults source.new }
+    ensures venue_later { V.faults sinks.old.venue ≤ V.faults sinks.new.venue }
+    ensures client_later { C.faults sinks.old.client ≤ C.faults sinks.new.client }
+    ensures source_name { S.name source.new ≡ S.name source.old }
+    ensures venue_name { V.name sinks.new.venue ≡ V.name sinks.old.venue }
+    ensures client_name { C.name sinks.new.client ≡ C.name sinks.old.client }
+{
+    frame_stays();
+    let fetched = fetch_up_to(alloc, source, INPUT_MOST + 1);
+    if fetched.end == FetchEnd::Memory {
+        return End::Memory;
+    }
+    let goes_on = fetched.bytes.len() > INPUT_MOST;
+    match take_frames(limits, hand, state, sinks, input_of(&fetched.bytes)) {
+        Stop::Fault(end) => end,
+        Stop::Found { place, next } => end_after(fetched.end, goes_on, place, next),
+    }
+}
