@@ -1,7 +1,7 @@
 -- The tag in front of a text is read in one way.
 use Rattle.std.proofs.Common.{◌≡◌, ◌≢◌, ℕ, ◌+◌, ◌<◌, ◌≤◌, ◌^◌, List, ◌∷◌, ◌++◌, length, take}
 use Rattle.std.proofs.Common.{drop}
-use Rattle.std.proofs.Common.{refl, ap, sym, ◌∙◌, arith, zero, suc, true, decimal, slice_index}
+use Rattle.std.proofs.Common.{refl, ap, sym, ◌∙◌, arith, zero, suc, min, true, decimal, slice_index}
 use Rattle.std.proofs.Common.{length-take}
 use Rattle.std.proofs.lemmas.Fmt.{decimal-digits_value, first_decimal, length-decimal-le}
 use Rattle.std.proofs.lemmas.Fmt.{decimal_nonempty, decimal_digit, decimal_injective}
@@ -12,7 +12,7 @@ use Rattle.std.specs.List.{list_all, prefix_len}
 use Rattle.std.specs.Char.{is_ascii_digit}
 use Rattle.std.specs.Str.Parse.{digits_value}
 use Rattle.fix_fields.specs.FieldPlaces.{IsTagCut, BeginsTag}
-use Rattle.fix_fields.proofs.Cuts.{cut_at, cut_is, prefix_all}
+use Rattle.fix_fields.proofs.Cuts.{cut_at, cut_is, front_all}
 use Rattle.fix_fields.proofs.FieldList.{numerals, decimal_digits, one_split}
 
 -- the digits of a tag are what its number is written as
@@ -40,14 +40,14 @@ tag_number digits each some few first =
     }
 
 -- so many digits and an equals sign are a tag
-pub tag_front : (text : List ℕ) (n : ℕ) → n ≡ prefix_len is_ascii_digit text → IsTagCut text n
-    → IsTagNumber (take n text)
-tag_front text n e cut =
+pub tag_front : (text : List ℕ) (n : ℕ) → n ≤ prefix_len is_ascii_digit text → n ≤ 6
+    → IsTagCut text n → IsTagNumber (take n text)
+tag_front text n digits few cut =
     let count = length-take n text in
     let first : slice_index (take n text) 0 ≢ 48 =
     λ z. cut.first (sym (get_or-take n text 0 0 cut.some) ∙ z) in
-    tag_number (take n text) (rw e (prefix_all text)) (omega (arith, count, cut.some, cut.inside))
-    (omega (arith, count, cut.few)) first
+    tag_number (take n text) (front_all n text digits) (omega (arith, count, cut.some, cut.inside))
+    (omega (arith, count, few)) first
 
 pub tag_there : (text : List ℕ) (n : ℕ) → IsTagCut text n → IsTagNumber (take n text)
     → BeginsTag text (digits_value 10 (take n text)) (n + 1)
@@ -60,9 +60,9 @@ tag_there text n cut number = record {
       ∙ ap (λ d. d ++ 61 ∷ drop (n + 1) text) (sym number.spelled);
 }
 
--- where a tag stands, it is found
+-- where a tag stands, it is found in the first bytes
 pub tag_cut : (text : List ℕ) (tag from : ℕ) → BeginsTag text tag from
-    → IsTagCut text (prefix_len is_ascii_digit text)
+    → IsTagCut text (min 6 (prefix_len is_ascii_digit text))
 tag_cut text tag from h =
     let small : tag < 2 ^ 64 = omega (arith, h.most) in
     let cut = cut_is text (decimal tag) 61 (drop from text) refl
@@ -72,17 +72,15 @@ tag_cut text tag from h =
     ap (λ t. slice_index t 0) h.spelled
     ∙ get_or_append_left (decimal tag) (61 ∷ drop from text) 0 0 some in
     let first = first_decimal tag h.least small in
-    record {
+    let short = length-decimal-le 6 tag (omega arith) (omega (arith, h.most)) small in
+    let same : min 6 (prefix_len is_ascii_digit text) ≡ prefix_len is_ascii_digit text =
+    omega (arith, cut.counted, short) in
+    rw same (record {
       some = omega (arith, cut.counted);
-      few = omega (
-        arith,
-        cut.counted,
-        length-decimal-le 6 tag (omega arith) (omega (arith, h.most)) small,
-      );
       inside = cut.inside;
       ended = cut.ended;
       first = λ e. omega (arith, e, front, first);
-    }
+    })
 
 -- a text begins with at most one tag
 pub record IsSameTag (t a u b : ℕ) : Type 0 where

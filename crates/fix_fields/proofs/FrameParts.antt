@@ -9,10 +9,12 @@ use Rattle.std.proofs.Math.Seq.{take-append_seam}
 use Rattle.std.specs.List.{last_or}
 use Rattle.std.specs.Str.Parse.{digits_value}
 use Rattle.fix_fields.specs.Fields.{soh}
-use Rattle.fix_fields.specs.Frames.{IsFrameText, begin_text}
-use Rattle.fix_fields.specs.Parts.{CutsDigits, CutsBody, CutsTrailer, IsBodyLength}
+use Rattle.fix_fields.specs.Frames.{IsFrameText, head_text}
+use Rattle.fix_fields.specs.Rests.{BeginsHead}
+use Rattle.fix_fields.specs.Parts.{CutsBody, CutsTrailer, CutsTail, IsBodyLength}
 use Rattle.fix_fields.specs.Parts.{EndsThere}
-use Rattle.fix_fields.proofs.OneFrame.{digits_then_soh, same_length, regroup}
+use Rattle.fix_fields.proofs.OneFrame.{same_length}
+use Rattle.fix_fields.proofs.Heads.{one_head, behind_head}
 
 -- the last of the first bytes
 last_taken : (o : Option ℕ) (text : List ℕ) (n : ℕ) → n < length text
@@ -29,85 +31,70 @@ last_of text n some h =
     (last_taken None text (n - 1) (omega arith))
 
 -- where a body is cut off, it ends there
-pub body_ends : (text digits body more : List ℕ) (n : ℕ) → n ≡ length body
-    → CutsBody text digits body more → EndsThere text n
-body_ends text digits body more n e cut =
+pub body_ends : (text : List ℕ) (count : ℕ) (body more : List ℕ) → CutsBody text count body more
+    → EndsThere text count
+body_ends text count body more cut =
     let longer = ap length cut.spelled ∙ length-append body more in
-    let front : take n text ≡ body = ap (λ k. take k text) e ∙ ap (take (length body)) cut.spelled
-    ∙ take-append_seam body more in
-    let last = last_of text n (omega (arith, cut.is_body.some)) (omega arith) in
-    let ended : last_or None (take n text) ≡ Some soh = ap (last_or None) front
-    ∙ cut.is_body.ended in
-    record { inside = omega arith; ended = cc }
+    let front : take count text ≡ body = ap (λ k. take k text) (sym cut.counted)
+    ∙ ap (take (length body)) cut.spelled ∙ take-append_seam body more in
+    let last = last_of text count (omega (arith, cut.counted, cut.some))
+    (omega (arith, cut.counted)) in
+    let ended : last_or None (take count text) ≡ Some soh = ap (last_or None) front ∙ cut.ended in
+    record { some = omega (arith, cut.counted, cut.some); ended = cc }
 
 -- where a body's length ends with SOH, the body is cut off
-pub body_there : (text digits : List ℕ) (n : ℕ) → IsBodyLength digits n → EndsThere text n
-    → CutsBody text digits (take n text) (drop n text)
-body_there text digits n is ends =
-    let count : length (take n text) ≡ n = omega (arith, length-take n text, ends.inside) in
+pub body_there : (text : List ℕ) (count : ℕ) → count ≤ length text → EndsThere text count
+    → CutsBody text count (take count text) (drop count text)
+body_there text count inside ends =
+    let size : length (take count text) ≡ count = omega (arith, length-take count text, inside) in
     record {
-      spelled = sym (take-append-drop n text);
-      is_body = record {
-        counted = sym is.value ∙ sym count;
-        some = omega (arith, is.least);
-        few = omega (arith, is.most);
-        ended = last_of text n is.least ends.inside ∙ ap Some ends.ended;
-      };
+      spelled = sym (take-append-drop count text);
+      counted = size;
+      some = omega (arith, ends.some);
+      ended = last_of text count ends.some inside ∙ ap Some ends.ended;
     }
 
 -- the parts make a frame
-pub parts_make : (rest after d x b y s m : List ℕ) → rest ≡ begin_text ++ after
-    → CutsDigits after 1 7 d x → CutsBody x d b y → CutsTrailer y s m → IsFrameText rest d b s m
-parts_make rest after d x b y s m begun head middle tail = record {
-  spelled = begun ∙ ap (λ t. begin_text ++ t) (head.spelled ∙ ap (λ t. d ++ soh ∷ t)
-      (middle.spelled ∙ ap (λ t. b ++ t) tail.spelled)) ∙ sym (regroup d b s m);
-  length_spelled = head.are_digits;
-  sum_spelled = tail.are_digits;
-  counted = middle.is_body.counted;
-  some = middle.is_body.some;
-  few = middle.is_body.few;
-  ended = middle.is_body.ended;
+pub parts_make : (rest d after b s m : List ℕ) (count : ℕ) → BeginsHead rest d after
+    → IsBodyLength d count → CutsTail after count b s m → IsFrameText rest d b s m
+parts_make rest d after b s m count head size tail = record {
+  spelled = head.spelled ∙ ap (λ t. head_text d ++ t) (tail.body_is.spelled
+      ∙ ap (λ t. b ++ t) tail.trailer_is.spelled) ∙ sym (behind_head d b s m);
+  length_spelled = head.length_spelled;
+  sum_spelled = tail.trailer_is.are_digits;
+  counted = sym size.value ∙ sym tail.body_is.counted;
+  some = tail.body_is.some;
+  few = omega (arith, size.most, tail.body_is.counted);
+  ended = tail.body_is.ended;
 }
 
-module _ (rest d b s m : List ℕ) (h : IsFrameText rest d b s m) where
-  -- what stands behind a frame's head, and behind its body
-  abbrev pub after_body : List ℕ
-  after_body = codes "10=" ++ (s ++ soh ∷ m)
+-- the head of a frame, and the frame's other parts behind a head
+pub frame_head : (rest d b s m : List ℕ) → IsFrameText rest d b s m
+    → BeginsHead rest d (b ++ (codes "10=" ++ (s ++ soh ∷ m)))
+frame_head rest d b s m h = record {
+  spelled = h.spelled ∙ behind_head d b s m;
+  length_spelled = h.length_spelled;
+}
 
-  abbrev pub after_head : List ℕ
-  after_head = b ++ after_body
-
-  pub begin_cut : rest ≡ begin_text ++ (d ++ soh ∷ after_head)
-  begin_cut = h.spelled ∙ regroup d b s m
-
-  module _ (after : List ℕ) (begun : rest ≡ begin_text ++ after) where
-    pub head_cut : CutsDigits after 1 7 d after_head
-    head_cut = record {
-      spelled = (same_length begin_text begin_text after (d ++ soh ∷ after_head) refl (sym begun
-          ∙ begin_cut)).1;
-      are_digits = h.length_spelled;
+pub tail_cut : (rest d b s m e after : List ℕ) (count : ℕ) → IsFrameText rest d b s m
+    → BeginsHead rest e after → IsBodyLength e count → CutsTail after count b s m
+tail_cut rest d b s m e after count h head size =
+    let same = one_head rest d _ e after (frame_head rest d b s m h) head in
+    record {
+      after_body = codes "10=" ++ (s ++ soh ∷ m);
+      body_is = record {
+        spelled = sym same.more;
+        counted = sym h.counted ∙ ap (digits_value 10) same.digits ∙ sym size.value;
+        some = h.some;
+        ended = h.ended;
+      };
+      trailer_is = record { spelled = refl; are_digits = h.sum_spelled };
     }
 
-    module _ (e x : List ℕ) (head : CutsDigits after 1 7 e x) where
-      heads : (d ≡ e) × (after_head ≡ x)
-      heads = digits_then_soh d e after_head x h.length_spelled.each head.are_digits.each
-          (sym head_cut.spelled ∙ head.spelled)
-
-      pub body_cut : CutsBody x e b after_body
-      body_cut = record {
-        spelled = sym heads.1;
-        is_body = record {
-          counted = ap (digits_value 10) (sym heads.0) ∙ h.counted;
-          some = h.some;
-          few = h.few;
-          ended = h.ended;
-        };
-      }
-
-      pub trailer_cut : (c y : List ℕ) → CutsBody x e c y → CutsTrailer y s m
-      trailer_cut c y middle = record {
-        spelled = sym (same_length b c after_body y (sym body_cut.is_body.counted
-            ∙ middle.is_body.counted)
-            (sym body_cut.spelled ∙ middle.spelled)).1;
-        are_digits = h.sum_spelled;
-      }
+-- a body and a trailer are cut off one after another
+pub trailer_cut : (text : List ℕ) (count : ℕ) (b y c s m : List ℕ) → CutsBody text count b y
+    → CutsTail text count c s m → CutsTrailer y s m
+trailer_cut text count b y c s m body tail =
+    let same = same_length b c y tail.after_body (body.counted ∙ sym tail.body_is.counted)
+    (sym body.spelled ∙ tail.body_is.spelled) in
+    subst (λ t. CutsTrailer t s m) (sym same.1) tail.trailer_is

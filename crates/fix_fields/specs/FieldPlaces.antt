@@ -5,10 +5,9 @@ use Rattle.fix_fields.specs.Fields.{FieldValue, field_text, IsField, AreFields}
 use Rattle.fix_fields.specs.Places.{field_at}
 use Rattle.fix_fields.specs.declared.walk.Field.{Field}
 
--- so many bytes are a tag's digits: few, the first not 0, and an equals sign behind them
+-- so many digits are those of a tag: the first isn't 0, and an equals sign stands behind them
 pub record IsTagCut (text : List ℕ) (count : ℕ) : Type 0 where
   pub some : 1 ≤ count
-  pub few : count ≤ 6
   pub inside : count < length text
   pub ended : slice_index text count ≡ 61
   pub first : slice_index text 0 ≢ 48

@@ -1,7 +1,8 @@
 -- What stands from a place on, and how bytes split into frames.
-use Rattle.std.specs.Prelude.{◌≡◌, ℕ, ◌≤◌, List, [], ◌∷◌, length, Option, is_some}
+use Rattle.std.specs.Prelude.{◌≡◌, ℕ, ◌≤◌, ◌<◌, List, [], ◌∷◌, length, drop, Option, is_some}
 use Rattle.fix_fields.specs.Fields.{FieldValue}
 use Rattle.fix_fields.specs.Frames.{FrameValue, IsFrameAt, message_place}
+use Rattle.fix_fields.specs.Rests.{IsCutText, IsBrokenText, IsTooLongText}
 use Rattle.fix_fields.specs.declared.frame.Frame.{Frame}
 use Rattle.fix_fields.specs.declared.frame.Found.{Found}
 use Rattle.fix_fields.specs.declared.frame.Found.TheVariants.{Cut, Broken, TooLong}
@@ -15,25 +16,31 @@ frame_value f fields = record { place = f.start; end = f.end; fields = fields }
 abbrev pub StandsAt : List ℕ → ℕ → Frame → Option (List FieldValue) → Type 0
 StandsAt bytes from f fields = IsFrameAt bytes from (frame_value f fields) f.body_from f.body_to
 
--- a frame begins there, sound or not
-abbrev pub BeginsFrame : List ℕ → ℕ → Type 0
-BeginsFrame bytes from =
-    (frame : FrameValue) × (body_from : ℕ) × (body_to : ℕ) × IsFrameAt bytes from frame body_from body_to
-
 -- nothing but CR and LF is left
 abbrev pub IsAtEnd : List ℕ → ℕ → Type 0
 IsAtEnd bytes from = length bytes ≤ message_place bytes from
 
--- What is found from a place on. Until cut and overlong frames are told apart, each rest that is
--- neither a frame nor the end is broken.
+-- behind CR and LF a rest is left, and begins at this place
+pub record LeavesRest (bytes : List ℕ) (from place : ℕ) : Type 0 where
+  pub begins : place ≡ message_place bytes from
+  pub some : place < length bytes
+
+-- What is found from a place on: a frame, the end, or why the rest that is left begins with no frame.
 abbrev pub Finds : List ℕ → ℕ → Found → Type 0
 Finds bytes from (found.Frame f) =
     (fields : Option (List FieldValue)) × StandsAt bytes from f fields × (f.sound ≡ is_some fields)
 Finds bytes from found.End = IsAtEnd bytes from
-Finds bytes from (Cut place) = ⊥
-Finds bytes from (Broken place) =
-    (IsAtEnd bytes from → ⊥) × (BeginsFrame bytes from → ⊥) × (place ≡ message_place bytes from)
-Finds bytes from (TooLong place) = ⊥
+Finds bytes from (Cut place) = LeavesRest bytes from place × IsCutText (drop place bytes)
+Finds bytes from (Broken place) = LeavesRest bytes from place × IsBrokenText (drop place bytes)
+Finds bytes from (TooLong place) = LeavesRest bytes from place × IsTooLongText (drop place bytes)
+
+-- an answer that no bytes behind can change
+abbrev pub IsSettled : Found → Type 0
+IsSettled (found.Frame f) = Unit {0}
+IsSettled found.End = ⊥
+IsSettled (Cut place) = ⊥
+IsSettled (Broken place) = Unit {0}
+IsSettled (TooLong place) = Unit {0}
 
 -- from a place on, the bytes are these frames, and then the next thing found
 abbrev pub Splits : List ℕ → ℕ → List FrameValue → Found → Type 0

@@ -1,5 +1,6 @@
 pub mod Fields
 pub mod Frames
+pub mod Rests
 pub mod Found
 pub mod Places
 pub mod Parts

@@ -14,11 +14,14 @@ use crate::number::number_after;
 use crate::walk::Field;
 use memchr::memchr;
 
+/// The most digits of a tag.
+const TAG_DIGITS: usize = 6;
+
 /// Whether so many digits in front are those of a tag.
 fn is_tag_cut(text: &[u8], count: usize) -> bool
     ensures { IsTrue result ↔ IsTagCut text.now count }
 {
-    1 <= count && count <= 6 && count < text.len() && text[count] == b'=' && text[0] != b'0'
+    1 <= count && count < text.len() && text[count] == b'=' && text[0] != b'0'
 }
 
 /// The tag in front, and the place after the equals sign behind it.
@@ -26,7 +29,7 @@ fn first_tag(text: &[u8]) -> Option<(u32, usize)>
     ensures some { IfSome result (λ t. BeginsTag text.now t.0 t.1) }
     ensures none { IfNone result ((tag : ℕ) (from : ℕ) → BeginsTag text.now tag from → ⊥) }
 {
-    let count = digit_count(text);
+    let count = digit_count(text, TAG_DIGITS);
     if !is_tag_cut(text, count) {
         return None;
     }

@@ -1,12 +1,13 @@
 //! The frame at a place.
-ghost use Rattle.std.specs.Prelude.{◌≡◌, ℕ, ◌+◌, ◌≤◌, List, length, drop, IfSome, IfNone};
+ghost use Rattle.std.specs.Prelude.{◌≡◌, ◌+◌, ◌≤◌, length, drop, IfOk, IfErr};
 ghost use Rattle.std.specs.List.{prefix_len};
 ghost use Rattle.fix_fields.specs.Fields.{checksum_of};
 ghost use Rattle.fix_fields.specs.Found.{Finds};
-ghost use Rattle.fix_fields.specs.Frames.{is_line_end, message_place, IsFrameText};
+ghost use Rattle.fix_fields.specs.Frames.{is_line_end, message_place};
 ghost use Rattle.fix_fields.specs.FramePlaces.{StandsHere};
+ghost use Rattle.fix_fields.specs.Parts.{IsNoFrame};
 
-use crate::cut::cut_frame;
+use crate::cut::{NoFrame, cut_frame};
 use crate::field_reader::is_sound;
 
 /// Where a frame and its body stand, in places from 0.
@@ -27,10 +28,15 @@ pub struct Frame {
 /// What stands from a place on. Places are those of the first byte that isn't CR or LF.
 #[derive(Clone, Copy, Debug, PartialEq, Eq)]
 pub enum Found {
+    /// A whole frame, sound or not.
     Frame(Frame),
+    /// Nothing is left.
     End,
+    /// The bytes end before a frame could.
     Cut(usize),
+    /// No frame stands there, whatever bytes follow.
     Broken(usize),
+    /// A frame's head stands there whose BodyLength (9) is above 8,192.
     TooLong(usize),
 }
 
@@ -64,18 +70,17 @@ fn place_of_message(bytes: &[u8], from: usize) -> usize
     from + line_end_count(&bytes[from..])
 }
 
-/// The frame that begins right there, if one does.
-fn frame_at(bytes: &[u8], place: usize) -> Option<Frame>
+/// The frame that begins right there, or why none does.
+fn frame_at(bytes: &[u8], place: usize) -> Result<Frame, NoFrame>
     requires { place ≤ length bytes.now }
-    ensures some { IfSome result (λ f. StandsHere bytes.now place f) }
-    ensures none { IfNone result ((d : List ℕ) (b : List ℕ) (s : List ℕ) (m : List ℕ)
-        → IsFrameText (drop place bytes.now) d b s m → ⊥) }
+    ensures ok { IfOk result (λ f. StandsHere bytes.now place f) }
+    ensures err { IfErr result (λ why. IsNoFrame (drop place bytes.now) why) }
 {
     let rest = &bytes[place..];
     let parts = cut_frame(rest)?;
     let body_from = 13 + parts.length_digits.len();
     let body_to = body_from + parts.body.len();
-    Some(Frame {
+    Ok(Frame {
         start: place,
         body_from: place + body_from,
         body_to: place + body_to,
@@ -84,8 +89,7 @@ fn frame_at(bytes: &[u8], place: usize) -> Option<Frame>
     })
 }
 
-/// What stands from a place on. CR and LF before it are passed over. A rest that is neither a frame
-/// nor the end is broken.
+/// What stands from a place on. CR and LF before it are passed over.
 pub fn next_frame(bytes: &[u8], from: usize) -> Found
     requires { from ≤ length bytes.now }
     ensures { Finds bytes.now from result }
@@ -95,7 +99,9 @@ pub fn next_frame(bytes: &[u8], from: usize) -> Found
         return Found::End;
     }
     match frame_at(bytes, place) {
-        None => Found::Broken(place),
-        Some(frame) => Found::Frame(frame),
+        Ok(frame) => Found::Frame(frame),
+        Err(NoFrame::Cut) => Found::Cut(place),
+        Err(NoFrame::TooLong) => Found::TooLong(place),
+        Err(NoFrame::Broken) => Found::Broken(place),
     }
 }

@@ -4,8 +4,9 @@ ghost use Rattle.fix_fields.specs.Fields.{FieldValue};
 ghost use Rattle.fix_fields.specs.Places.{HasFieldsIn, IsSoundIn};
 
 use crate::{
-    Field, Found, Frame, checksum, fields, frame_is_within, frame_stays, next_frame,
-    one_frame_stands_there, one_list_is_spelled,
+    Field, Found, Frame, bytes_in_a_frame_are_cut, checksum, cut_is_short, fields, found_stays,
+    frame_is_within, frame_stays, next_frame, one_frame_stands_there, one_is_found,
+    one_list_is_spelled,
 };
 use std::test::Fail;
 
@@ -108,7 +109,7 @@ const ROWS: [(&str, &[u8], usize, Found); 29] = [
         "a second frame short of its last byte",
         b"8=FIX.4.4\x019=113\x0135=D\x0149=C1\x0156=GATE\x0134=1\x0152=20240102-10:00:00\x0111=a1\x011=ACC\x0155=XYZ\x0154=1\x0138=100\x0140=2\x0144=10.0000\x0160=20240102-10:00:00\x0110=175\x018=FIX.4.4\x019=113\x0135=D\x0149=C1\x0156=GATE\x0134=1\x0152=20240102-10:00:00\x0111=a1\x011=ACC\x0155=XYZ\x0154=1\x0138=100\x0140=2\x0144=10.0000\x0160=20240102-10:00:00\x0110=175",
         136,
-        Found::Broken(136),
+        Found::Cut(136),
     ),
     (
         "leading zeros in BodyLength",
@@ -150,7 +151,7 @@ const ROWS: [(&str, &[u8], usize, Found); 29] = [
         "a BodyLength one too high",
         b"8=FIX.4.4\x019=11\x0135=D\x0158=x\x0110=007\x01",
         0,
-        Found::Broken(0),
+        Found::Cut(0),
     ),
     (
         "another BeginString",
@@ -168,7 +169,7 @@ const ROWS: [(&str, &[u8], usize, Found); 29] = [
         "two digits of CheckSum",
         b"8=FIX.4.4\x019=10\x0135=D\x0158=x\x0110=42\x01",
         0,
-        Found::Broken(0),
+        Found::Cut(0),
     ),
     (
         "four digits of CheckSum",
@@ -349,8 +350,8 @@ fn walks_the_fields_in_order(rt: HostRuntime) -> Result<(), Fail> {
 }
 
 /// What stands before the value that fills a body up to so many bytes, how long that value is, and
-/// what is found.
-const BOUNDS: [(&[u8], usize, Found); 2] = [
+/// what is found: in the whole frame, and where its last byte is missing.
+const BOUNDS: [(&[u8], usize, Found, Found); 3] = [
     (
         b"8=FIX.4.4\x019=8192\x0135=D\x0158=",
         8183,
@@ -361,17 +362,31 @@ const BOUNDS: [(&[u8], usize, Found); 2] = [
             end: 8216,
             sound: true,
         }),
+        Found::Cut(0),
+    ),
+    (
+        b"8=FIX.4.4\x019=0008192\x0135=D\x0158=",
+        8183,
+        Found::Frame(Frame {
+            start: 0,
+            body_from: 20,
+            body_to: 8212,
+            end: 8219,
+            sound: true,
+        }),
+        Found::Cut(0),
     ),
     (
         b"8=FIX.4.4\x019=8193\x0135=D\x0158=",
         8184,
-        Found::Broken(0),
+        Found::TooLong(0),
+        Found::TooLong(0),
     ),
 ];
 
 #[test]
 fn takes_a_body_up_to_its_bound(rt: HostRuntime) -> Result<(), Fail> {
-    for (head, count, want) in BOUNDS {
+    for (head, count, whole, short) in BOUNDS {
         let mut bytes = head.to_vec(rt.alloc())?;
         for _ in 0..count {
             bytes.push(b'x')?;
@@ -382,8 +397,13 @@ fn takes_a_body_up_to_its_bound(rt: HostRuntime) -> Result<(), Fail> {
         for digit in [sum / 100, sum / 10 % 10, sum % 10] {
             bytes.push(digit.wrapping_add(b'0'))?;
         }
+        assert_eq!(rt;
+            next_frame(&bytes, 0),
+            short,
+            "short of a byte: {count} bytes"
+        );
         bytes.push(1)?;
-        assert_eq!(rt; next_frame(&bytes, 0), want, "a value of {count} bytes");
+        assert_eq!(rt; next_frame(&bytes, 0), whole, "a value of {count} bytes");
     }
     Ok(())
 }
@@ -391,7 +411,11 @@ fn takes_a_body_up_to_its_bound(rt: HostRuntime) -> Result<(), Fail> {
 #[test]
 fn states_laws() {
     frame_stays();
+    found_stays();
     one_frame_stands_there();
+    one_is_found();
+    bytes_in_a_frame_are_cut();
+    cut_is_short();
     frame_is_within();
     one_list_is_spelled();
 }

@@ -7,6 +7,8 @@
 
 mod cut;
 mod field_reader;
+#[cfg(test)]
+mod found_tests;
 mod frame;
 mod frame_law;
 #[cfg(test)]
@@ -22,7 +24,10 @@ mod writer_tests;
 mod written;
 
 pub use frame::{Found, Frame, checksum, next_frame};
-pub use frame_law::{frame_is_within, frame_stays, one_frame_stands_there, one_list_is_spelled};
+pub use frame_law::{
+    bytes_in_a_frame_are_cut, cut_is_short, found_stays, frame_is_within, frame_stays,
+    one_frame_stands_there, one_is_found, one_list_is_spelled,
+};
 pub use id::Id;
 pub use number::{Spelling, read_price, read_qty, read_seq};
 pub use walk::{Field, FieldWalk, fields};

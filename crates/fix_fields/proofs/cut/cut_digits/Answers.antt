@@ -1,18 +1,18 @@
 use Rattle.std.proofs.Common.{◌≡◌, ◌∷◌, ◌++◌, ◌+◌, ◌-◌, arith, ◌∙◌, sym, ap, length, take, drop}
-use Rattle.std.proofs.Common.{true}
+use Rattle.std.proofs.Common.{true, min}
 use Rattle.std.proofs.Common.{length-drop, length-take}
 use Rattle.std.proofs.lemmas.List.{take_all}
+use Rattle.std.specs.List.{prefix_len}
+use Rattle.std.specs.Char.{is_ascii_digit}
 use Rattle.fix_fields.specs.Fields.{soh}
-use Rattle.fix_fields.proofs.Cuts.{finds_cut, cut_at, prefix_all}
+use Rattle.fix_fields.proofs.Cuts.{finds_cut, cut_at, front_all}
 use Rattle.fix_fields.proofs.cut.cut_digits.Goals as goal
 
 pub returns-then-not-is_before_soh-clause-none : goal.returns-then-not-is_before_soh-clause-none
 returns-then-not-is_before_soh-clause-none c = λ digits more cut.
-    let found = finds_cut c.args.least c.args.most c.args.text.now digits more cut.are_digits
-    cut.spelled in
     let yes : c.is_before_soh.result ≡ true =
     c.is_before_soh.ensures.1 (rw c.digit_count-count.ensures
-    record { no_fewer = found.0; no_more = found.1; inside = found.2; ended = found.3 }) in
+    (finds_cut c.args.least c.args.most c.args.text.now digits more cut.are_digits cut.spelled)) in
     cc
 
 pub returns-clause-some : goal.returns-clause-some
@@ -21,6 +21,7 @@ returns-clause-some c =
     let count = c.digit_count-count.result in
     let text = c.args.text.now in
     let rest = drop (count + 1) text in
+    let least : count ≡ min c.args.most (prefix_len is_ascii_digit text) = c.digit_count-count.ensures in
     record {
       spelled = cut_at text count soh found.inside found.ended
           ∙ ap (λ s. take count text ++ soh ∷ s)
@@ -29,8 +30,8 @@ returns-clause-some c =
             length-drop (count + 1) text,
           ))));
       are_digits = record {
-        each = rw c.digit_count-count.ensures (prefix_all text);
+        each = front_all count text (omega (arith, least));
         no_fewer = omega (arith, found.no_fewer, found.inside, length-take count text);
-        no_more = omega (arith, found.no_more, length-take count text);
+        no_more = omega (arith, least, length-take count text);
       };
     }

@@ -1,29 +1,27 @@
-use Rattle.fix_fields.proofs.FrameParts.{begin_cut, body_cut, trailer_cut, parts_make}
+use Rattle.std.proofs.Common.{arith}
+use Rattle.std.proofs.lemmas.Result.{err_from_is_err_and}
+use Rattle.fix_fields.proofs.FrameParts.{tail_cut}
+use Rattle.fix_fields.proofs.Rests.{broken_by_tail, no_frame_by_head}
 use Rattle.fix_fields.proofs.cut.cut_frame.Goals as goal
 
 -- no head stands there
-pub returns-in_err-after-clause-none : goal.returns-in_err-after-clause-none
-returns-in_err-after-clause-none c =
-    rw c.from_residual.ensures (λ d b s m h. c.in_err-after.ensures.none _
-    (begin_cut c.args.rest.now d b s m h))
+pub returns-in_err-length_digits-clause-err : goal.returns-in_err-length_digits-clause-err
+returns-in_err-length_digits-clause-err c =
+    let passed = err_from_is_err_and c.from_residual.result c.from_residual.ensures.1 in
+    rw (passed.1, passed.2) (no_frame_by_head c.args.rest.now c.in_err-length_digits.field-0.0
+    c.in_err-length_digits.ensures.err)
 
--- no body of that length stands there
-pub returns-in_err-body-clause-none : goal.returns-in_err-body-clause-none
-returns-in_err-body-clause-none c =
-    rw c.from_residual-in_err-body.ensures (λ d b s m h. c.in_err-body.ensures.none b _
-    (body_cut c.args.rest.now d b s m h c.in_ok-after.after.now c.in_ok-after.ensures.some
-    _ _ c.in_ok-length_digits.ensures.some))
-
--- no CheckSum stands there
-pub returns-in_err-sum_digits-clause-none : goal.returns-in_err-sum_digits-clause-none
-returns-in_err-sum_digits-clause-none c =
-    rw c.from_residual-in_err-sum_digits.ensures (λ d b s m h. c.in_err-sum_digits.ensures.none s m
-    (trailer_cut c.args.rest.now d b s m h c.in_ok-after.after.now c.in_ok-after.ensures.some
-    _ _ c.in_ok-length_digits.ensures.some _ _ c.in_ok-body.ensures.some))
-
-pub returns-clause-some : goal.returns-clause-some
-returns-clause-some c = (
-  c.in_ok-sum_digits.field-0-1.now,
-  parts_make c.args.rest.now c.in_ok-after.after.now _ _ _ _ _ _ c.in_ok-after.ensures.some
-      c.in_ok-length_digits.ensures.some c.in_ok-body.ensures.some c.in_ok-sum_digits.ensures.some,
-)
+-- neither the body nor CheckSum stands behind the head, though there are bytes enough
+pub returns-in_default-cut_tail-clause-err : goal.returns-in_default-cut_tail-clause-err
+returns-in_default-cut_tail-clause-err c =
+    let rest = c.args.rest.now in
+    let digits = c.in_ok-length_digits.length_digits.now in
+    let after = c.in_ok-length_digits.after_head.now in
+    let head = c.in_ok-length_digits.ensures.ok in
+    let size = c.in-Some.ensures.some in
+    broken_by_tail rest digits after record {
+      head = head;
+      few = omega (arith, size.value, size.most);
+      enough = omega (arith, size.value, c.if-after_head-count.false);
+    } (λ (d, b, s, m, h). c.in_default-cut_tail.ensures.none b s m
+    (tail_cut rest d b s m digits after c.in-Some.count h head size))

@@ -1,23 +1,26 @@
-use Rattle.std.proofs.Common.{sym, refl, arith, subst}
+use Rattle.std.proofs.Common.{refl, arith, subst}
+use Rattle.std.proofs.lemmas.Result.{err_from_is_err_and}
 use Rattle.fix_fields.specs.Frames.{IsFrameText, HasFields}
+use Rattle.fix_fields.specs.Parts.{IsNoFrame}
 use Rattle.fix_fields.proofs.FrameSizes.{front_is}
 use Rattle.fix_fields.proofs.FrontField.{rest_is}
 use Rattle.fix_fields.proofs.frame.frame_at.Goals as goal
 
-pub returns-in_err-parts-clause-none : goal.returns-in_err-parts-clause-none
-returns-in_err-parts-clause-none c =
-    rw c.from_residual.ensures (λ d b s m h. c.in_err-parts.ensures.none
-    d b s m (subst (λ t. IsFrameText t d b s m) (sym (rest_is c.args.bytes.now c.args.place)) h))
+pub returns-in_err-parts-clause-err : goal.returns-in_err-parts-clause-err
+returns-in_err-parts-clause-err c =
+    let passed = err_from_is_err_and c.from_residual.result c.from_residual.ensures.1 in
+    rw (passed.1, passed.2) (subst (λ t. IsNoFrame t c.in_err-parts.field-0.0)
+    (rest_is c.args.bytes.now c.args.place) c.in_err-parts.ensures.err)
 
-pub returns-clause-some : goal.returns-clause-some
-returns-clause-some c =
+pub returns-clause-ok : goal.returns-clause-ok
+returns-clause-ok c =
     let bytes = c.args.bytes.now in
     let place = c.args.place in
     let d = c.in_ok-parts.parts.length_digits.now in
     let b = c.in_ok-parts.parts.body.now in
     let s = c.in_ok-parts.parts.sum_digits.now in
-    let m = c.in_ok-parts.ensures.some.0 in
-    let text = c.in_ok-parts.ensures.some.1 in
+    let m = c.in_ok-parts.ensures.ok.0 in
+    let text = c.in_ok-parts.ensures.ok.1 in
     let told = c.is_sound.ensures in
     record {
       start = refl;
