@@ -7,6 +7,7 @@ use Rattle.gate_program.specs.declared.status.Status.TheVariants as status
 use Rattle.gate_program.specs.Statuses.{number_of, told_text}
 use Rattle.gate_program.specs.Gate.{text_after}
 use Rattle.gate_program.specs.Run.{standing_of}
+
 -- a count that rose later rose
 pub rose_from : (first next last : ℕ) → first ≤ next → Rose next last → Rose first last
 rose_from first next last later rose = omega arith

@@ -4,6 +4,7 @@ use Rattle.std.proofs.lemmas.Bool.Decides.{nat_tests}
 use Rattle.std.specs.Str.{bytes_eq}
 use Rattle.gate_program.specs.Words.{is_among, output_names}
 use Rattle.gate_program.specs.CommandOf.{file_names}
+
 is_itself : (x : ℕ) → (x == x) ≡ true
 is_itself x = grind (arith, nat_tests)
 

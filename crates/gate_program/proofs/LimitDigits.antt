@@ -16,6 +16,7 @@ use Rattle.fix_fields.proofs.Digits.{digit_at, digit_value_is}
 use Rattle.gate_program.specs.Gate.{AreLimits}
 use Rattle.session_engine.specs.Session.{LimitsValue}
 use Rattle.gate_program.specs.LimitRows.{firm_row, is_amount}
+
 -- a digit is below ten
 digit_is_low : (d : ℕ) → is_ascii_digit d ≡ true → digit_value d < 10
 digit_is_low d h = grind arith

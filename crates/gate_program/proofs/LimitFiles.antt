@@ -7,6 +7,7 @@ use Rattle.session_engine.specs.Session.{LimitsValue}
 use Rattle.gate_program.specs.Gate.{AreLimits}
 use Rattle.gate_program.specs.Stages.{HasFront}
 use Rattle.gate_program.specs.Gate.{HasNoLimits}
+
 length_of_row : (digits : List ℕ)
     → length (codes "firm,," ++ digits ++ codes ",,," ++ 10 ∷ []) ≡ length digits + 10
 length_of_row digits = simp length-append (omega arith)

@@ -13,6 +13,7 @@ use Rattle.session_engine.specs.Follows.{FollowsSource}
 use Rattle.gate_program.specs.Stages.{HasPlayed}
 use Rattle.risk_journal.proofs.PlacedActs.{events_of-placed, calls_of-placed}
 use Rattle.session_engine.proofs.PlacedFollows.{follows_placed}
+
 only_session : (calls : List (List Call)) (own : List Call) → length calls ≡ 1
     → slice_index_or calls 0 [] ≡ own → calls ≡ own ∷ []
 only_session [] own one is = absurd (omega arith)

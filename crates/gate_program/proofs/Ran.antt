@@ -33,6 +33,7 @@ use Rattle.std.specs.List.{list_any}
 use Rattle.gate_program.specs.Stages.{Went, IsNewSource, AreWritten, HasLines}
 use Rattle.gate_program.specs.Stages.{HasPlayed, HasEnded, with_two}
 use Rattle.gate_program.proofs.Chains.{rose_from}
+
 -- a run of one session
 abbrev pub one_run : List ℕ → List ℕ → List ℕ → RunWords
 one_run limits out session = record { limits = limits; out = out; sessions = session ∷ [] }

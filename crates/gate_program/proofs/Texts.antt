@@ -18,6 +18,7 @@ use Rattle.gate_program.specs.Stages.{Went, AreOutputs, AreClosed, AreWritten, H
 use Rattle.gate_program.specs.Stages.{ChangesOnly, HasStood, HasFinished, IsJournalOf, IsNewSource}
 use Rattle.gate_program.specs.Stages.{IsOwn, with_two}
 use Rattle.gate_program.proofs.Ran.{one_run, journal_from}
+
 itself : (x : ℕ) → (x == x) ≡ true
 itself x = grind (arith, nat_tests)
 

@@ -28,6 +28,7 @@ use Rattle.gate_program.specs.Statuses.{number_of, told_text}
 use Rattle.gate_program.proofs.Chains.{rose_from, rose_is_some, zero_stands, told_text_is}
 use Rattle.gate_program.proofs.Chains.{standing_of_isnt_usage}
 use Rattle.gate_program.proofs.Ran.{one_run, silent, journal_from, has_run}
+
 -- a folder beside a standard output
 abbrev pub beside : Option Texts → (List ℕ → ℕ) → (List ℕ → ℕ) → Option (List ℕ) → ℕ → PortsValue
 beside texts reads writes held faults = record {

@@ -5,6 +5,7 @@ use Rattle.gate_program.specs.declared.words.Command.{Command}
 use Rattle.gate_program.specs.declared.words.Command.TheVariants as parsed
 use Rattle.gate_program.specs.Words.{RunWords, Command as CommandWords}
 use Rattle.gate_program.specs.Words.Command.{Run as run_command}
+
 -- the words of a run of one session
 abbrev pub run_value : Run → RunWords
 run_value run = record {

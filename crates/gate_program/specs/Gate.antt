@@ -18,6 +18,7 @@ use Rattle.gate_program.specs.Words.{is_among}
 use Rattle.gate_program.specs.Words.Command.{Run}
 use Rattle.gate_program.specs.Run.{PortsValue, Holds, ReadRose, WriteRose, OutputRose, session_name}
 use Rattle.gate_program.specs.Run.{EndHolds, IsHistory, standing_of, is_memory}
+
 -- a folder and standard output as clauses name them
 abbrev pub ports_of : {D O : Type 0} → (D → Option Texts) → (D → List ℕ → ℕ) → (D → List ℕ → ℕ)
     → (O → Option (List ℕ)) → (O → ℕ) → D → O → PortsValue

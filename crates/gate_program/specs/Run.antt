@@ -15,6 +15,7 @@ use Rattle.risk_journal.specs.ActLists.{events_of}
 use Rattle.session_engine.specs.Admitted.{StaysWithin}
 use Rattle.gate_program.specs.Words.{RunWords, venue_name, client_name}
 use Rattle.session_engine.specs.Follows.{FollowsInput}
+
 -- a folder and standard output at a moment: texts and counts of faults by name, where they are told
 pub record PortsValue : Type 0 where
   pub texts : Option Texts

@@ -23,6 +23,7 @@ use Rattle.gate_program.specs.Run.{PortsValue, ReadRose, WriteRose, OutputRose, 
 use Rattle.gate_program.specs.Run.{standing_of}
 use Rattle.session_engine.specs.Follows.{IsByInput, FollowsSource}
 use Rattle.gate_program.specs.Gate.{HasNoLimits, HasJournal}
+
 -- a folder as clauses name it, beside a standard output that tells nothing
 abbrev pub folder_of : {D : Type 0} → (D → Option Texts) → (D → List ℕ → ℕ) → (D → List ℕ → ℕ) → D
     → PortsValue

@@ -3,6 +3,7 @@ use Rattle.std.specs.Prelude.{ℕ, List, []}
 use Rattle.gate_program.specs.declared.status.Status.{Status}
 use Rattle.gate_program.specs.declared.status.Status.TheVariants as status
 use Rattle.gate_program.specs.Gate.{usage_text, text_after}
+
 -- the exit status of the program
 abbrev pub number_of : Status → ℕ
 number_of status.Done = 0

@@ -9,6 +9,7 @@ use Rattle.risk_journal.specs.declared.acts.Act.TheVariants.{Post, Read, Sent, R
 use Rattle.risk_journal.specs.declared.acts.Act.TheVariants.{Noted, Ended}
 use Rattle.risk_journal.specs.ActLists.{SeenAt, is_post_act_in, posts_in, latest, last_post}
 use Rattle.risk_journal.specs.ActLists.{placed, calls_of, events_of, reads_of}
+
 -- a read with its place by its stamp
 abbrev pub seen_placed : (ℕ → ℕ) → SeenAt → SeenAt
 seen_placed place seen = record seen { place = place seen.stamp }

@@ -6,6 +6,7 @@ use Rattle.risk_journal.specs.declared.acts.Act.{Act}
 use Rattle.risk_journal.specs.declared.acts.Act.TheVariants.{Post, Read, Sent, Refused, Noted, Ended}
 use Rattle.risk_journal.specs.declared.acts.End.{End}
 use Rattle.risk_journal.specs.declared.acts.End.TheVariants as ending
+
 -- a row of cells, with commas between them and LF behind
 abbrev pub row_text : List (List ℕ) → List ℕ
 row_text cells = join_with_byte 44 cells ++ 10 ∷ []

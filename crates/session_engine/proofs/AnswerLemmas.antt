@@ -9,6 +9,7 @@ use Rattle.session_engine.specs.declared.totals.Totals.{Totals}
 use Rattle.session_engine.specs.Answers.{forward_text, refusal_text}
 use Rattle.session_engine.specs.FieldRows.{value_of}
 use Rattle.session_engine.specs.Taken.{IsAnswered}
+
 pub answered_sent : (fields : List FieldValue) (totals : Totals) (refusal : Option Refusal)
     (venue venue_after client : Option (List ℕ)) (message : List ℕ)
     → refusal ≡ None → Appends venue venue_after message

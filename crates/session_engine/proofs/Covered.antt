@@ -25,6 +25,7 @@ use Rattle.session_engine.specs.Session.{post_new, read_root, roots_of}
 use Rattle.session_engine.specs.Answers.{code_of}
 use Rattle.session_engine.specs.Admitted.{Standing, nothing, after_event, after_post, after_read}
 use Rattle.session_engine.specs.Admitted.{CoversOrders}
+
 -- an event that counts or doesn't, in front of others
 counted_in_front : (here : Bool) (event : Event) (first both later : List Event)
     → both ≡ first ++ later → cond here (event ∷ both) both ≡ cond here

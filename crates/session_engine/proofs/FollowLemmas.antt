@@ -31,6 +31,7 @@ use Rattle.session_engine.specs.Reaches.{with_reads}
 use Rattle.session_engine.specs.Runs.{StopsBefore, end_after}
 use Rattle.session_engine.proofs.StepLemmas.{reads_of-append}
 use Rattle.session_engine.proofs.ReachLemmas.{splits_then, splits-more}
+
 same_taken : (session : SessionValue) (fields : Option (List FieldValue))
     → is_taken (with_reads [] session) fields ≡ is_taken session fields
 same_taken session None = refl

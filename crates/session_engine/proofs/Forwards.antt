@@ -12,6 +12,7 @@ use Rattle.session_engine.specs.Taken.{IsShort}
 use Rattle.session_engine.proofs.OtherFields.{others_text}
 use Rattle.session_engine.proofs.ReadLemmas.{only_stands, value_from_only}
 use Rattle.session_engine.proofs.ShortFields.{opening_is_short}
+
 -- an order is one
 pub kind_is : (fields : List FieldValue) → IsRead fields → value_of 35 fields ≡ codes "D"
 kind_is fields read =

@@ -19,6 +19,7 @@ use Rattle.session_engine.specs.Session.{LimitsValue, OrderValue}
 use Rattle.risk_journal.specs.ActLists.{SeenAt}
 use Rattle.session_engine.specs.Stands.{InStep, posted_totals, post_act, asked_acts, new_value}
 use Rattle.session_engine.specs.Stands.{early_by_totals, sent_totals, refused_totals}
+
 pub calls_of-append : (xs ys : List Act) → calls_of (xs ++ ys) ≡ calls_of xs ++ calls_of ys
 calls_of-append [] ys = refl
 calls_of-append (Post tree index value ∷ xs) ys = ap (λ cs. call.Post tree value ∷ cs)

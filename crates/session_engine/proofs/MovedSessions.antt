@@ -22,6 +22,7 @@ use Rattle.session_engine.specs.Session.{order_of, after_frame, client_after}
 use Rattle.risk_journal.specs.ActLists.{placed, reads_of}
 use Rattle.risk_journal.proofs.PlacedActs.{seen_placed, reads_of-append, posts_in-placed}
 use Rattle.risk_journal.proofs.PlacedActs.{last_post-placed}
+
 -- the session with its reads' places by their stamps, in its acts and to come
 abbrev pub moved : (ℕ → ℕ) → SessionValue → SessionValue
 moved place session = record session {

@@ -16,6 +16,7 @@ use Rattle.fix_fields.specs.Places.{HasFieldsIn, IsPlace, ArePlacesOf, field_at}
 use Rattle.fix_fields.specs.declared.frame.Frame.{Frame}
 use Rattle.fix_fields.specs.declared.walk.Field.{Field}
 use Rattle.session_engine.specs.Answers.{is_own_field}
+
 -- the text of the fields that are passed on as they came
 abbrev pub others_text : List FieldValue → List ℕ
 others_text fields = fields_text (filter (λ f. not (is_own_field f)) fields)

@@ -19,6 +19,7 @@ use Rattle.session_engine.specs.Follows.{FollowsInput, StopsAt, session_of, inpu
 use Rattle.risk_journal.proofs.PlacedActs.{reads_of-placed, reads_of-append}
 use Rattle.session_engine.proofs.MovedSessions.{moved, reads_made, TakesReads, one_after_another}
 use Rattle.session_engine.proofs.MovedSessions.{framing}
+
 -- a frame is of the stage whatever the places of reads
 is_taken-moved : (place : ℕ → ℕ) (session : SessionValue) (fields : Option (List FieldValue))
     → is_taken (moved place session) fields ≡ is_taken session fields

@@ -13,6 +13,7 @@ use Rattle.risk_journal.specs.ActLists.{SeenAt}
 use Rattle.session_engine.specs.Session.{after_frames, AreTaken, is_taken, is_taken_order}
 use Rattle.risk_journal.specs.ActLists.{reads_of}
 use Rattle.session_engine.specs.Reaches.{with_reads, Steps, SplitsTo, Reaches}
+
 after_frames-snoc : (limits : LimitsValue) (session : SessionValue) (frames : List FrameValue)
     (frame : FrameValue)
     → after_frames limits session (frames ++ frame ∷ []) ≡ after_frame limits frame.fields

@@ -21,6 +21,7 @@ use Rattle.session_engine.specs.FieldRows.Reader.{Sequence, Identifier, Quantity
 use Rattle.session_engine.specs.Session.{OrderValue, order_of}
 use Rattle.session_engine.specs.Slotted.{first_value, only_value, only_of, is_taken_by, is_only}
 use Rattle.session_engine.specs.Slotted.{is_head_read, IsRead, is_sound_order}
+
 -- a number that is read is within its bound
 choose_ok : (c d e most_passed : Bool) (most v n : ℕ) → most_passed ≡ nat_lt most v
     → (if c then Err Form else (if d || (e || most_passed) then Err Range else Ok v)) ≡ Ok n

@@ -20,6 +20,7 @@ use Rattle.session_engine.specs.Parts.{IsPart, HasPut, part_value}
 use Rattle.session_engine.specs.Taken.{IsOrderIn, IsShort}
 use Rattle.session_engine.proofs.ShortFields.{number_is_short, opening_put}
 use Rattle.session_engine.proofs.ShortValues.{order_is_short, first_is_short}
+
 -- a number of 32 bits has at most ten digits
 pub few_digits : (n : ℕ) → n < 2 ^ 32 → length (decimal n) ≤ 10
 few_digits n fits = length-decimal-le 10 n (omega arith) (omega arith) (omega arith)

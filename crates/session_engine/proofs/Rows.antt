@@ -11,6 +11,7 @@ use Rattle.session_engine.specs.Session.{SessionValue}
 use Rattle.risk_journal.specs.JournalText.{journal_text}
 use Rattle.risk_journal.specs.declared.acts.Act.TheVariants.{Post, Read, Sent, Refused, Ended}
 use Rattle.risk_journal.specs.declared.acts.End.TheVariants.{Whole}
+
 abbrev fields : List FieldValue
 fields =
     field 35 (codes "D") ∷ field 49 (codes "C1") ∷ field 56 (codes "GATE") ∷ field 34

@@ -23,6 +23,7 @@ use Rattle.session_engine.specs.Runs.{RunsTo, StopsBefore}
 use Rattle.session_engine.specs.Taken.{IsOther, CountsFit, CountsGrow}
 use Rattle.session_engine.specs.Taken.{HasSmallCounts, TakesAny, LeavesAny}
 use Rattle.session_engine.proofs.ReachLemmas.{reaches_next, reaches_opening}
+
 pub appends_next : (held middle after : Option (List ℕ)) (one two both : List ℕ)
     → Appends held middle one → Appends middle after two → both ≡ one ++ two
     → Appends held after both

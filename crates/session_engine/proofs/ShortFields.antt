@@ -18,6 +18,7 @@ use Rattle.session_engine.specs.declared.put.Part.{Part}
 use Rattle.session_engine.specs.Answers.{opening_fields}
 use Rattle.session_engine.specs.Parts.{IsPart, HasPut, HasRoom, part_value}
 use Rattle.session_engine.specs.Taken.{IsShort}
+
 -- the digits of a number of 32 bits are short
 pub number_is_short : (n : ℕ) → n < 2 ^ 32 → IsShort (decimal n)
 number_is_short n fits = record {

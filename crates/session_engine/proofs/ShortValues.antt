@@ -22,6 +22,7 @@ use Rattle.session_engine.specs.Slotted.{SlotsHave, first_value, only_of, is_tak
 use Rattle.session_engine.specs.Taken.{IsOrderIn, IsShort}
 use Rattle.session_engine.proofs.ReadLemmas.{taken_stands, only_stands, value_from_only}
 use Rattle.session_engine.proofs.ReadLemmas.{value_of-first}
+
 next_printable : (d : ℕ) (rest : Bool) → (is_printable d && rest) ≡ true
     → (is_value_byte d ≡ true) × (rest ≡ true)
 next_printable d rest h = grind (arith, nat_tests)

@@ -13,6 +13,7 @@ use Rattle.session_engine.specs.declared.slots.Slots.{Slots}
 use Rattle.session_engine.specs.FieldRows.{values_of}
 use Rattle.session_engine.specs.Slotted.{slot_with, slot_after, slots_after, no_slots, SlotHas}
 use Rattle.session_engine.specs.Slotted.{SlotsHave}
+
 -- one more value of the tag
 slot_has_one_more : (bytes : List ℕ) (f : Field) (slot : Slot) (values : List (List ℕ))
     → IsPlace bytes f → SlotHas bytes slot values

@@ -28,6 +28,7 @@ use Rattle.session_engine.specs.Stands.{asked_acts, post_act, posted_totals, sen
 use Rattle.session_engine.specs.Stands.{refused_totals}
 use Rattle.session_engine.specs.Reaches.{with_reads, next_session, forward_of, refusal_of, Steps}
 use Rattle.session_engine.proofs.InStepLemmas.{posts_in-append}
+
 pub reads_of-append : (xs ys : List Act) → reads_of (xs ++ ys) ≡ reads_of xs ++ reads_of ys
 reads_of-append [] ys = refl
 reads_of-append (Read tree stamp place value ∷ xs) ys =

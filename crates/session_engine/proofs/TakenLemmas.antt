@@ -34,6 +34,7 @@ use Rattle.session_engine.specs.Taken.{CountsGrow}
 use Rattle.session_engine.proofs.ReadLemmas.{sound_is_read, read_is_sound, false_from_not, and_true}
 use Rattle.session_engine.proofs.ReadLemmas.{id_is_text, value_of-first}
 use Rattle.session_engine.proofs.StepLemmas.{PostsFit, decided}
+
 unsound : (has : List ℕ → Bool) (fields : Option (List FieldValue)) → is_some fields ≡ false
     → IsOther has fields
 unsound has None e = tt

@@ -18,6 +18,7 @@ use Rattle.session_engine.specs.Admitted.{Standing, Moment, nothing}
 use Rattle.session_engine.specs.Admitted.{after_moment, reads_at, all_reads_at, moments_from, moments}
 use Rattle.session_engine.specs.Admitted.{StaysWithin}
 use Rattle.session_engine.specs.Admitted.Moment.{Posts, Reads}
+
 -- what all have admitted
 abbrev admitted_total : List Standing → ℕ
 admitted_total [] = 0

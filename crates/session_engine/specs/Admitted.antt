@@ -9,6 +9,7 @@ use Rattle.session_engine.specs.Session.{LimitsValue, SessionValue, value_of_ord
 use Rattle.risk_journal.specs.ActLists.{last_post}
 use Rattle.session_engine.specs.Trees.{tree_count, limit_of}
 use Rattle.risk_journal.specs.ActLists.{events_of}
+
 -- what a session has posted in a tree, and how much of it is admitted
 pub record Standing : Type 0 where
   pub posted : ℕ

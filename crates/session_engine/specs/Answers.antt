@@ -5,6 +5,7 @@ use Rattle.fix_fields.specs.Messages.{message_text}
 use Rattle.session_engine.specs.declared.refusal.Refusal.{Refusal}
 use Rattle.session_engine.specs.declared.refusal.Refusal.TheVariants.{Firm, Quota, Cap}
 use Rattle.session_engine.specs.FieldRows.{value_of}
+
 -- the first fields of each message: its type, the gate as sender, its receiver, its number, its time
 abbrev pub opening_fields : List ℕ → List ℕ → ℕ → List ℕ → List FieldValue
 opening_fields kind receiver number time =

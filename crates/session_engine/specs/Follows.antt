@@ -16,6 +16,7 @@ use Rattle.session_engine.specs.Session.{LimitsValue, SessionValue, opening, aft
 use Rattle.session_engine.specs.Session.{AreTaken, is_taken, end_of}
 use Rattle.risk_journal.specs.ActLists.{reads_of}
 use Rattle.session_engine.specs.Admitted.{CoversOrders}
+
 -- the most bytes of a session's input
 abbrev pub input_most : ℕ
 input_most = 33554432

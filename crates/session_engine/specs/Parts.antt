@@ -3,6 +3,7 @@ use Rattle.std.specs.Prelude.{◌≡◌, ℕ, ◌+◌, ◌*◌, ◌≤◌, List,
 use Rattle.fix_fields.specs.Fields.{FieldValue, field, fields_text}
 use Rattle.session_engine.specs.declared.put.Part.{Part}
 use Rattle.session_engine.specs.Taken.{IsShort}
+
 -- the field that is written
 abbrev pub part_value : Part → FieldValue
 part_value part = field part.tag part.value.now

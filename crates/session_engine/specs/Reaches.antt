@@ -10,6 +10,7 @@ use Rattle.risk_journal.specs.ActLists.{SeenAt}
 use Rattle.session_engine.specs.Session.{after_frames, AreTaken, order_of, client_after}
 use Rattle.session_engine.specs.Answers.{forward_text, refusal_text}
 use Rattle.risk_journal.specs.ActLists.{reads_of}
+
 -- the session with these reads to come
 abbrev pub with_reads : List SeenAt → SessionValue → SessionValue
 with_reads reads session = record session { reads = reads }

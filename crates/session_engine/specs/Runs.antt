@@ -20,6 +20,7 @@ use Rattle.session_engine.specs.Follows.{StopsAt}
 use Rattle.session_engine.specs.Reaches.{Reaches}
 use Rattle.session_engine.specs.Stands.{StandsFor}
 use Rattle.session_engine.specs.Taken.{CountsFit}
+
 -- The frames up to a place were taken: the values are those of the session to which they lead, and the
 -- sinks got its messages.
 pub record RunsTo (limits : LimitsValue) (bytes : List ℕ) (place : ℕ) (has : List ℕ → Bool)

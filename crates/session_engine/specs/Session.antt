@@ -17,8 +17,10 @@ use Rattle.risk_journal.specs.declared.acts.End.{End}
 use Rattle.risk_journal.specs.declared.acts.End.TheVariants.{Whole, NotBuilt}
 use Rattle.session_engine.specs.declared.refusal.Refusal.{Refusal}
 use Rattle.session_engine.specs.declared.refusal.Refusal.TheVariants.{Firm, Quota, Cap}
+use Rattle.risk_journal.specs.ActLists.{SeenAt, posts_in, last_post}
 use Rattle.session_engine.specs.FieldRows.{value_of, values_of, first_fault, new_order_rows}
 use Rattle.session_engine.specs.Answers.{forward_text, refusal_text, code_of}
+
 -- the limits that a session knows: the firm's in whole currency units, and the quota of posts
 pub record LimitsValue : Type 0 where
   pub firm : ℕ

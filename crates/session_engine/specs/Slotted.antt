@@ -11,6 +11,7 @@ use Rattle.session_engine.specs.declared.slots.Slots.{Slots}
 use Rattle.session_engine.specs.FieldRows.{Reader, reason_by, values_of, value_of, first_fault}
 use Rattle.session_engine.specs.FieldRows.{new_order_rows}
 use Rattle.session_engine.specs.FieldRows.Reader.{Sequence, Identifier, Quantity, Price}
+
 -- the slot with one more field of its tag
 abbrev pub slot_with : Field → Slot → Slot
 slot_with f Absent = Once f

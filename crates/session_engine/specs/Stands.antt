@@ -17,6 +17,7 @@ use Rattle.session_engine.specs.Session.{exposure_of}
 use Rattle.risk_journal.specs.ActLists.{calls_of}
 use Rattle.session_engine.specs.Answers.{code_of}
 use Rattle.session_engine.specs.Ids.{AddsId, SameIds}
+
 -- The hand made the calls that the acts tell, and the totals of the posts are those of the acts.
 pub record InStep (hand : HandValue) (acts : List Act) (totals : Totals) : Type 0 where
   pub trees : 1 ≤ hand.trees

@@ -16,6 +16,7 @@ use Rattle.session_engine.specs.Stands.{StandsFor}
 use Rattle.session_engine.specs.Reaches.{Steps}
 use Rattle.session_engine.specs.Answers.{forward_text, refusal_text}
 use Rattle.session_engine.specs.FieldRows.{value_of}
+
 -- the frame is sound, the slots are of its fields, and they are those of a limit order to buy
 pub record IsOrderIn (bytes : List ℕ) (frame : Frame) (slots : Slots) : Type 0 where
   pub fields : List FieldValue

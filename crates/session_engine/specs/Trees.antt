@@ -10,6 +10,7 @@ use Rattle.risk_journal.specs.declared.acts.Act.{Act}
 use Rattle.risk_journal.specs.declared.acts.Act.TheVariants.{Post, Read, Sent, Refused, Noted, Ended}
 use Rattle.session_engine.specs.Session.{LimitsValue}
 use Rattle.risk_journal.specs.ActLists.{SeenAt}
+
 -- how many trees there are
 abbrev pub tree_count : LimitsValue → ℕ
 tree_count limits = 1

@@ -71,7 +71,10 @@ fn sessions_end_by_their_ports_and_their_quota(rt: HostRuntime) -> Result<(), Fa
     let alloc = rt.alloc();
     for row in ROWS {
         let name = row.name;
-        assert!(rt; 1 <= row.quota && row.quota <= QUOTA, "{name}: a quota in range");
+        assert!(rt;
+            1 <= row.quota && row.quota <= QUOTA,
+            "{name}: a quota in range"
+        );
         let limits = Limits {
             firm: 1000,
             quota: row.quota,
@@ -83,7 +86,11 @@ fn sessions_end_by_their_ports_and_their_quota(rt: HostRuntime) -> Result<(), Fa
         let done = run_session(alloc, &limits, hand, source, venue, client);
         assert_eq!(rt; done.end, row.end, "{name}");
         assert_eq!(rt; done.acts.len(), row.acts, "{name}");
-        assert_eq!(rt; done.acts.last().copied(), Some(Act::Ended { end: row.end }), "{name}");
+        assert_eq!(rt;
+            done.acts.last().copied(),
+            Some(Act::Ended { end: row.end }),
+            "{name}"
+        );
         assert_eq!(rt; done.venue.bytes().len(), row.venue, "{name}");
         assert_eq!(rt; done.client.bytes().len(), row.client, "{name}");
     }

@@ -3,6 +3,7 @@ use Rattle.std.proofs.Common.{length-append, length-take, length-drop}
 use Rattle.std.specs.Io.KnownBytes.{Consumes}
 use Rattle.gate_ports.proofs.Pieces.{Consumes-append}
 use Rattle.gate_ports.proofs.fetch.fetch_up_to.Goals as goal
+
 pub returns-in-Some-fetch_more-clause-bytes : goal.returns-in-Some-fetch_more-clause-bytes
 returns-in-Some-fetch_more-clause-bytes g c =
     let step = c.in-Some-fetch_more.ensures.step in

@@ -1,5 +1,6 @@
 use Rattle.gate_program.proofs.Texts.{finished}
 use Rattle.gate_program.proofs.close.finish.Goals as goal
+
 pub returns-clause-finished : goal.returns-clause-finished
 returns-clause-finished g c =
     finished c.args.run.now.limits.now c.args.run.now.out.now c.args.run.now.session.now

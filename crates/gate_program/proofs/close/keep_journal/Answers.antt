@@ -3,6 +3,7 @@ use Rattle.std.specs.Prelude.{Err}
 use Rattle.gate_program.specs.Run.{Holds}
 use Rattle.gate_program.proofs.Texts.{stood_written, stood_refused}
 use Rattle.gate_program.proofs.close.keep_journal.Goals as goal
+
 pub returns-in-Ok-write_file-clause-stood : goal.returns-in-Ok-write_file-clause-stood
 returns-in-Ok-write_file-clause-stood g c =
     inr (stood_written c.args.run.now.limits.now c.args.run.now.out.now c.args.run.now.session.now

@@ -8,6 +8,7 @@ use Rattle.gate_program.specs.CommandOf.{run_value}
 use Rattle.gate_program.proofs.Chains.{eight_is_memory}
 use Rattle.gate_program.proofs.Ways.{run_told}
 use Rattle.gate_program.proofs.command.run_and_tell.Goals as goal
+
 pub returns : goal.returns
 returns g c = run_told (run_value c.args.run.now) _ _ _ _ _ _ _ _ _ _ c.run_words-status.result _
     (eight_is_memory c.run_words-status.result

@@ -2,6 +2,7 @@ use Rattle.session_engine.specs.LimitsOf.{limits_value}
 use Rattle.gate_program.proofs.Texts.{venue_made, client_made, input_there}
 use Rattle.gate_program.proofs.Ways.{ended_went, unopened_named}
 use Rattle.gate_program.proofs.command.run_limited.Goals as goal
+
 pub run_opened-requires-clause-input : goal.run_opened-requires-clause-input
 run_opened-requires-clause-input g c κs within = record {
   means = c.in-Ok-open_session.ensures.input.means;

@@ -2,6 +2,7 @@ use Rattle.session_engine.specs.LimitsOf.{limits_value}
 use Rattle.gate_program.proofs.Texts.{own_still}
 use Rattle.gate_program.proofs.Ways.{has_ended}
 use Rattle.gate_program.proofs.command.run_opened.Goals as goal
+
 pub finish-requires-clause-input : goal.finish-requires-clause-input
 finish-requires-clause-input g c κs within =
     own_still _ _ _ _ c.play-played.ensures.input_name c.requires.input

@@ -1,6 +1,7 @@
 use Rattle.std.proofs.Common.{◌+◌, arith}
 use Rattle.gate_program.proofs.LimitDigits.{first_are_low, next_digit}
 use Rattle.gate_program.proofs.limits.number_of.Goals as goal
+
 pub overflow_mul-value : goal.overflow_mul-value
 overflow_mul-value c =
     let low = first_are_low c.args.digits.now c.loop-digit.digit-index c.requires.digits

@@ -4,6 +4,7 @@ use Rattle.session_engine.specs.Session.{LimitsValue}
 use Rattle.gate_program.specs.Gate.{AreLimits}
 use Rattle.gate_program.proofs.LimitFiles.{no_limits}
 use Rattle.gate_program.proofs.open.read_limits.Goals as goal
+
 pub returns-clause-err : goal.returns-clause-err
 returns-clause-err g c =
     let P : List ℕ → Type 0 = λ bytes. (limits : LimitsValue) → AreLimits bytes limits → ⊥ in

@@ -6,6 +6,7 @@ use Rattle.session_engine.specs.LimitsOf.{limits_value}
 use Rattle.gate_program.specs.Stages.{HasPlayed}
 use Rattle.gate_program.proofs.Played.{has_played, source_placed}
 use Rattle.gate_program.proofs.play.play.Goals as goal
+
 pub returns-clause-played : goal.returns-clause-played
 returns-clause-played g c =
     subst (λ (acts : List Act). HasPlayed c.give_back.result acts) (sym c.with_places.ensures)

@@ -1,6 +1,7 @@
 use Rattle.std.proofs.lemmas.Bool.Decides.{Decides-eqb}
 use Rattle.std.proofs.lemmas.Slice.Eq.{strip_prefix_is}
 use Rattle.gate_program.proofs.words.name_within.Goals as goal
+
 pub returns : goal.returns
 returns c =
     rw (← c.as_bytes.ensures.value, ← c.as_bytes-2.ensures.value)

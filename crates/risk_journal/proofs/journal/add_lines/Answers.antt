@@ -4,6 +4,7 @@ use Rattle.risk_board.specs.declared.hand.Line.{Line}
 use Rattle.risk_journal.specs.JournalText.{line_text}
 use Rattle.risk_journal.proofs.RowLists.{next_numbered}
 use Rattle.risk_journal.proofs.journal.add_lines.Goals as goal
+
 abbrev none : Line
 none = record { session = 0; index = 0; value = 0 }
 

@@ -3,6 +3,7 @@ use Rattle.std.proofs.Common.{◌≡◌, ◌++◌, take}
 use Rattle.risk_journal.specs.JournalText.{line_text}
 use Rattle.risk_journal.proofs.RowLists.{numbered}
 use Rattle.risk_journal.proofs.journal.add_lines.Given as goal
+
 abbrev pub invariant-loop-line : goal.invariant-loop-line
 invariant-loop-line l = record {
   number : l.place ≡ l.line-index;

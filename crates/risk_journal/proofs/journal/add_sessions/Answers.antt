@@ -2,6 +2,7 @@ use Rattle.std.proofs.Common.{arith}
 use Rattle.risk_journal.specs.JournalText.{session_text}
 use Rattle.risk_journal.proofs.RowLists.{next_numbered}
 use Rattle.risk_journal.proofs.journal.add_sessions.Goals as goal
+
 pub loop-acts-preserved : goal.loop-acts-preserved
 loop-acts-preserved c = record {
   number = omega arith;

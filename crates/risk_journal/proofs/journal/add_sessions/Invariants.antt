@@ -3,6 +3,7 @@ use Rattle.std.proofs.Common.{◌≡◌, ◌++◌, take}
 use Rattle.risk_journal.specs.JournalText.{session_text}
 use Rattle.risk_journal.proofs.RowLists.{numbered}
 use Rattle.risk_journal.proofs.journal.add_sessions.Given as goal
+
 abbrev pub invariant-loop-acts : goal.invariant-loop-acts
 invariant-loop-acts l = record {
   number : l.session ≡ l.acts-index;

@@ -2,6 +2,7 @@ use Rattle.std.proofs.Common.{arith}
 use Rattle.risk_journal.specs.JournalText.{tree_text}
 use Rattle.risk_journal.proofs.RowLists.{next_numbered}
 use Rattle.risk_journal.proofs.journal.add_trees.Goals as goal
+
 pub loop-lines-preserved : goal.loop-lines-preserved
 loop-lines-preserved c = record {
   number = omega arith;

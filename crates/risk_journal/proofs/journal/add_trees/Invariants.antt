@@ -3,6 +3,7 @@ use Rattle.std.proofs.Common.{◌≡◌, ◌++◌, take}
 use Rattle.risk_journal.specs.JournalText.{tree_text}
 use Rattle.risk_journal.proofs.RowLists.{numbered}
 use Rattle.risk_journal.proofs.journal.add_trees.Given as goal
+
 abbrev pub invariant-loop-lines : goal.invariant-loop-lines
 invariant-loop-lines l = record {
   number : l.tree ≡ l.lines-index;

@@ -2,6 +2,7 @@ use Rattle.std.proofs.Common.{arith}
 use Rattle.risk_journal.specs.ActLists.{placed}
 use Rattle.risk_journal.proofs.PlacedSoFar.{changed_more}
 use Rattle.risk_journal.proofs.placed.set_places.Goals as goal
+
 pub loop-index-preserved : goal.loop-index-preserved
 loop-index-preserved c =
     let more = changed_more (placed (λ stamp. stamp)) c.args.acts.now c.loop-index.acts

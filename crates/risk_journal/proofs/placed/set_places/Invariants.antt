@@ -2,6 +2,7 @@
 use Rattle.std.proofs.Common.{◌≡◌, map, take, drop}
 use Rattle.risk_journal.specs.ActLists.{placed}
 use Rattle.risk_journal.proofs.placed.set_places.Given as goal
+
 abbrev pub invariant-loop-index : goal.invariant-loop-index
 invariant-loop-index l = record {
   front : take l.index l.acts ≡ map (placed (λ stamp. stamp)) (take l.index l.initial.acts);

@@ -8,6 +8,7 @@ use Rattle.session_engine.specs.Stands.{new_value}
 use Rattle.session_engine.proofs.InStepLemmas.{early-none, lt_false_from_le, lt_true, late_acts}
 use Rattle.session_engine.proofs.InStepLemmas.{late_totals}
 use Rattle.session_engine.proofs.admit.ask.Goals as goal
+
 pub returns-then-root-limits-clause-asks : goal.returns-then-root-limits-clause-asks
 returns-then-root-limits-clause-asks g c =
     let seen : SeenAt = record {

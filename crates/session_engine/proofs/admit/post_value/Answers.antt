@@ -2,6 +2,7 @@
 use Rattle.std.proofs.Common.{arith, ◌+◌}
 use Rattle.session_engine.proofs.InStepLemmas.{in_step_after_post, post_count_in_step}
 use Rattle.session_engine.proofs.admit.post_value.Goals as goal
+
 pub post-requires-clause-left : goal.post-requires-clause-left
 post-requires-clause-left g c = omega (arith, post_count_in_step _ _ _ c.requires.step)
 

@@ -2,6 +2,7 @@
 use Rattle.session_engine.proofs.InStepLemmas.{in_step_after_sent, in_step_after_refused}
 use Rattle.session_engine.specs.Orders.{order_value}
 use Rattle.session_engine.proofs.decide.decide.Goals as goal
+
 pub returns-in-None-clause-step : goal.returns-in-None-clause-step
 returns-in-None-clause-step g c =
     rw (c.tell_sent.ensures.acts, c.tell_sent.ensures.totals)

@@ -2,6 +2,7 @@ use Rattle.std.proofs.Common.{sym, ◌∙◌}
 use Rattle.fix_fields.specs.Places.{field_at}
 use Rattle.session_engine.proofs.OtherFields.{passed, left_out}
 use Rattle.session_engine.proofs.forward.put_other.Goals as goal
+
 -- the field is passed on
 pub returns-then-not-is_own : goal.returns-then-not-is_own
 returns-then-not-is_own c =

@@ -7,6 +7,7 @@ use Rattle.session_engine.proofs.OtherFields.{others_text, fields_few, fields_ea
 use Rattle.session_engine.proofs.OtherFields.{next_field, next_few, still_begun, next_fits}
 use Rattle.session_engine.proofs.OtherFields.{next_passed, all_passed}
 use Rattle.session_engine.proofs.forward.put_others.Goals as goal
+
 pub put_other-requires-clause-begun : goal.put_other-requires-clause-begun
 put_other-requires-clause-begun c =
     still_begun c.args.writer.now c.loop-field.writer

@@ -4,6 +4,7 @@ use Rattle.std.specs.Prelude.{Some, IfSome}
 use Rattle.fix_fields.specs.Places.{field_at}
 use Rattle.session_engine.proofs.OtherFields.{others_text}
 use Rattle.session_engine.proofs.forward.put_others.Given as goal
+
 abbrev pub invariant-loop-field : goal.invariant-loop-field
 invariant-loop-field l = IfSome l.initial.writer
     (λ before. l.writer ≡ Some (before ++ others_text (map (field_at l.bytes) l.yielded)))

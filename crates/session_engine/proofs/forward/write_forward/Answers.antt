@@ -6,6 +6,7 @@ use Rattle.session_engine.proofs.OtherFields.{others_text, still_begun}
 use Rattle.session_engine.proofs.ShortValues.{one_has, taken_is_short}
 use Rattle.session_engine.proofs.ShortValues.{first_is_value, first_is_short}
 use Rattle.session_engine.proofs.forward.write_forward.Goals as goal
+
 -- the time that is copied is the first one
 pub put_opening-requires-clause-time : goal.put_opening-requires-clause-time
 put_opening-requires-clause-time c =

@@ -2,6 +2,7 @@
 use Rattle.std.proofs.Common.{arith}
 use Rattle.session_engine.proofs.ShortFields.{part_at, next_part, has_room_at, all_parts}
 use Rattle.session_engine.proofs.put.put_all.Goals as goal
+
 pub put_short-requires-clause-part : goal.put_short-requires-clause-part
 put_short-requires-clause-part c =
     part_at c.args.parts.now c.loop-part.part-index _ c.requires.parts (omega arith)

@@ -2,6 +2,7 @@
 use Rattle.std.proofs.Common.{◌∙◌, arith}
 use Rattle.session_engine.proofs.ShortFields.{has_begun, number_part, opening_text}
 use Rattle.session_engine.proofs.put.put_opening.Goals as goal
+
 pub put_short-requires-clause-room : goal.put_short-requires-clause-room
 put_short-requires-clause-room c =
     (1, _, has_begun c.args.kind _ c.begin.ensures, omega arith)

@@ -2,6 +2,7 @@
 use Rattle.fix_fields.specs.Fields.{field}
 use Rattle.session_engine.proofs.ShortFields.{is_begun, one_fits, one_more, part_is_field}
 use Rattle.session_engine.proofs.put.put_short.Goals as goal
+
 pub put-requires-clause-begun : goal.put-requires-clause-begun
 put-requires-clause-begun c = is_begun 1 _ c.requires.room
 

@@ -3,6 +3,7 @@ use Rattle.std.proofs.Common.{sym, ◌∙◌}
 use Rattle.session_engine.specs.FieldRows.{values_of}
 use Rattle.session_engine.proofs.ReadLemmas.{id_is_read, quantity_is_read, price_is_read, read_whole}
 use Rattle.session_engine.proofs.read.read_order.Goals as goal
+
 pub returns-in_default-clause-none : goal.returns-in_default-clause-none
 returns-in_default-clause-none c = λ fields has read. id_is_read fields read
     (sym (c.in_default.ensures (values_of 11 fields) has.id))

@@ -5,6 +5,7 @@ use Rattle.fix_fields.specs.Fields.{field}
 use Rattle.session_engine.specs.Parts.{HasPut}
 use Rattle.session_engine.proofs.Reports.{few_digits, execution_is, execution_part}
 use Rattle.session_engine.proofs.report.put_execution.Goals as goal
+
 pub write_digits-from-requires : goal.write_digits-from-requires
 write_digits-from-requires c =
     let few = few_digits c.args.number (omega arith) in

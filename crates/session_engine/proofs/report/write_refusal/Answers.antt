@@ -8,6 +8,7 @@ use Rattle.session_engine.proofs.ShortValues.{first_is_value}
 use Rattle.session_engine.proofs.Reports.{reason_is_short, part_is, part_of, opened}
 use Rattle.session_engine.proofs.Reports.{put_is_some, finished_is, refusal_said}
 use Rattle.session_engine.proofs.report.write_refusal.Goals as goal
+
 pub put_opening-requires-clause-receiver : goal.put_opening-requires-clause-receiver
 put_opening-requires-clause-receiver c =
     let order = c.requires.order in

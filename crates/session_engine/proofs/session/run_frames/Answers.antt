@@ -11,6 +11,7 @@ use Rattle.session_engine.proofs.FollowLemmas.{follows_source, read_fault_failed
 use Rattle.session_engine.proofs.FollowLemmas.{whole_is_whole, ended_at_whole}
 use Rattle.session_engine.specs.Runs.{StopsBefore, end_after}
 use Rattle.session_engine.proofs.session.run_frames.Goals as goal
+
 pub take_frames-requires-clause-few : goal.take_frames-requires-clause-few
 take_frames-requires-clause-few g c =
     rw c.input_of.ensures (omega (arith, length-take 33554432 c.deref.result.now))

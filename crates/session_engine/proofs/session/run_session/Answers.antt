@@ -5,6 +5,7 @@ use Rattle.risk_journal.specs.ActLists.{calls_of}
 use Rattle.risk_journal.specs.declared.acts.Act.TheVariants.{Ended}
 use Rattle.session_engine.proofs.InStepLemmas.{calls_of-append}
 use Rattle.session_engine.proofs.session.run_session.Goals as goal
+
 pub returns-clause-calls : goal.returns-clause-calls
 returns-clause-calls g c =
     rw c.push_reserved.ensures.items

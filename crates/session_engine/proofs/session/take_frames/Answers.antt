@@ -6,6 +6,7 @@ use Rattle.std.specs.Cmp.Lexicographic.{slice_cmp}
 use Rattle.session_engine.specs.LimitsOf.{limits_value}
 use Rattle.session_engine.proofs.RunLemmas.{runs_found, stops_other}
 use Rattle.session_engine.proofs.session.take_frames.Goals as goal
+
 pub loop-frame-preserved : goal.loop-frame-preserved
 loop-frame-preserved g c = record {
   step = c.take_frame.ensures.step;

@@ -7,6 +7,7 @@ use Rattle.session_engine.specs.LimitsOf.{limits_value}
 use Rattle.session_engine.specs.Stands.{InStep}
 use Rattle.session_engine.specs.Runs.{RunsTo}
 use Rattle.session_engine.proofs.session.take_frames.Given as goal
+
 abbrev pub invariant-loop-frame : goal.invariant-loop-frame
 invariant-loop-frame g l = record {
   step : InStep (g.H.Hand.meaning l.hand) l.state.acts.items l.state.totals;

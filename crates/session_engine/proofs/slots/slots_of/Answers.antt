@@ -6,6 +6,7 @@ use Rattle.std.proofs.lemmas.Iterator.Consumers.{YieldsList-from_first}
 use Rattle.session_engine.specs.Slotted.{slots_after, no_slots}
 use Rattle.session_engine.proofs.SlotLemmas.{slots_filled}
 use Rattle.session_engine.proofs.slots.slots_of.Goals as goal
+
 pub returns : goal.returns
 returns c = λ listed has.
     let places = c.fields.ensures.places listed has in

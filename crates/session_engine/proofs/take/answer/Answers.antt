@@ -1,6 +1,7 @@
 -- One sink took the message.
 use Rattle.session_engine.proofs.AnswerLemmas.{answered_sent, answered_refused}
 use Rattle.session_engine.proofs.take.answer.Goals as goal
+
 pub returns-in-None-clause-taken : goal.returns-in-None-clause-taken
 returns-in-None-clause-taken g c = λ taken fields has.
     answered_sent fields c.args.state.now.totals c.args.refusal

@@ -6,6 +6,7 @@ use Rattle.std.specs.Cmp.Lexicographic.{slice_cmp}
 use Rattle.session_engine.specs.Orders.{order_value}
 use Rattle.session_engine.proofs.TakenLemmas.{other_unsound, other_unread, other_known, order_stands}
 use Rattle.session_engine.proofs.take.order_in.Goals as goal
+
 pub returns-then-not-frame-clause-none : goal.returns-then-not-frame-clause-none
 returns-then-not-frame-clause-none c =
     other_unsound _ _ (contains (slice_cmp nat_cmp) c.args.ids.now) c.requires.stands

@@ -6,6 +6,7 @@ use Rattle.session_engine.specs.LimitsOf.{limits_value}
 use Rattle.session_engine.specs.Orders.{order_value}
 use Rattle.session_engine.proofs.TakenLemmas.{takes_read, counts_grow}
 use Rattle.session_engine.proofs.take.take_frame.Goals as goal
+
 pub returns-in-Ok-clause-taken : goal.returns-in-Ok-clause-taken
 returns-in-Ok-clause-taken g c = λ taken fields session has stands.
     rw (c.answer.ensures.acts, c.answer.ensures.ids, c.answer.ensures.totals)

@@ -2,6 +2,7 @@
 use Rattle.std.proofs.Common.{◌≡◌, refl, decimal, codes}
 use Rattle.std.specs.Fmt.{digits}
 use Rattle.session_engine.proofs.refusal.Refusal.order_reason.Goals as goal
+
 three : codes "3" ≡ decimal 3
 unfolding digits
 three = refl
