@@ -1,0 +1,2 @@
+pub mod LastPosts
+pub mod Legs
