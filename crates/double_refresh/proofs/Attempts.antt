@@ -1,10 +1,7 @@
 -- From the view before a call of a try to the view after it.
-use Rattle.std.proofs.Common.{◌≡◌, ◌⊎◌, ℕ, suc, ◌+◌, ◌/◌, Bool, true, false, Option, Some, None, refl, sym, ap, ◌∙◌, subst, inl, inr}
-use Rattle.std.specs.Bool.{OnTrue, OnFalse}
-use Rattle.std.specs.Prelude.{MatchBool, ⊤}
+use Rattle.std.proofs.Common.{◌≡◌, ℕ, suc, Some, refl, sym, ap, ◌∙◌}
 use Rattle.stamp_word.specs.Word.{stamp_in}
-use Rattle.node_rule.specs.declared.view.View.{View}
-use Rattle.node_rule.specs.declared.view.View.TheVariants.{Keeper, Session, Spent}
+use Rattle.node_rule.specs.declared.view.View.TheVariants.{Session}
 use Rattle.node_rule.specs.declared.view.Stage.{Stage}
 use Rattle.node_rule.specs.declared.view.Stage.TheVariants.{Fresh, First, Lost, Second}
 use Rattle.node_rule.specs.declared.view.Track.{Track}
@@ -12,9 +9,9 @@ use Rattle.node_rule.specs.declared.view.Try.{Try}
 use Rattle.node_rule.specs.declared.view.Ascent.{Ascent}
 use Rattle.node_rule.specs.declared.view.Plan.{Plan}
 use Rattle.node_rule.specs.Views.{try_of, staged, try_at, with_left, with_right, risen, installed}
-use Rattle.node_rule.specs.Steps.{after_stage, first_stage, left_stage, right_stage, after_win, after_loss, climb_lost, install_of}
+use Rattle.node_rule.specs.Steps.{after_stage, left_stage, right_stage, after_win, after_loss, climb_lost, install_of}
 use Rattle.node_rule.specs.Standing.{Standing}
-use Rattle.double_refresh.specs.Refreshing.{Wins, Loses, Rises}
+use Rattle.double_refresh.specs.Refreshing.{Wins, Loses}
 use Rattle.node_rule.proofs.OnWay.{win_is}
 
 pub left_try : (stage : Stage) (y : Try) (found : ℕ) → try_of stage ≡ Some y

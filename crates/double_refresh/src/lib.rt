@@ -16,3 +16,6 @@
 mod rise;
 
 pub use rise::refresh;
+
+#[cfg(test)]
+mod tests;

@@ -10,7 +10,11 @@ use stamp_word::Steps;
 use std::sync::ledger::Ledger;
 
 // The rest of a try: the children are loaded, and the parent's word is exchanged.
-fn attempt<F: Fold, L: Ledger>(words: &Words<F>, climb: &mut Climb<F>, steps: &mut Steps<L>) -> bool
+pub(crate) fn attempt<F: Fold, L: Ledger>(
+    words: &Words<F>,
+    climb: &mut Climb<F>,
+    steps: &mut Steps<L>,
+) -> bool
     requires table { IsOf words.now climb.old }
     requires stage { HasTry climb.old }
     ensures table { KeepsSeat climb.old climb.new }

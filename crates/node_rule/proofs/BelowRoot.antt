@@ -1,5 +1,5 @@
 -- A climb on its way stands below the root.
-use Rattle.std.proofs.Common.{◌≡◌, ℕ, ◌<◌, ◌≤◌, Bool, true, false, List, Option, Some, None, sym, ap, ◌∙◌, subst}
+use Rattle.std.proofs.Common.{◌≡◌, ℕ, Bool, true, false, List, Option, Some, None, sym, ap, ◌∙◌, subst}
 use Rattle.std.specs.Prelude.{IfSome}
 use Rattle.risk_board.specs.declared.hand.Call.{Call}
 use Rattle.node_rule.specs.declared.view.View.{View}

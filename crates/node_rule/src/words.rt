@@ -69,7 +69,9 @@ impl<F: Fold> Words<F> {
             place,
             steps,
         );
-        climb.ascent = Some(with_parent(x, word));
+        if let Some(ascent) = &mut climb.ascent {
+            keep_parent(ascent, word);
+        }
     }
 
     /// Loads the parent of the climb's node again, for the second try.
@@ -90,7 +92,9 @@ impl<F: Fold> Words<F> {
             place,
             steps,
         );
-        climb.ascent = Some(with_parent(x, word));
+        if let Some(ascent) = &mut climb.ascent {
+            keep_parent(ascent, word);
+        }
     }
 
     /// Loads the left child of the parent, once the parent is loaded.
@@ -111,7 +115,9 @@ impl<F: Fold> Words<F> {
             place,
             steps,
         );
-        climb.ascent = Some(with_left_word(x, word));
+        if let Some(ascent) = &mut climb.ascent {
+            keep_left(ascent, word);
+        }
     }
 
     /// Loads the right child of the parent, once the parent is loaded.
@@ -132,7 +138,9 @@ impl<F: Fold> Words<F> {
             place,
             steps,
         );
-        climb.ascent = Some(with_right_word(x, word));
+        if let Some(ascent) = &mut climb.ascent {
+            keep_right(ascent, word);
+        }
     }
 
     /// Exchanges the parent's word for the next stamp with the join of the loaded children's values.
@@ -184,58 +192,63 @@ pub(crate) fn shape_of(plan: &Plan) -> Shape
     }
 }
 
-fn with_parent(x: Ascent, word: u64) -> Ascent
-    ensures { result ≡ staged x (first_stage x.stage word) }
+fn keep_parent(x: &mut Ascent, word: u64)
+    ensures { x.new ≡ staged x.old (first_stage x.old.stage word) }
 {
     let tried = Try {
         parent: word,
         left: None,
         right: None,
     };
-    let stage = match x.stage {
-        Stage::Fresh => Stage::First(tried),
-        Stage::Lost(stamp) => Stage::Second(stamp, tried),
-        other => other,
-    };
-    Ascent { stage, ..x }
+    match x.stage {
+        Stage::Fresh => x.stage = Stage::First(tried),
+        Stage::Lost(stamp) => x.stage = Stage::Second(stamp, tried),
+        _ => {}
+    }
 }
 
-fn with_left_word(x: Ascent, word: u64) -> Ascent
-    ensures { result ≡ staged x (left_stage x.stage word) }
+fn keep_left(x: &mut Ascent, word: u64)
+    ensures { x.new ≡ staged x.old (left_stage x.old.stage word) }
 {
-    let stage = match x.stage {
-        Stage::First(tried) => Stage::First(Try {
-            left: Some(word),
-            ..tried
-        }),
-        Stage::Second(stamp, tried) => Stage::Second(
-            stamp,
-            Try {
+    match x.stage {
+        Stage::First(tried) => {
+            x.stage = Stage::First(Try {
                 left: Some(word),
                 ..tried
-            },
-        ),
-        other => other,
-    };
-    Ascent { stage, ..x }
+            })
+        }
+        Stage::Second(stamp, tried) => {
+            x.stage = Stage::Second(
+                stamp,
+                Try {
+                    left: Some(word),
+                    ..tried
+                },
+            )
+        }
+        _ => {}
+    }
 }
 
-fn with_right_word(x: Ascent, word: u64) -> Ascent
-    ensures { result ≡ staged x (right_stage x.stage word) }
+fn keep_right(x: &mut Ascent, word: u64)
+    ensures { x.new ≡ staged x.old (right_stage x.old.stage word) }
 {
-    let stage = match x.stage {
-        Stage::First(tried) => Stage::First(Try {
-            right: Some(word),
-            ..tried
-        }),
-        Stage::Second(stamp, tried) => Stage::Second(
-            stamp,
-            Try {
+    match x.stage {
+        Stage::First(tried) => {
+            x.stage = Stage::First(Try {
                 right: Some(word),
                 ..tried
-            },
-        ),
-        other => other,
-    };
-    Ascent { stage, ..x }
+            })
+        }
+        Stage::Second(stamp, tried) => {
+            x.stage = Stage::Second(
+                stamp,
+                Try {
+                    right: Some(word),
+                    ..tried
+                },
+            )
+        }
+        _ => {}
+    }
 }

@@ -1,7 +1,6 @@
-use Rattle.std.proofs.Common.{◌≡◌, ap, sym, ◌∙◌}
 use Rattle.node_rule.specs.Views.{staged, with_left}
 use Rattle.node_rule.specs.Steps.{left_stage, right_stage}
-use Rattle.double_refresh.proofs.Attempts.{left_try, staged_view, right_view, full_hand, wins, loses}
+use Rattle.double_refresh.proofs.Attempts.{left_try, staged_view, right_view, full_hand}
 use Rattle.double_refresh.proofs.rise.attempt.Goals as goal
 
 pub load_right-requires-clause-stage : goal.load_right-requires-clause-stage

@@ -1,0 +1,123 @@
+#!/usr/bin/env python3
+"""Measures pairs of a post and a read a second, with 1, 2, 4 and 8 threads: a forest beside plain Rust.
+
+usage: forests.py [PAIRS [REPETITIONS]]        100,000 pairs a thread, 7 repetitions where no number is given
+
+Each thread sets its own component of an array and reads the whole, on one array that all share ("one") or each
+on an array of its own ("own"). Five programs do so:
+
+forest        a forest of `f_array`, with as many trees as threads: a post sets the thread's component and climbs
+              to the root, a read loads the root. Each pass keeps its calls and installs, with room for 500 pairs
+              taken at a time.
+kept tree     the same words and steps in plain Rust, where each thread keeps its calls and installs too.
+bare tree     the same, where nothing is kept.
+one mutex     plain Rust: one Mutex round all arrays. A post locks it and sets the thread's component; a read
+              locks it and sums the components of the array.
+mutexes       plain Rust: a Mutex round each array, so under "own" no thread meets another.
+
+An array has a component for each thread. A pair is a post and then a read. The time is taken in the program,
+from the start of the threads to the end of the last. For each program a line is printed: the median of the
+repetitions, the lowest and the highest, in millions of pairs a second of all threads together; and the median
+of the processor time of the whole program, in nanoseconds a pair, which other work on the machine disturbs less.
+
+It needs the kit's `rt` and `rustc` on the PATH. The forest is proved and built in a temporary folder.
+"""
+import os
+import resource
+import shutil
+import statistics
+import subprocess
+import sys
+import tempfile
+
+BENCH = os.path.dirname(os.path.abspath(__file__))
+TOP = os.path.dirname(BENCH)
+THREADS = (1, 2, 4, 8)
+CRATES = ("fold_law", "risk_board", "stamp_word", "node_rule", "double_refresh", "f_array")
+
+
+def copy_forest(folder):
+    """The program's crate beside those it uses, of which it takes the sources, definitions and proofs."""
+    for name in CRATES:
+        for part in ("src", "specs", "proofs"):
+            source = os.path.join(TOP, "crates", name, part)
+            if os.path.isdir(source):
+                shutil.copytree(source, os.path.join(folder, "crates", name, part))
+    for path, _, names in os.walk(os.path.join(BENCH, "forest")):
+        for name in names:
+            target = os.path.join(folder, "crates", os.path.relpath(path, BENCH))
+            os.makedirs(target, exist_ok=True)
+            shutil.copy(os.path.join(path, name), os.path.join(target, name.removesuffix(".txt")))
+    shutil.copy(os.path.join(TOP, "HANDLES"), folder)
+    with open(os.path.join(TOP, "crates.txt"), encoding="utf-8") as lines:
+        kept = [line for line in lines if line.split(":")[0] in CRATES]
+    with open(os.path.join(folder, "crates.txt"), "w", encoding="utf-8") as out:
+        out.writelines(kept)
+        out.write("forest: " + " ".join(CRATES) + "\n")
+
+
+def build(folder):
+    """The words by which each program is called."""
+    copy_forest(folder)
+    crate = os.path.join(folder, "crates", "forest")
+    subprocess.run(["rt", "run", "--", "one", "1", "1"], cwd=crate, check=True, stdout=sys.stderr)
+    programs = {"forest": [os.path.join(crate, "out", "forest")]}
+    for name in ("mutex", "tree"):
+        program = os.path.join(folder, name)
+        source = os.path.join(BENCH, name + ".rs")
+        subprocess.run(["rustc", "--edition", "2021", "-O", "-o", program, source], check=True)
+        programs[name] = [program]
+    return {
+        "forest": programs["forest"],
+        "kept tree": programs["tree"] + ["kept"],
+        "bare tree": programs["tree"] + ["bare"],
+        "one mutex": programs["mutex"] + ["together"],
+        "mutexes": programs["mutex"] + ["apart"],
+    }
+
+
+def processor_time():
+    """The seconds of processor time of all programs that were run so far."""
+    used = resource.getrusage(resource.RUSAGE_CHILDREN)
+    return used.ru_utime + used.ru_stime
+
+
+def run(program, kind, threads, pairs):
+    """Of one run: millions of pairs a second, and nanoseconds of processor time a pair."""
+    words = program + [kind, str(threads), str(pairs)]
+    before = processor_time()
+    out = subprocess.run(words, check=True, capture_output=True, text=True).stdout
+    used = processor_time() - before
+    made, nanos = map(int, out.split())
+    if made != threads * pairs:
+        sys.exit(f"{made} pairs of {threads * pairs}: {' '.join(words)}")
+    return made * 1000 / nanos, used * 1e9 / made
+
+
+def measure(programs, kind, threads, pairs, repetitions):
+    """The runs of all programs in turn, and a line for each program."""
+    runs = {name: [] for name in programs}
+    for _ in range(repetitions):
+        for name, program in programs.items():
+            runs[name].append(run(program, kind, threads, pairs))
+    for name, all_runs in runs.items():
+        rates, times = zip(*all_runs)
+        print(f"{kind:5}{threads:8}  {name:11}{statistics.median(rates):8.2f}{min(rates):8.2f}{max(rates):8.2f}"
+              f"{statistics.median(times):8.0f}", flush=True)
+
+
+def main():
+    pairs = int(sys.argv[1]) if len(sys.argv) > 1 else 100_000
+    repetitions = int(sys.argv[2]) if len(sys.argv) > 2 else 7
+    with tempfile.TemporaryDirectory() as folder:
+        programs = build(folder)
+        print("load before:", *("%.1f" % load for load in os.getloadavg()))
+        print(f"{pairs} pairs a thread, {repetitions} repetitions")
+        print("array threads  program      median  lowest highest   ns CPU")
+        for kind in ("one", "own"):
+            for threads in THREADS:
+                measure(programs, kind, threads, pairs, repetitions)
+        print("load after:", *("%.1f" % load for load in os.getloadavg()))
+
+
+main()
