@@ -7,9 +7,10 @@ use Rattle.std.proofs.lemmas.Bool.{cases_Bool}
 use Rattle.std.specs.List.{cons_option}
 use Rattle.limit_table.specs.Kinds.{kind_of, kind_place, same_kind, rows_most}
 use Rattle.limit_table.specs.Faults.{count_alike}
-use Rattle.limit_table.specs.Tables.{IsFew, account_in, symbol_in}
+use Rattle.limit_table.specs.Tables.{IsFew, account_in, symbol_in, off_in}
 use Rattle.limit_table.specs.declared.kind.AccountRow.{AccountRow}
 use Rattle.limit_table.specs.declared.kind.SymbolRow.{SymbolRow}
+use Rattle.limit_table.specs.declared.kind.OffRow.{OffRow}
 use Rattle.limit_table.specs.declared.kind.Kind.{Kind}
 use Rattle.limit_table.specs.declared.kind.Kind.TheVariants as kind
 use Rattle.limit_table.specs.declared.kind.Entry.{Entry}
@@ -64,7 +65,7 @@ count_from_is p (x ∷ xs) n =
     count_from_is p xs (n + weight (p x)) ∙ shift n (weight (p x)) (count_by p xs)
     ∙ ap (λ m. n + m) (sym (count_from_is p xs (0 + weight (p x))))
 
-count_cons : (p : Entry → Bool) (x : Entry) (xs : List Entry)
+pub count_cons : (p : Entry → Bool) (x : Entry) (xs : List Entry)
     → count_by p (x ∷ xs) ≡ weight (p x) + count_by p xs
 count_cons p x xs =
     count_from_is p xs (0 + weight (p x)) ∙ ap (λ n. n + count_by p xs) (zero-add (weight (p x)))
@@ -177,6 +178,16 @@ symbol_adds (entry.Quota x) xs = none_more xs
 symbol_adds (entry.Repeat x) xs = none_more xs
 symbol_adds (entry.Off x) xs = none_more xs
 
+off_adds : (e : Entry) (xs : List OffRow)
+    → length (cons_option (off_in e) xs) ≡ weight (of_kind kind.Off e) + length xs
+off_adds (entry.Firm x) xs = none_more xs
+off_adds (entry.Account x) xs = none_more xs
+off_adds (entry.Symbol x) xs = none_more xs
+off_adds (entry.Trip x) xs = none_more xs
+off_adds (entry.Quota x) xs = none_more xs
+off_adds (entry.Repeat x) xs = none_more xs
+off_adds (entry.Off x) xs = one_more x xs
+
 length_accounts : (es : List Entry)
     → length (filter_map account_in es) ≡ count_by (of_kind kind.Account) es
 length_accounts [] = refl
@@ -193,8 +204,19 @@ length_symbols (e ∷ es) =
     ∙ ap (λ n. weight (of_kind kind.Symbol e) + n) (length_symbols es)
     ∙ sym (count_cons (of_kind kind.Symbol) e es)
 
+length_off : (es : List Entry)
+    → length (filter_map off_in es) ≡ count_by (of_kind kind.Off) es
+length_off [] = refl
+length_off (e ∷ es) =
+    off_adds e (filter_map off_in es)
+    ∙ ap (λ n. weight (of_kind kind.Off e) + n) (length_off es)
+    ∙ sym (count_cons (of_kind kind.Off) e es)
+
 pub few_accounts : (es : List Entry) → IsFew es → length (filter_map account_in es) ≤ 100
 few_accounts es few = omega (arith, length_accounts es, few kind.Account)
 
 pub few_symbols : (es : List Entry) → IsFew es → length (filter_map symbol_in es) ≤ 400
 few_symbols es few = omega (arith, length_symbols es, few kind.Symbol)
+
+pub few_off : (es : List Entry) → IsFew es → length (filter_map off_in es) ≤ 16
+few_off es few = omega (arith, length_off es, few kind.Off)

@@ -97,7 +97,7 @@ minus_self : (n : ℕ) → n - n ≡ 0
 minus_self n = omega arith
 
 -- the row in the middle, after the rows before it
-here_is : (earlier : List Row) (row : Row) (rest : List Row)
+pub here_is : (earlier : List Row) (row : Row) (rest : List Row)
     → row_at (earlier ++ row ∷ rest) (length earlier) ≡ row_after (entries_of earlier) row
 here_is earlier row rest =
     let before : take (length earlier) (earlier ++ row ∷ rest) ≡ earlier =

@@ -4,6 +4,9 @@ use Rattle.csv.specs.Records.{field_at}
 use Rattle.limit_table.specs.Entries.{entry_of}
 use Rattle.limit_table.specs.Faults.{row_after}
 use Rattle.limit_table.specs.Tables.{limits_of, quota_of}
+use Rattle.limit_table.specs.Printing.{price_text, text_of}
+use Rattle.std.specs.Fmt.{digits}
+use Rattle.csv.specs.Writing.{fields_text, escaped, is_blank}
 use Rattle.limit_table.specs.declared.kind.Entry.TheVariants as entry
 use Rattle.limit_table.specs.declared.kind.Cause.TheVariants as cause
 
@@ -53,3 +56,19 @@ no_rows = refl
 
 no_quota : quota_of [] ≡ 50000
 no_quota = refl
+
+-- 12 currency units, as they are written
+a_price : price_text 120000 ≡ codes "12.0000"
+unfolding digits
+a_price = refl
+
+-- the row that is written for a limit of the firm
+a_firm_row : text_of (entry.Firm 1000) ≡ codes "firm,,1000,,,\n"
+unfolding digits fields_text escaped is_blank
+a_firm_row = refl
+
+-- a name with a comma and a quote is written between quotes
+a_quoted_row : text_of (entry.Account (record { name = codes "A,\"B"; limit = 7 }))
+    ≡ codes "account,\"A,\"\"B\",7,,,\n"
+unfolding digits fields_text escaped is_blank
+a_quoted_row = refl

@@ -20,7 +20,7 @@ use Rattle.limit_table.specs.declared.kind.Cause.TheVariants as cause
 use Rattle.limit_table.proofs.Few.{few_more, few_none}
 
 -- a row
-abbrev Row : Type 0
+abbrev pub Row : Type 0
 Row = List (List ℕ)
 
 zero_is : (n : ℕ) → n - n ≡ 0
@@ -53,17 +53,26 @@ pub after_ok : (es : List Entry) (row : Row) (e : Entry) → row_after es row �
     → (entry_of row ≡ Ok e) × (entry_fault es e ≡ None)
 after_ok es row e h = after_by (entry_of row) es e h
 
-room_by : (a b c : Bool)
+fine_by : (a b c : Bool)
     → (if a then Some cause.Repeated else if b then Some cause.TooMany
-    else if c then Some cause.Band else None) ≡ None → b ≡ false
-room_by true b c h = cc h
-room_by false true c h = cc h
-room_by false false c h = refl
+    else if c then Some cause.Band else None) ≡ None
+    → (a ≡ false) × (b ≡ false) × (c ≡ false)
+fine_by true b c h = (cc h, cc h, cc h)
+fine_by false true c h = (cc h, cc h, cc h)
+fine_by false false true h = (cc h, cc h, cc h)
+fine_by false false false h = (refl, refl, refl)
 
--- there is room for it
-pub has_room : (es : List Entry) (e : Entry) → entry_fault es e ≡ None
-    → nat_le (rows_most (kind_of e)) (count_alike e es) ≡ false
-has_room es e h = room_by (list_any (same_key e) es) _ (is_crossed e) h
+-- no row before has the same key, there is room for the row, and its prices are in order
+pub record IsFine (es : List Entry) (e : Entry) : Type 0 where
+  pub new : list_any (same_key e) es ≡ false
+  pub room : nat_le (rows_most (kind_of e)) (count_alike e es) ≡ false
+  pub ordered : is_crossed e ≡ false
+
+pub no_fault : (es : List Entry) (e : Entry) → entry_fault es e ≡ None → IsFine es e
+no_fault es e h =
+    let parts = fine_by (list_any (same_key e) es)
+    (nat_le (rows_most (kind_of e)) (count_alike e es)) (is_crossed e) h in
+    record { new = parts.0; room = parts.1; ordered = parts.2 }
 
 -- the rows set one thing more
 pub entries_more : (rows : List Row) (row : Row) (e : Entry) → entry_of row ≡ Ok e
@@ -110,7 +119,7 @@ sound_more rows row e sound h =
     let size : length more ≡ length rows + 1 = length-append rows (row ∷ []) in
     λ k less. all k (subst (λ n. k < n) size less)
 
-some_entry : (r : Result Entry Cause) → IsOk r → (e : Entry) × (r ≡ Ok e)
+pub some_entry : (r : Result Entry Cause) → IsOk r → (e : Entry) × (r ≡ Ok e)
 some_entry (Ok e) h = (e, refl)
 some_entry (Err c) h = absurd (false_is_not_true h)
 
@@ -125,7 +134,7 @@ few_below rows (suc n) le sound =
     let parts = after_ok (entries_of (take n rows)) here good.0 good.1 in
     let few = few_below rows n (omega arith) sound in
     let more = few_more (entries_of (take n rows)) good.0 few
-    (has_room (entries_of (take n rows)) good.0 parts.1) in
+    (no_fault (entries_of (take n rows)) good.0 parts.1).room in
     let split : take (suc n) rows ≡ take n rows ++ here ∷ [] =
     ap (λ m. take m rows) (suc_is n) ∙ take_more rows n [] (omega arith) in
     let set = ap entries_of split ∙ entries_more (take n rows) here good.0 parts.0 in

@@ -5,3 +5,6 @@ pub mod Faults
 pub mod Places
 pub mod Tables
 pub mod Files
+pub mod Printing
+pub mod Ranges
+pub mod FileLimits

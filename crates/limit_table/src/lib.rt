@@ -1,9 +1,9 @@
-//! Limit files: the rows that they hold, the limits that they give, and the first fault of a file
-//! that isn't one.
+//! Limit files: the rows that they hold, the limits that they give, the first fault of a file that
+//! isn't one, and the file that is written for limits.
 //!
-//! A limit file is read as comma-separated values. Each row sets one limit: of the firm, of an account
-//! or of a symbol, or one of the settings of a run. A file is refused for the first fault of its first
-//! row with one.
+//! A limit file is read as comma-separated values. Each row sets one limit: of the firm, of an
+//! account or of a symbol, or one of the settings of a run. A file is refused for the first fault
+//! of its first row with one.
 #![tactic(auto)]
 
 mod columns;
@@ -12,17 +12,23 @@ mod fault;
 mod kind;
 mod limit_law;
 mod limits;
+mod listing;
 mod lists;
 mod making;
 mod places;
+mod price;
+mod printing;
 mod reading;
 
 pub use fault::LimitFault;
 pub use kind::{AccountRow, OffRow, SymbolRow};
-pub use limit_law::one_answer_stands;
+pub use limit_law::{held_limits_stand, one_answer_stands};
 pub use limits::Limits;
 pub use lists::{Accounts, OffRows, Symbols};
+pub use printing::print_limits;
 pub use reading::read_limits;
 
+#[cfg(test)]
+mod print_tests;
 #[cfg(test)]
 mod tests;

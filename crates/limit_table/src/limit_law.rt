@@ -1,6 +1,7 @@
-//! A law on limit files. The function does nothing: its contract is the law.
-ghost use Rattle.std.specs.Prelude.{◌≡◌, ℕ, List};
-ghost use Rattle.limit_table.specs.Files.{IsLimitFile, IsFirstFault};
+//! Laws on limit files. The functions do nothing: their contracts are the laws.
+ghost use Rattle.std.specs.Prelude.{◌≡◌, ℕ, List, ◌↔◌};
+ghost use Rattle.limit_table.specs.Files.{IsLimitFile, IsFirstFault, IsHeldByFile};
+ghost use Rattle.limit_table.specs.FileLimits.{AreFileLimits};
 ghost use Rattle.limit_table.specs.declared.limits.Limits.{Limits as Value};
 ghost use Rattle.limit_table.specs.declared.fault.LimitFault.{LimitFault as Fault};
 
@@ -12,4 +13,10 @@ pub fn one_answer_stands()
         → IsFirstFault bytes a → IsFirstFault bytes b → a ≡ b }
     ensures either { (bytes : List ℕ) (limits : Value) (why : Fault)
         → IsLimitFile bytes limits → IsFirstFault bytes why → ⊥ }
+{}
+
+/// A file can hold just those limits whose numbers and names are in range, with few names of each
+/// kind, all different.
+pub fn held_limits_stand()
+    ensures { (limits : Value) → IsHeldByFile limits ↔ AreFileLimits limits }
 {}

@@ -111,6 +111,13 @@ impl Accounts {
         self.rows.as_slice()
     }
 
+    /// The rows, in order, given back.
+    pub fn into_rows(self) -> Vec<AccountRow>
+        ensures { result.items ≡ self }
+    {
+        self.rows
+    }
+
     /// The place of a row with this name, from 0.
     pub(crate) fn place(&self, name: &Id) -> Option<u32>
         ensures { IsPlaceOf (account_names self.now) name.now result }
@@ -137,6 +144,13 @@ impl Symbols {
         self.rows.as_slice()
     }
 
+    /// The rows, in order, given back.
+    pub fn into_rows(self) -> Vec<SymbolRow>
+        ensures { result.items ≡ self }
+    {
+        self.rows
+    }
+
     /// The place of a row with this name, from 0.
     pub(crate) fn place(&self, name: &Id) -> Option<u32>
         ensures { IsPlaceOf (symbol_names self.now) name.now result }
@@ -158,5 +172,12 @@ impl OffRows {
         ensures { result.now ≡ self.now }
     {
         self.rows.as_slice()
+    }
+
+    /// The rows, in order, given back.
+    pub fn into_rows(self) -> Vec<OffRow>
+        ensures { result.items ≡ self }
+    {
+        self.rows
     }
 }

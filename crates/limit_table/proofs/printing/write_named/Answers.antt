@@ -1,0 +1,7 @@
+use Rattle.std.proofs.Common.{◌∙◌}
+use Rattle.limit_table.proofs.printing.write_named.Goals as goal
+
+pub returns : goal.returns
+returns c =
+    let number = c.as_bytes-number.ensures.value ∙ c.format.ensures.text in
+    rw (number, c.bytes.ensures) at c.write_row.ensures

@@ -1,0 +1,73 @@
+-- The rows that are written for limits, and their text.
+use Rattle.std.specs.Prelude.{◌≡◌, ℕ, ◌+◌, ◌/◌, ◌%◌, List, [], ◌∷◌, ◌++◌, map, codes, decimal}
+use Rattle.std.specs.Prelude.{Option, Some, None, false, Vec}
+use Rattle.std.specs.List.{flat_map}
+use Rattle.csv.specs.Writing.{row_text, default_writer, text_written, writer_setup, fields_written}
+use Rattle.csv.specs.Writing.{has_written}
+use Rattle.csv.specs.declared.writer.Writer.{Writer}
+use Rattle.limit_table.specs.declared.kind.Entry.{Entry}
+use Rattle.limit_table.specs.declared.kind.Entry.TheVariants as entry
+use Rattle.limit_table.specs.declared.limits.Limits.{Limits}
+
+-- the columns of a row of one number
+abbrev pub count_row : List ℕ → ℕ → List (List ℕ)
+count_row kind count = kind ∷ [] ∷ decimal count ∷ [] ∷ [] ∷ [] ∷ []
+
+-- the columns of a row of a name and one number
+abbrev pub named_row : List ℕ → List ℕ → ℕ → List (List ℕ)
+named_row kind name count = kind ∷ name ∷ decimal count ∷ [] ∷ [] ∷ [] ∷ []
+
+-- the four digits of a number below 10,000
+abbrev pub four_digits : ℕ → List ℕ
+four_digits n =
+    (48 + n / 1000) ∷ (48 + n / 100 % 10) ∷ (48 + n / 10 % 10) ∷ (48 + n % 10) ∷ []
+
+-- ten-thousandths of a currency unit: the whole part, a point and four digits
+abbrev pub price_text : ℕ → List ℕ
+price_text price = decimal (price / 10000) ++ 46 ∷ four_digits (price % 10000)
+
+-- the six columns of a row that sets this
+abbrev pub row_of : Entry → List (List ℕ)
+row_of (entry.Firm limit) = count_row (codes "firm") limit
+row_of (entry.Account row) = named_row (codes "account") row.name row.limit
+row_of (entry.Symbol row) =
+    codes "symbol" ∷ row.name ∷ decimal row.limit ∷ price_text row.low ∷ price_text row.high
+    ∷ decimal row.size ∷ []
+row_of (entry.Trip count) = count_row (codes "trip") count
+row_of (entry.Quota count) = count_row (codes "quota") count
+row_of (entry.Repeat count) = count_row (codes "repeat") count
+row_of (entry.Off row) = named_row (codes "off") row.name row.from
+
+-- the row that trips the halt, if there is one
+abbrev pub trip_rows : Option ℕ → List Entry
+trip_rows None = []
+trip_rows (Some count) = entry.Trip count ∷ []
+
+-- what the rows of a file with these limits set, in the order in which they are written
+abbrev pub entries_in : Limits → List Entry
+entries_in limits =
+    entry.Firm limits.firm
+    ∷ (map (λ row. entry.Account row) limits.accounts
+    ++ (map (λ row. entry.Symbol row) limits.symbols
+    ++ (trip_rows limits.trip
+    ++ (entry.Quota limits.quota ∷ entry.Repeat limits.repeat
+    ∷ map (λ row. entry.Off row) limits.off))))
+
+-- the text of a row, as `csv` writes its columns: quoted where need be, and ended by a line feed
+abbrev pub text_of : Entry → List ℕ
+text_of set = row_text default_writer (row_of set)
+
+-- the text of the rows, one after the other
+abbrev pub file_text : Limits → List ℕ
+file_text limits = flat_map text_of (entries_in limits)
+
+-- the writer has written this text, and stands at the start of a row
+pub record HasText {Z : Type 0} (writer : Writer (Vec ℕ Z)) (text : List ℕ) : Type 0 where
+  pub written : text_written (λ v. Some v.items) writer ≡ Some text
+  pub setup : writer_setup writer ≡ default_writer
+  pub fields : fields_written writer ≡ 0
+  pub clean : has_written writer ≡ false
+
+-- the writer has written this more
+abbrev pub AppendsText : {Z : Type 0} → Writer (Vec ℕ Z) → Writer (Vec ℕ Z) → List ℕ → Type 0
+AppendsText old new more = (text : List ℕ) → HasText old text → HasText new (text ++ more)
