@@ -4,16 +4,17 @@
 usage: forests.py [PAIRS [REPETITIONS]]        100,000 pairs a thread, 7 repetitions where no number is given
 
 Each thread sets its own component of an array and reads the whole, on one array that all share ("one") or each
-on an array of its own ("own"). Five programs do so:
+on an array of its own ("own"). Six programs do so:
 
 forest        a forest of `f_array`, with as many trees as threads: a post sets the thread's component and climbs
               to the root, a read loads the root. Each pass keeps its calls and installs, with room for 500 pairs
               taken at a time.
 kept tree     the same words and steps in plain Rust, where each thread keeps its calls and installs too.
-bare tree     the same, where nothing is kept.
-one mutex     plain Rust: one Mutex round all arrays. A post locks it and sets the thread's component; a read
-              locks it and sums the components of the array.
-mutexes       plain Rust: a Mutex round each array, so under "own" no thread meets another.
+kept mutex    plain Rust: one Mutex round all arrays. A post locks it and sets the thread's component; a read
+              locks it and sums the components of the array. Each thread keeps its calls.
+bare tree     the words and steps of the forest in plain Rust, where nothing is kept.
+bare mutex    one Mutex round all arrays, where nothing is kept.
+mutexes       a Mutex round each array, where nothing is kept: under "own" no thread meets another.
 
 An array has a component for each thread. A pair is a post and then a read. The time is taken in the program,
 from the start of the threads to the end of the last. For each program a line is printed: the median of the
@@ -56,23 +57,27 @@ def copy_forest(folder):
         out.write("forest: " + " ".join(CRATES) + "\n")
 
 
+def build_rust(folder, name):
+    """The program of this source, built."""
+    program = os.path.join(folder, name)
+    source = os.path.join(BENCH, name + ".rs")
+    subprocess.run(["rustc", "--edition", "2021", "-O", "-o", program, source], check=True)
+    return [program]
+
+
 def build(folder):
     """The words by which each program is called."""
     copy_forest(folder)
     crate = os.path.join(folder, "crates", "forest")
     subprocess.run(["rt", "run", "--", "one", "1", "1"], cwd=crate, check=True, stdout=sys.stderr)
-    programs = {"forest": [os.path.join(crate, "out", "forest")]}
-    for name in ("mutex", "tree"):
-        program = os.path.join(folder, name)
-        source = os.path.join(BENCH, name + ".rs")
-        subprocess.run(["rustc", "--edition", "2021", "-O", "-o", program, source], check=True)
-        programs[name] = [program]
+    tree, mutex = build_rust(folder, "tree"), build_rust(folder, "mutex")
     return {
-        "forest": programs["forest"],
-        "kept tree": programs["tree"] + ["kept"],
-        "bare tree": programs["tree"] + ["bare"],
-        "one mutex": programs["mutex"] + ["together"],
-        "mutexes": programs["mutex"] + ["apart"],
+        "forest": [os.path.join(crate, "out", "forest")],
+        "kept tree": tree + ["kept"],
+        "kept mutex": mutex + ["kept", "together"],
+        "bare tree": tree + ["bare"],
+        "bare mutex": mutex + ["bare", "together"],
+        "mutexes": mutex + ["bare", "apart"],
     }
 
 

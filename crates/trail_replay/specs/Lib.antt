@@ -1,0 +1,5 @@
+pub mod Blocks
+pub mod Fronts
+pub mod Sums
+pub mod Histories
+pub mod Arrays
