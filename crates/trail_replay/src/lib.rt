@@ -22,3 +22,6 @@ pub use blocks::replay;
 pub use history::{History, at, place};
 pub use law::{closed_records_are_lawful, histories_are_legal};
 pub use walk::Walk;
+
+#[cfg(test)]
+mod tests;

@@ -1,0 +1,14 @@
+pub mod Rows
+pub mod SlotLemmas
+pub mod Walks
+pub mod FaultLemmas
+pub mod ReadLemmas
+pub mod Messages
+pub mod ShortFields
+pub mod Openings
+pub mod Rejects
+pub mod OtherFields
+pub mod Passed
+pub mod OrderValues
+pub mod OrderRejects
+pub mod Ids
