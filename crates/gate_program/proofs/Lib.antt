@@ -1,6 +1,6 @@
-pub mod LimitDigits
 pub mod FileNames
 pub mod LimitFiles
+pub mod LimitTexts
 pub mod Chains
 pub mod Ran
 pub mod Ways

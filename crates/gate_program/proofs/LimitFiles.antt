@@ -1,44 +1,109 @@
--- A text that goes on behind more bytes than a limit file has is none.
-use Rattle.std.proofs.Common.{◌≡◌, ℕ, ◌+◌, ◌≤◌, List, [], ◌∷◌, ◌++◌, length, ap, subst}
-use Rattle.std.proofs.Common.{arith, codes, inl, inr, length-append}
-use Rattle.std.specs.Prelude.{Option, Some, None}
+-- What is read of a limit file decides about the whole of it.
+use Rattle.std.proofs.Common.{◌≡◌, ℕ, ◌+◌, ◌<◌, ◌≤◌, List, ◌++◌, length, sym, ap, subst, arith, inl, inr}
+use Rattle.std.proofs.Common.{length-append}
+use Rattle.std.specs.Prelude.{Option, Some, None, Result, Ok, Err, IfOk, IfErr}
 use Rattle.gate_ports.specs.Names.{Texts}
+use Rattle.limit_table.specs.Files.{IsLimitFile, IsFirstFault, bytes_most}
+use Rattle.limit_table.specs.declared.fault.LimitFault.{LimitFault}
+use Rattle.limit_table.specs.declared.limits.Limits.{Limits}
 use Rattle.session_engine.specs.Session.{LimitsValue}
-use Rattle.gate_program.specs.Gate.{AreLimits}
-use Rattle.gate_program.specs.Stages.{HasFront}
-use Rattle.gate_program.specs.Gate.{HasNoLimits}
+use Rattle.gate_program.specs.declared.status.Status.{Status}
+use Rattle.gate_program.specs.declared.status.Status.TheVariants as status
+use Rattle.gate_program.specs.Run.{PortsValue}
+use Rattle.gate_program.specs.Limits.{AreLimits, AreUnserved}
+use Rattle.gate_program.specs.Gate.{HasLimits, HasUnserved, IsRefused}
+use Rattle.gate_program.specs.Stages.{HasFront, HasLimitsFault, GivesNoLimits, TellsFault, IsUnread}
 
-length_of_row : (digits : List ℕ)
-    → length (codes "firm,," ++ digits ++ codes ",,," ++ 10 ∷ []) ≡ length digits + 10
-length_of_row digits = simp length-append (omega arith)
+-- what follows of each value follows of an answer with one
+pub if_ok : {A E : Type 0} (P Q : A → Type 0) (r : Result A E) → ((x : A) → P x → Q x) → IfOk r P
+    → IfOk r Q
+if_ok P Q (Ok x) each holds = each x holds
+if_ok P Q (Err e) each holds = tt
 
--- a limit file is short
-pub short_file : (text : List ℕ) (limits : LimitsValue) → AreLimits text limits → length text ≤ 22
-short_file text limits are =
-    omega (arith, ap length are.spelled, length_of_row are.digits, are.no_more)
+pub if_err : {A E : Type 0} (P Q : E → Type 0) (r : Result A E) → ((e : E) → P e → Q e)
+    → IfErr r P → IfErr r Q
+if_err P Q (Ok x) each holds = tt
+if_err P Q (Err e) each holds = each e holds
 
--- bytes that are no limit file, and all there is or more than one has: the text is none
-pub no_limits : (told : Option Texts) (name : List ℕ) (most : ℕ) (bytes : List ℕ) → 23 ≤ most
-    → HasFront told name most bytes → ((limits : LimitsValue) → AreLimits bytes limits → ⊥)
-    → HasNoLimits told name
-no_limits None name most bytes room front none = tt
-no_limits (Some texts) name most bytes room (text, is, inl same) none = (
-  text,
-  is,
-  λ limits are. none limits (let P : List ℕ → Type 0 =
-      λ t. AreLimits t limits in subst P same are),
-)
-no_limits (Some texts) name most bytes room (text, is, inr (long, rest, spelled)) none = (
-  text,
-  is,
-  λ limits are.
-      omega (
-        arith,
-        short_file text limits are,
-        long,
-        room,
-        ap length spelled,
-        length-append bytes
-            rest,
-      ),
-)
+-- more bytes than a limit file has are none
+long_is_none : (bytes : List ℕ) (limits : Limits) → bytes_most < length bytes
+    → IsLimitFile bytes limits → ⊥
+long_is_none bytes limits long file = let few = file.few in omega (arith, long, few)
+
+longer : (text bytes rest : List ℕ) → text ≡ bytes ++ rest → bytes_most < length bytes
+    → bytes_most < length text
+longer text bytes rest is long = omega (arith, long, ap length is, length-append bytes rest)
+
+-- the fault of more bytes than a limit file has is that of a text that goes on behind them
+long_fault : (text bytes rest : List ℕ) (why : LimitFault) → text ≡ bytes ++ rest
+    → bytes_most < length bytes → IsFirstFault bytes why → IsFirstFault text why
+long_fault text bytes rest why is long (inl too_long) =
+    inl (record { long = longer text bytes rest is long; fault = too_long.fault })
+long_fault text bytes rest why is long (inr (inl row)) =
+    let few = row.0 in absurd (omega (arith, long, few))
+long_fault text bytes rest why is long (inr (inr lacks)) =
+    let few = lacks.few in absurd (omega (arith, long, few))
+
+module _ (name : List ℕ) (most : ℕ) (room : bytes_most < most) where
+  pub has_limits : (told : Option Texts) (bytes : List ℕ) (limits : LimitsValue)
+      → HasFront told name most bytes → AreLimits bytes limits → HasLimits told name limits
+  has_limits None bytes limits front are = tt
+  has_limits (Some texts) bytes limits (text, is, inl same) are =
+      (text, is, subst (λ (t : List ℕ). AreLimits t limits) (sym same) are)
+  has_limits (Some texts) bytes limits (text, is, inr (long, rest, spelled)) are =
+      absurd (long_is_none bytes are.file (omega (arith, long, room)) are.held)
+
+  pub has_unserved : (told : Option Texts) (bytes : List ℕ)
+      → HasFront told name most bytes → AreUnserved bytes → HasUnserved told name
+  has_unserved None bytes front are = tt
+  has_unserved (Some texts) bytes (text, is, inl same) are =
+      (text, is, subst AreUnserved (sym same) are)
+  has_unserved (Some texts) bytes (text, is, inr (long, rest, spelled)) are =
+      absurd (long_is_none bytes are.file (omega (arith, long, room)) are.held)
+
+  pub is_refused : (told : Option Texts) (bytes : List ℕ) (why : LimitFault)
+      → HasFront told name most bytes → IsFirstFault bytes why → IsRefused told name why
+  is_refused None bytes why front fault = tt
+  is_refused (Some texts) bytes why (text, is, inl same) fault =
+      (text, is, subst (λ (t : List ℕ). IsFirstFault t why) (sym same) fault)
+  is_refused (Some texts) bytes why (text, is, inr (long, rest, spelled)) fault =
+      (text, is, long_fault text bytes rest why spelled (omega (arith, long, room)) fault)
+
+  -- why the bytes that were read give no limits is why the name has none
+  pub has_limits_fault : (before after : PortsValue) (bytes : List ℕ) (s : Status)
+      → HasFront before.texts name most bytes → GivesNoLimits bytes s
+      → HasLimitsFault before after name s
+  has_limits_fault before after bytes (status.Limits why) front gives =
+      is_refused before.texts bytes why front gives
+  has_limits_fault before after bytes status.NotBuilt front gives =
+      has_unserved before.texts bytes front gives
+  has_limits_fault before after bytes status.Memory front gives = tt
+  has_limits_fault before after bytes status.Done front gives = absurd gives
+  has_limits_fault before after bytes status.Usage front gives = absurd gives
+  has_limits_fault before after bytes status.CutShort front gives = absurd gives
+  has_limits_fault before after bytes status.ReadFault front gives = absurd gives
+  has_limits_fault before after bytes status.WriteFault front gives = absurd gives
+
+-- why a name was not read is why there are no limits
+pub unread_limits : (before after : PortsValue) (name : List ℕ) (s : Status)
+    → IsUnread before after name s → HasLimitsFault before after name s
+unread_limits before after name status.ReadFault unread = unread
+unread_limits before after name status.Memory unread = tt
+unread_limits before after name (status.Limits why) unread = absurd unread
+unread_limits before after name status.NotBuilt unread = absurd unread
+unread_limits before after name status.Done unread = absurd unread
+unread_limits before after name status.Usage unread = absurd unread
+unread_limits before after name status.CutShort unread = absurd unread
+unread_limits before after name status.WriteFault unread = absurd unread
+
+-- a fault of the limit file is told as it is
+pub tells_fault : (before after : PortsValue) (name : List ℕ) (s : Status)
+    → HasLimitsFault before after name s → TellsFault before.texts name s
+tells_fault before after name (status.Limits why) fault = fault
+tells_fault before after name status.NotBuilt fault = tt
+tells_fault before after name status.Memory fault = tt
+tells_fault before after name status.Done fault = tt
+tells_fault before after name status.Usage fault = tt
+tells_fault before after name status.CutShort fault = tt
+tells_fault before after name status.ReadFault fault = tt
+tells_fault before after name status.WriteFault fault = tt

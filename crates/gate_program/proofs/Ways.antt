@@ -1,7 +1,7 @@
 -- The ways of a run, as its stages come one behind another.
 use Rattle.std.proofs.Common.{◌∷◌, ◌≡◌, ◌≢◌, ℕ, List, [], refl, sym, subst}
 use Rattle.std.proofs.Common.{◌∙◌, inl, inr, arith, Bool, true, false}
-use Rattle.std.specs.Prelude.{Option, None, ◌⊎◌}
+use Rattle.std.specs.Prelude.{Option, Some, None, ◌⊎◌}
 use Rattle.gate_ports.specs.Faults.{Rose, NeverFalls}
 use Rattle.gate_ports.specs.Names.{Texts}
 use Rattle.std.specs.Option.{option_map}
@@ -13,12 +13,16 @@ use Rattle.risk_journal.specs.declared.acts.End.TheVariants as ending
 use Rattle.gate_program.specs.declared.status.Status.{Status}
 use Rattle.gate_program.specs.declared.status.Status.TheVariants as status
 use Rattle.session_engine.specs.Session.{LimitsValue}
-use Rattle.gate_program.specs.Words.{RunWords, venue_name, client_name}
+use Rattle.gate_program.specs.Words.{RunWords, Command, venue_name, client_name}
+use Rattle.gate_program.specs.Words.Command.{Run as RunCommand}
 use Rattle.gate_program.specs.Run.{PortsValue, EndHolds, ReadRose, WriteRose, standing_of}
-use Rattle.gate_program.specs.Gate.{RunWent, HasJournal, IsTold, text_after, read_fault_text}
+use Rattle.gate_program.specs.Limits.{limits_fault_text}
+use Rattle.gate_program.specs.Gate.{CommandWent, RunWent, SessionsWent, HasRefusedLimits, HasJournal}
+use Rattle.gate_program.specs.Gate.{IsTold}
+use Rattle.gate_program.specs.Gate.{text_after, read_fault_text}
 use Rattle.gate_program.specs.Gate.{write_fault_text, not_built_text}
 use Rattle.session_engine.specs.Follows.{IsByInput, FollowsSource}
-use Rattle.gate_program.specs.Stages.{Went, IsUnopened, HasLimitsFault, AreOutputs}
+use Rattle.gate_program.specs.Stages.{Went, IsUnopened, HasLimitsFault, TellsFault, AreOutputs}
 use Rattle.gate_program.specs.Gate.{HasLimits}
 use Rattle.gate_program.specs.Run.{is_memory}
 use Rattle.std.specs.List.{list_any}
@@ -26,7 +30,7 @@ use Rattle.gate_program.specs.Stages.{HasPlayed, HasFinished, HasEnded, IsNewSou
 use Rattle.gate_program.specs.Stages.{with_two}
 use Rattle.gate_program.specs.Statuses.{number_of, told_text}
 use Rattle.gate_program.proofs.Chains.{rose_from, rose_is_some, zero_stands, told_text_is}
-use Rattle.gate_program.proofs.Chains.{standing_of_isnt_usage}
+use Rattle.gate_program.proofs.Chains.{standing_of_isnt_usage, standing_of_isnt_limits}
 use Rattle.gate_program.proofs.Ran.{one_run, silent, journal_from, has_run}
 
 -- a folder beside a standard output
@@ -45,10 +49,10 @@ pub unopened : (limit_name out session : List ℕ) (t0 : Option Texts) (r0 w0 : 
     (limits : LimitsValue) (s : Status) → HasLimits t0 limit_name limits
     → IsUnopened (silent t0 r0 w0) (silent t1 r1 w1) session (venue_name out 0)
     (client_name out 0) s
-    → (number_of s ≡ 8) ⊎ RunWent (one_run limit_name out session) (silent t0 r0 w0)
+    → (number_of s ≡ 8) ⊎ SessionsWent (one_run limit_name out session) (silent t0 r0 w0)
     (silent t1 r1 w1) (number_of s)
 unopened l o n t0 r0 w0 t1 r1 w1 limits status.ReadFault limits_are rose =
-    inr (inr (inr (inl (record {
+    inr (inl (record {
       limits = limits;
       limits_are = limits_are;
       session = 0;
@@ -56,9 +60,9 @@ unopened l o n t0 r0 w0 t1 r1 w1 limits status.ReadFault limits_are rose =
       rose = rose;
       told =
           inl (refl, tt);
-    }))))
+    }))
 unopened l o n t0 r0 w0 t1 r1 w1 limits status.WriteFault limits_are rose =
-    inr (inr (inr (inr (inl (record {
+    inr (inr (inl (record {
       limits = limits;
       limits_are = limits_are;
       session = 0;
@@ -66,10 +70,11 @@ unopened l o n t0 r0 w0 t1 r1 w1 limits status.WriteFault limits_are rose =
       rose = rose;
       told =
           inl (refl, tt);
-    })))))
+    })))
 unopened l o n t0 r0 w0 t1 r1 w1 limits status.Memory limits_are fault = inl refl
 unopened l o n t0 r0 w0 t1 r1 w1 limits status.Done limits_are fault = absurd fault
 unopened l o n t0 r0 w0 t1 r1 w1 limits status.Usage limits_are fault = absurd fault
+unopened l o n t0 r0 w0 t1 r1 w1 limits (status.Limits why) limits_are fault = absurd fault
 unopened l o n t0 r0 w0 t1 r1 w1 limits status.CutShort limits_are fault = absurd fault
 unopened l o n t0 r0 w0 t1 r1 w1 limits status.NotBuilt limits_are fault = absurd fault
 
@@ -80,8 +85,10 @@ pub no_limits_went : (run : RunWords) (t0 : Option Texts) (r0 w0 : List ℕ → 
     → (number_of s ≡ 8) ⊎ RunWent run (silent t0 r0 w0) (silent t1 r1 w1) (number_of s)
 no_limits_went run t0 r0 w0 t1 r1 w1 status.ReadFault same rose =
     inr (inl (record { rose = rose; texts = same; told = inl (refl, tt) }))
+no_limits_went run t0 r0 w0 t1 r1 w1 (status.Limits why) same refused =
+    inr (inr (inl (record { why = why; refused = refused; texts = same; told = inl (refl, tt) })))
 no_limits_went run t0 r0 w0 t1 r1 w1 status.NotBuilt same other =
-    inr (inr (inl (record { other = other; texts = same; told = inl (refl, tt) })))
+    inr (inr (inr (inl (record { other = other; texts = same; told = inl (refl, tt) }))))
 no_limits_went run t0 r0 w0 t1 r1 w1 status.Memory same fault = inl refl
 no_limits_went run t0 r0 w0 t1 r1 w1 status.Done same fault = absurd fault
 no_limits_went run t0 r0 w0 t1 r1 w1 status.Usage same fault = absurd fault
@@ -107,21 +114,17 @@ module _ (run : RunWords) (t : Option Texts) (r0 w0 r1 w1 : List ℕ → ℕ) (t
   end_earlier limits n bytes own (ending.NotBuilt place) holds = holds
 
   -- what was done after calls that changed no text was done from before them
-  went_earlier : (n : ℕ) → RunWent run (silent t r1 w1) (silent t2 r2 w2) n
-      → RunWent run (silent t r0 w0) (silent t2 r2 w2) n
-  went_earlier n (inl h) =
-      inl (record { rose = rose_from _ _ _ (reads _) h.rose; texts = h.texts; told = h.told })
-  went_earlier n (inr (inl h)) =
-      inr (inl (record { other = h.other; texts = h.texts; told = h.told }))
-  went_earlier n (inr (inr (inl h))) = inr (inr (inl (record {
+  sessions_earlier : (n : ℕ) → SessionsWent run (silent t r1 w1) (silent t2 r2 w2) n
+      → SessionsWent run (silent t r0 w0) (silent t2 r2 w2) n
+  sessions_earlier n (inl h) = inl (record {
     limits = h.limits;
     limits_are = h.limits_are;
     session = h.session;
     in_range = h.in_range;
     rose = rose_from _ _ _ (reads _) h.rose;
     told = h.told;
-  })))
-  went_earlier n (inr (inr (inr (inl h)))) = inr (inr (inr (inl (record {
+  })
+  sessions_earlier n (inr (inl h)) = inr (inl (record {
     limits = h.limits;
     limits_are = h.limits_are;
     session = h.session;
@@ -132,8 +135,8 @@ module _ (run : RunWords) (t : Option Texts) (r0 w0 r1 w1 : List ℕ → ℕ) (t
           ↦ inr (rose_from _ _ _ (writes _) rose)
     ];
     told = h.told;
-  }))))
-  went_earlier n (inr (inr (inr (inr h)))) = inr (inr (inr (inr (record {
+  }))
+  sessions_earlier n (inr (inr h)) = inr (inr (record {
     limits = h.limits;
     inputs = h.inputs;
     acts = h.acts;
@@ -154,23 +157,38 @@ module _ (run : RunWords) (t : Option Texts) (r0 w0 r1 w1 : List ℕ → ℕ) (t
         h.refused writes h.journal;
     others = h.others;
     told = h.told;
-  }))))
+  }))
 
 -- the same behind calls that changed no text
 pub went_behind : (run : RunWords) (t0 t1 : Option Texts) (r0 w0 r1 w1 : List ℕ → ℕ)
     (t2 : Option Texts) (r2 w2 : List ℕ → ℕ)
     (n : ℕ) → Went (silent t0 r0 w0) (silent t1 r1 w1) → t1 ≡ t0 → (n ≡ 8)
-    ⊎ RunWent run (silent t1 r1 w1) (silent t2 r2 w2) n
+    ⊎ SessionsWent run (silent t1 r1 w1) (silent t2 r2 w2) n
     → (n ≡ 8) ⊎ RunWent run (silent t0 r0 w0) (silent t2 r2 w2) n
 went_behind run t0 t1 r0 w0 r1 w1 t2 r2 w2 n went same (inl memory) = inl memory
 went_behind run t0 t1 r0 w0 r1 w1 t2 r2 w2 n went same (inr did) =
-    inr (went_earlier run t0 r0 w0 r1 w1 t2 r2 w2 went.read went.written n
-    (subst (λ (t : Option Texts). RunWent run (silent t r1 w1) (silent t2 r2 w2) n) same did))
+    inr (inr (inr (inr (sessions_earlier run t0 r0 w0 r1 w1 t2 r2 w2 went.read went.written n
+    (subst (λ (t : Option Texts). SessionsWent run (silent t r1 w1) (silent t2 r2 w2) n) same
+    did)))))
 
 -- a standard output that tells nothing was told the status that stands
 stands : (text : List ℕ) (standing n : ℕ) → IsTold None None 0 0 text standing n → n ≡ standing
 stands text standing n (inl told) = told.0
 stands text standing n (inr told) = absurd (zero_stands told.1)
+
+-- the status of a run behind its limits isn't that of a refused limit file
+pub sessions_arent_limits : (run : RunWords) (t0 : Option Texts) (r0 w0 : List ℕ → ℕ)
+    (t1 : Option Texts) (r1 w1 : List ℕ → ℕ) (n : ℕ)
+    → (n ≡ 8) ⊎ SessionsWent run (silent t0 r0 w0) (silent t1 r1 w1) n → n ≢ 3
+sessions_arent_limits run t0 r0 w0 t1 r1 w1 n (inl memory) three = omega (arith, memory, three)
+sessions_arent_limits run t0 r0 w0 t1 r1 w1 n (inr (inl h)) three =
+    omega (arith, stands read_fault_text 5 n h.told, three)
+sessions_arent_limits run t0 r0 w0 t1 r1 w1 n (inr (inr (inl h))) three =
+    omega (arith, stands write_fault_text 6 n h.told, three)
+sessions_arent_limits run t0 r0 w0 t1 r1 w1 n (inr (inr (inr h))) three =
+    standing_of_isnt_limits h.ends h.refused
+    (sym (stands (text_after (standing_of h.ends h.refused)) (standing_of h.ends h.refused) n h.told)
+    ∙ three)
 
 module _ (run : RunWords) (t0 : Option Texts) (r0 w0 : List ℕ → ℕ) (t1 : Option Texts)
     (r1 w1 : List ℕ → ℕ)
@@ -197,47 +215,56 @@ module _ (run : RunWords) (t0 : Option Texts) (r0 w0 : List ℕ → ℕ) (t1 : O
 
   -- the status that stands is told with its text
   told_at : (s : Status) (standing answer : ℕ) → number_of s ≡ standing → standing ≢ 2
-      → number_of s ≢ 8
+      → standing ≢ 3 → number_of s ≢ 8
       → IsTold held held_after faults faults_after (told_text s) (number_of s) answer
       → IsTold held held_after faults faults_after (text_after standing) standing answer
-  told_at s standing answer is words memory told =
+  told_at s standing answer is words limits memory told =
       subst (λ (n : ℕ). IsTold held held_after faults faults_after (text_after n) n answer) is
       (subst (λ (text : List ℕ). IsTold held held_after faults faults_after text
       (number_of s) answer)
-      (told_text_is s (λ two. words (sym is ∙ two)) memory) told)
+      (told_text_is s (λ two. words (sym is ∙ two)) (λ three. limits (sym is ∙ three)) memory) told)
 
-  -- what a run did, once it is told
-  went_told : (s : Status) (answer : ℕ) → number_of s ≢ 8
-      → RunWent run (silent t0 r0 w0) (silent t1 r1 w1) (number_of s)
+  -- a limit file that was refused, once its fault is told
+  refused_told : (s : Status) (answer : ℕ) → number_of s ≡ 3 → t1 ≡ t0
+      → TellsFault t0 run.limits s
       → IsTold held held_after faults faults_after (told_text s) (number_of s) answer
-      → RunWent run (beside t0 r0 w0 held faults) (beside t1 r1 w1 held_after faults_after) answer
-  went_told s answer memory (inl h) told = inl (record {
+      → HasRefusedLimits run (beside t0 r0 w0 held faults) (beside t1 r1 w1 held_after faults_after)
+      answer
+  refused_told (status.Limits why) answer three same fault told =
+      record { why = why; refused = fault; texts = same; told = told }
+  refused_told status.Done answer three same fault told = absurd (omega (arith, three))
+  refused_told status.Usage answer three same fault told = absurd (omega (arith, three))
+  refused_told status.CutShort answer three same fault told = absurd (omega (arith, three))
+  refused_told status.ReadFault answer three same fault told = absurd (omega (arith, three))
+  refused_told status.WriteFault answer three same fault told = absurd (omega (arith, three))
+  refused_told status.Memory answer three same fault told = absurd (omega (arith, three))
+  refused_told status.NotBuilt answer three same fault told = absurd (omega (arith, three))
+
+  -- what a run did behind its limits, once it is told
+  sessions_told : (s : Status) (answer : ℕ) → number_of s ≢ 8
+      → SessionsWent run (silent t0 r0 w0) (silent t1 r1 w1) (number_of s)
+      → IsTold held held_after faults faults_after (told_text s) (number_of s) answer
+      → SessionsWent run (beside t0 r0 w0 held faults) (beside t1 r1 w1 held_after faults_after)
+      answer
+  sessions_told s answer memory (inl h) told = inl (record {
+    limits = h.limits;
+    limits_are = h.limits_are;
+    session = h.session;
+    in_range = h.in_range;
     rose = h.rose;
-    texts = h.texts;
-    told = told_at s 5 answer (stands read_fault_text 5 _ h.told) (λ is. omega arith) memory told;
+    told = told_at s 5 answer (stands read_fault_text 5 _ h.told) (λ is. omega arith)
+        (λ is. omega arith) memory told;
   })
-  went_told s answer memory (inr (inl h)) told = inr (inl (record {
-    other = h.other;
-    texts = h.texts;
-    told = told_at s 9 answer (stands not_built_text 9 _ h.told) (λ is. omega arith) memory told;
+  sessions_told s answer memory (inr (inl h)) told = inr (inl (record {
+    limits = h.limits;
+    limits_are = h.limits_are;
+    session = h.session;
+    in_range = h.in_range;
+    rose = h.rose;
+    told = told_at s 6 answer (stands write_fault_text 6 _ h.told) (λ is. omega arith)
+        (λ is. omega arith) memory told;
   }))
-  went_told s answer memory (inr (inr (inl h))) told = inr (inr (inl (record {
-    limits = h.limits;
-    limits_are = h.limits_are;
-    session = h.session;
-    in_range = h.in_range;
-    rose = h.rose;
-    told = told_at s 5 answer (stands read_fault_text 5 _ h.told) (λ is. omega arith) memory told;
-  })))
-  went_told s answer memory (inr (inr (inr (inl h)))) told = inr (inr (inr (inl (record {
-    limits = h.limits;
-    limits_are = h.limits_are;
-    session = h.session;
-    in_range = h.in_range;
-    rose = h.rose;
-    told = told_at s 6 answer (stands write_fault_text 6 _ h.told) (λ is. omega arith) memory told;
-  }))))
-  went_told s answer memory (inr (inr (inr (inr h)))) told = inr (inr (inr (inr (record {
+  sessions_told s answer memory (inr (inr h)) told = inr (inr (record {
     limits = h.limits;
     inputs = h.inputs;
     acts = h.acts;
@@ -258,26 +285,50 @@ module _ (run : RunWords) (t0 : Option Texts) (r0 w0 : List ℕ → ℕ) (t1 : O
     others = h.others;
     told = told_at s (standing_of h.ends h.refused) answer
         (stands (text_after (standing_of h.ends h.refused)) (standing_of h.ends h.refused) _ h.told)
-        (standing_of_isnt_usage h.ends h.refused) memory told;
-  }))))
+        (standing_of_isnt_usage h.ends h.refused) (standing_of_isnt_limits h.ends h.refused)
+        memory told;
+  }))
+
+  -- what a run did, once it is told
+  went_told : (s : Status) (answer : ℕ) → number_of s ≢ 8 → TellsFault t0 run.limits s
+      → RunWent run (silent t0 r0 w0) (silent t1 r1 w1) (number_of s)
+      → IsTold held held_after faults faults_after (told_text s) (number_of s) answer
+      → RunWent run (beside t0 r0 w0 held faults) (beside t1 r1 w1 held_after faults_after) answer
+  went_told s answer memory fault (inl h) told = inl (record {
+    rose = h.rose;
+    texts = h.texts;
+    told = told_at s 5 answer (stands read_fault_text 5 _ h.told) (λ is. omega arith)
+        (λ is. omega arith) memory told;
+  })
+  went_told s answer memory fault (inr (inl h)) told =
+      inr (inl (refused_told s answer (stands (limits_fault_text h.why) 3 _ h.told) h.texts fault
+      told))
+  went_told s answer memory fault (inr (inr (inl h))) told = inr (inr (inl (record {
+    other = h.other;
+    texts = h.texts;
+    told = told_at s 9 answer (stands not_built_text 9 _ h.told) (λ is. omega arith)
+        (λ is. omega arith) memory told;
+  })))
+  went_told s answer memory fault (inr (inr (inr did))) told =
+      inr (inr (inr (sessions_told s answer memory did told)))
 
 -- what a run did and what was told of it
 pub run_told : (run : RunWords) (t0 : Option Texts) (r0 w0 : List ℕ → ℕ) (t1 : Option Texts)
     (r1 w1 : List ℕ → ℕ)
     (held held_after : Option (List ℕ)) (faults faults_after : ℕ) (s : Status) (answer : ℕ)
-    → number_of s ≢ 8
+    → number_of s ≢ 8 → TellsFault t0 run.limits s
     → (number_of s ≡ 8) ⊎ RunWent run (silent t0 r0 w0) (silent t1 r1 w1) (number_of s)
     → (answer ≡ 8) ⊎ IsTold held held_after faults faults_after (told_text s) (number_of s) answer
     → (answer ≡ 8) ⊎ RunWent run (beside t0 r0 w0 held faults)
     (beside t1 r1 w1 held_after faults_after) answer
-run_told run t0 r0 w0 t1 r1 w1 held held_after faults faults_after s answer memory (inl is) told =
-    absurd (memory is)
-run_told run t0 r0 w0 t1 r1 w1 held held_after faults faults_after s answer memory (inr did)
+run_told run t0 r0 w0 t1 r1 w1 held held_after faults faults_after s answer memory fault (inl is)
+    told = absurd (memory is)
+run_told run t0 r0 w0 t1 r1 w1 held held_after faults faults_after s answer memory fault (inr did)
     (inl is) = inl is
-run_told run t0 r0 w0 t1 r1 w1 held held_after faults faults_after s answer memory (inr did)
+run_told run t0 r0 w0 t1 r1 w1 held held_after faults faults_after s answer memory fault (inr did)
     (inr told) =
-    inr (went_told run t0 r0 w0 t1 r1 w1 held held_after faults faults_after s answer memory did
-    told)
+    inr (went_told run t0 r0 w0 t1 r1 w1 held held_after faults faults_after s answer memory fault
+    did told)
 
 -- a session that was opened ran and was closed, and each fault is one of its name
 pub has_ended : (limit_name out session : List ℕ) (limits : LimitsValue) (before after : PortsValue)
@@ -338,7 +389,7 @@ pub ended_went : (limit_name out session : List ℕ) (limits : LimitsValue) (t0 
     → IsNewSource t0 session left own f → IsNewSink t0 venue hv vn v → IsNewSink t0 client hc cn c
     → (status ≡ 8) ⊎ HasEnded limits (one_run limit_name out session) opened
     (silent t2 r2 w2) left hv hc status
-    → (status ≡ 8) ⊎ RunWent (one_run limit_name out session) (silent t0 r0 w0)
+    → (status ≡ 8) ⊎ SessionsWent (one_run limit_name out session) (silent t0 r0 w0)
     (silent t2 r2 w2) status
 ended_went limit_name out session limits t0 r0 w0 opened t2 r2 w2 status left own hv vn hc cn f v c
     venue client journal
@@ -347,14 +398,14 @@ ended_went limit_name out session limits t0 r0 w0 opened t2 r2 w2 status left ow
     venue client journal
     names limits_are went made source to_venue to_client (inr ended) =
     memory_or_run ended.end ended.finished.refused status ended.finished.stands
-    (λ remembered. inr (inr (inr (inr (has_run limit_name out session limits (silent t0 r0 w0) opened
+    (λ remembered. inr (inr (has_run limit_name out session limits (silent t0 r0 w0) opened
     (silent t2 r2 w2) status left own hv hc f
     refl limits_are went
     (subst (λ (n : List ℕ). opened.texts ≡ option_map (with_two n [] (client_name out 0) []) t0)
     names.venue_is
     (subst (λ (n : List ℕ). opened.texts ≡ option_map (with_two venue [] n []) t0) names.client_is
     made))
-    source to_venue.empty to_client.empty ended remembered)))))
+    source to_venue.empty to_client.empty ended remembered)))
 
 -- the session or its outputs could not be opened, by the names that they have
 pub unopened_named : (limit_name out session : List ℕ) (t0 : Option Texts) (r0 w0 : List ℕ → ℕ)
@@ -362,7 +413,7 @@ pub unopened_named : (limit_name out session : List ℕ) (t0 : Option Texts) (r0
     (limits : LimitsValue) (s : Status) (venue client journal : List ℕ)
     → HasLimits t0 limit_name limits → AreOutputs out venue client journal
     → IsUnopened (silent t0 r0 w0) (silent t1 r1 w1) session venue client s
-    → (number_of s ≡ 8) ⊎ RunWent (one_run limit_name out session) (silent t0 r0 w0)
+    → (number_of s ≡ 8) ⊎ SessionsWent (one_run limit_name out session) (silent t0 r0 w0)
     (silent t1 r1 w1) (number_of s)
 unopened_named limit_name out session t0 r0 w0 t1 r1 w1 limits s venue client journal limits_are
     names fault =
@@ -371,3 +422,10 @@ unopened_named limit_name out session t0 r0 w0 t1 r1 w1 limits s venue client jo
     (client_name out 0) s) names.venue_is
     (subst (λ (n : List ℕ). IsUnopened (silent t0 r0 w0) (silent t1 r1 w1) session venue n s)
     names.client_is fault))
+
+-- the way of a run is that of the words of one
+pub command_went : (words : List (List ℕ)) (command : Option Command) (run : RunWords)
+    (before after : PortsValue) (n : ℕ) → Some (RunCommand run) ≡ command
+    → (n ≡ 8) ⊎ RunWent run before after n → (n ≡ 8) ⊎ CommandWent words command before after n
+command_went words command run before after n is went =
+    subst (λ (asked : Option Command). (n ≡ 8) ⊎ CommandWent words asked before after n) is went

@@ -1,9 +1,7 @@
 -- What the parsed words of a run are.
 use Rattle.std.specs.Prelude.{ℕ, List, [], ◌∷◌, codes}
 use Rattle.gate_program.specs.declared.words.Run.{Run}
-use Rattle.gate_program.specs.declared.words.Command.{Command}
-use Rattle.gate_program.specs.declared.words.Command.TheVariants as parsed
-use Rattle.gate_program.specs.Words.{RunWords, Command as CommandWords}
+use Rattle.gate_program.specs.Words.{RunWords, Command}
 use Rattle.gate_program.specs.Words.Command.{Run as run_command}
 
 -- the words of a run of one session
@@ -14,9 +12,9 @@ run_value run = record {
   sessions = run.session.now ∷ [];
 }
 
--- the words of a command
-abbrev pub command_value : Command → CommandWords
-command_value (parsed.Run run) = run_command (run_value run)
+-- the command of a run
+abbrev pub command_value : Run → Command
+command_value run = run_command (run_value run)
 
 -- the names that a run of one session writes, after the folder of outputs
 abbrev pub file_names : List (List ℕ)

@@ -1,13 +1,13 @@
 -- What a call of the gate did, by how far it came.
-use Rattle.std.specs.Prelude.{◌≡◌, ℕ, ◌<◌, ◌≤◌, ◌==◌, List, [], ◌∷◌, ◌++◌, length, map, slice_get, Option}
-use Rattle.std.specs.Prelude.{Some, None, IfSome, IsTrue, Bool, true, false, codes, ◌⊎◌, if◌then◌else◌}
-use Rattle.std.specs.List.{list_all, list_any}
-use Rattle.std.specs.Char.{is_ascii_digit}
-use Rattle.std.specs.Str.Parse.{digits_value}
+use Rattle.std.specs.Prelude.{◌≡◌, ℕ, ◌<◌, ◌==◌, List, [], ◌∷◌, ◌++◌, length, map, slice_get, Option}
+use Rattle.std.specs.Prelude.{Some, None, IfSome, Bool, true, false, codes, ◌⊎◌, if◌then◌else◌}
+use Rattle.std.specs.List.{list_any}
 use Rattle.std.specs.Io.KnownBytes.{Appends}
 use Rattle.gate_ports.specs.Faults.{Rose}
 use Rattle.gate_ports.specs.Bytes.{AppendsFront}
 use Rattle.gate_ports.specs.Names.{Texts}
+use Rattle.limit_table.specs.Files.{IsFirstFault}
+use Rattle.limit_table.specs.declared.fault.LimitFault.{LimitFault}
 use Rattle.risk_board.specs.declared.hand.Line.{Line}
 use Rattle.risk_journal.specs.declared.acts.Act.{Act}
 use Rattle.risk_journal.specs.declared.acts.End.{End}
@@ -15,6 +15,7 @@ use Rattle.session_engine.specs.Session.{LimitsValue}
 use Rattle.risk_journal.specs.JournalText.{journal_text}
 use Rattle.gate_program.specs.Words.{RunWords, Command, command_of, output_names, journal_name}
 use Rattle.gate_program.specs.Words.{is_among}
+use Rattle.gate_program.specs.Limits.{AreLimits, AreUnserved, limits_fault_text}
 use Rattle.gate_program.specs.Words.Command.{Run}
 use Rattle.gate_program.specs.Run.{PortsValue, Holds, ReadRose, WriteRose, OutputRose, session_name}
 use Rattle.gate_program.specs.Run.{EndHolds, IsHistory, standing_of, is_memory}
@@ -53,30 +54,20 @@ write_fault_text = codes "write fault" ++ 10 ∷ []
 abbrev pub not_built_text : List ℕ
 not_built_text = codes "not built" ++ 10 ∷ []
 
--- the quota of posts of a session in a tree where no limit file gives one
-abbrev pub default_quota : ℕ
-default_quota = 50000
-
--- the text is a limit file of this stage, with these limits: one firm row, and LF
-pub record AreLimits (text : List ℕ) (limits : LimitsValue) : Type 0 where
-  pub digits : List ℕ
-  pub spelled : text ≡ codes "firm,," ++ digits ++ codes ",,," ++ 10 ∷ []
-  pub decimal_digits : IsTrue (list_all is_ascii_digit digits)
-  pub no_fewer : 1 ≤ length digits
-  pub no_more : length digits ≤ 12
-  pub firm : limits.firm ≡ digits_value 10 digits
-  pub quota : limits.quota ≡ default_quota
-
--- the name's text is a limit file with these limits, where the folder tells it
+-- the name's text is a limit file with these limits, which are served, where the folder tells it
 abbrev pub HasLimits : Option Texts → List ℕ → LimitsValue → Type 0
 HasLimits told name limits =
     IfSome told (λ texts. (text : List ℕ) × (texts name ≡ Some text) × AreLimits text limits)
 
--- the name's text is no limit file of this stage, where the folder tells it
-abbrev pub HasNoLimits : Option Texts → List ℕ → Type 0
-HasNoLimits told name =
-    IfSome told (λ texts. (text : List ℕ) × (texts name ≡ Some text)
-    × ((limits : LimitsValue) → AreLimits text limits → ⊥))
+-- the name's text is a limit file with limits that aren't served, where the folder tells it
+abbrev pub HasUnserved : Option Texts → List ℕ → Type 0
+HasUnserved told name =
+    IfSome told (λ texts. (text : List ℕ) × (texts name ≡ Some text) × AreUnserved text)
+
+-- the name's text is no limit file, for this fault, where the folder tells it
+abbrev pub IsRefused : Option Texts → List ℕ → LimitFault → Type 0
+IsRefused told name why =
+    IfSome told (λ texts. (text : List ℕ) × (texts name ≡ Some text) × IsFirstFault text why)
 
 -- The words are no form.
 pub record HasNoForm (words : List (List ℕ)) (before after : PortsValue) (status : ℕ) : Type 0 where
@@ -90,13 +81,20 @@ pub record HasUnreadLimits (run : RunWords) (before after : PortsValue) (status 
   pub texts : after.texts ≡ before.texts
   pub told : Tells before after read_fault_text 5 status
 
--- The limit file isn't of this stage.
+-- The limit file is refused, and what is told is its first fault.
+pub record HasRefusedLimits (run : RunWords) (before after : PortsValue) (status : ℕ) : Type 0 where
+  pub why : LimitFault
+  pub refused : IsRefused before.texts run.limits why
+  pub texts : after.texts ≡ before.texts
+  pub told : Tells before after (limits_fault_text why) 3 status
+
+-- The limit file has a row that isn't served.
 pub record HasOtherLimits (run : RunWords) (before after : PortsValue) (status : ℕ) : Type 0 where
-  pub other : HasNoLimits before.texts run.limits
+  pub other : HasUnserved before.texts run.limits
   pub texts : after.texts ≡ before.texts
   pub told : Tells before after not_built_text 9 status
 
--- A session's name could not be opened, behind a limit file of this stage.
+-- A session's name could not be opened, behind limits that are served.
 pub record HasUnopenedSession (run : RunWords) (before after : PortsValue) (status : ℕ) : Type 0 where
   pub limits : LimitsValue
   pub limits_are : HasLimits before.texts run.limits limits
@@ -105,7 +103,7 @@ pub record HasUnopenedSession (run : RunWords) (before after : PortsValue) (stat
   pub rose : ReadRose before after (session_name run session)
   pub told : Tells before after read_fault_text 5 status
 
--- An output of a session could not be created, behind a limit file of this stage.
+-- An output of a session could not be created, behind limits that are served.
 pub record HasRefusedOutput (run : RunWords) (before after : PortsValue) (status : ℕ) : Type 0 where
   pub limits : LimitsValue
   pub limits_are : HasLimits before.texts run.limits limits
@@ -167,12 +165,17 @@ pub record HasRun (run : RunWords) (before after : PortsValue) (status : ℕ) : 
   pub told : let standing = standing_of ends refused in
       Tells before after (text_after standing) standing status
 
--- a run that came as far as its limit file, its sessions' names, or their end
+-- a run that came behind its limits, to its sessions' names or to their end
+abbrev pub SessionsWent : RunWords → PortsValue → PortsValue → ℕ → Type 0
+SessionsWent run before after status =
+    HasUnopenedSession run before after status ⊎ HasRefusedOutput run before after status
+    ⊎ HasRun run before after status
+
+-- a run that came as far as its limit file, or behind it
 abbrev pub RunWent : RunWords → PortsValue → PortsValue → ℕ → Type 0
 RunWent run before after status =
-    HasUnreadLimits run before after status ⊎ HasOtherLimits run before after status
-    ⊎ HasUnopenedSession run before after status ⊎ HasRefusedOutput run before after status
-    ⊎ HasRun run before after status
+    HasUnreadLimits run before after status ⊎ HasRefusedLimits run before after status
+    ⊎ HasOtherLimits run before after status ⊎ SessionsWent run before after status
 
 -- the way of a command
 abbrev pub CommandWent : List (List ℕ) → Option Command → PortsValue → PortsValue → ℕ → Type 0

@@ -2,6 +2,6 @@ pub mod Words
 pub mod Run
 pub mod Gate
 pub mod CommandOf
-pub mod LimitRows
+pub mod Limits
 pub mod Statuses
 pub mod Stages

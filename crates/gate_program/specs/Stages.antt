@@ -22,7 +22,11 @@ use Rattle.gate_program.specs.Words.{output_names, is_among}
 use Rattle.gate_program.specs.Run.{PortsValue, ReadRose, WriteRose, OutputRose, session_name}
 use Rattle.gate_program.specs.Run.{standing_of}
 use Rattle.session_engine.specs.Follows.{IsByInput, FollowsSource}
-use Rattle.gate_program.specs.Gate.{HasNoLimits, HasJournal}
+use Rattle.limit_table.specs.Files.{IsFirstFault}
+use Rattle.limit_table.specs.declared.fault.LimitFault.{LimitFault}
+use Rattle.limit_table.specs.declared.fault.LimitFault.TheVariants as fault
+use Rattle.gate_program.specs.Limits.{AreUnserved}
+use Rattle.gate_program.specs.Gate.{HasUnserved, IsRefused, HasJournal}
 
 -- a folder as clauses name it, beside a standard output that tells nothing
 abbrev pub folder_of : {D : Type 0} → (D → Option Texts) → (D → List ℕ → ℕ) → (D → List ℕ → ℕ) → D
@@ -57,12 +61,30 @@ IsUnread before after name status.ReadFault = ReadRose before after name
 IsUnread before after name status.Memory = Unit {0}
 IsUnread before after name other = ⊥
 
+-- the status of a text that is refused for this fault
+abbrev pub status_of_fault : LimitFault → Status
+status_of_fault fault.Memory = status.Memory
+status_of_fault other = status.Limits other
+
+-- why a text gives no limits
+abbrev pub GivesNoLimits : List ℕ → Status → Type 0
+GivesNoLimits text (status.Limits why) = IsFirstFault text why
+GivesNoLimits text status.NotBuilt = AreUnserved text
+GivesNoLimits text status.Memory = Unit {0}
+GivesNoLimits text other = ⊥
+
 -- why there are no limits
 abbrev pub HasLimitsFault : PortsValue → PortsValue → List ℕ → Status → Type 0
 HasLimitsFault before after name status.ReadFault = ReadRose before after name
-HasLimitsFault before after name status.NotBuilt = HasNoLimits before.texts name
+HasLimitsFault before after name (status.Limits why) = IsRefused before.texts name why
+HasLimitsFault before after name status.NotBuilt = HasUnserved before.texts name
 HasLimitsFault before after name status.Memory = Unit {0}
 HasLimitsFault before after name other = ⊥
+
+-- a status that tells a fault of the limit file tells that of the name's text
+abbrev pub TellsFault : Option Texts → List ℕ → Status → Type 0
+TellsFault told name (status.Limits why) = IsRefused told name why
+TellsFault told name other = Unit {0}
 
 -- why an output was not made
 abbrev pub IsUnmade : PortsValue → PortsValue → List ℕ → List ℕ → Status → Type 0

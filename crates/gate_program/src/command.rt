@@ -2,8 +2,9 @@
 ghost use Rattle.std.specs.Prelude.{◌≡◌, ◌⊎◌, map, string_bytes};
 ghost use Rattle.gate_program.specs.CommandOf.{run_value};
 ghost use Rattle.session_engine.specs.LimitsOf.{limits_value};
-ghost use Rattle.gate_program.specs.Gate.{HasLimits, GateRun, RunWent, ports_of, default_quota};
-ghost use Rattle.gate_program.specs.Stages.{folder_of, AreOutputs, IsOwn, HasEnded};
+ghost use Rattle.gate_program.specs.Gate.{HasLimits, GateRun, RunWent, SessionsWent, ports_of};
+ghost use Rattle.gate_program.specs.Limits.{IsQuota};
+ghost use Rattle.gate_program.specs.Stages.{folder_of, AreOutputs, IsOwn, HasEnded, TellsFault};
 ghost use Rattle.gate_program.specs.Statuses.{number_of};
 
 use crate::close::{close_session, finish};
@@ -11,7 +12,7 @@ use crate::open::{Opened, open_session, read_limits};
 use crate::play::play;
 use crate::status::Status;
 use crate::tell::tell;
-use crate::words::{Command, Outputs, Run, command_from, outputs_in};
+use crate::words::{Outputs, Run, command_from, outputs_in};
 use fold_law::{Memory, Sum};
 use gate_ports::{Folder, Sink};
 use risk_board::PlainBoard;
@@ -27,7 +28,7 @@ fn run_opened<D: Folder>(
     opened: Opened<D::In, D::Out>,
     folder: &mut D,
 ) -> Status
-    requires quota { limits.now.quota ≡ default_quota }
+    requires quota { IsQuota limits.now.quota }
     requires names { AreOutputs run.now.out.now (string_bytes outputs.now.venue)
         (string_bytes outputs.now.client) (string_bytes outputs.now.journal) }
     requires input { IsOwn (D.texts folder.old) run.now.session.now (D.In.name opened.input) }
@@ -60,8 +61,8 @@ fn run_opened<D: Folder>(
 fn run_limited<D: Folder>(alloc: Global, run: &Run, limits: &Limits, folder: &mut D) -> Status
     requires limits { HasLimits (D.texts folder.old) run.now.limits.now
         (limits_value limits.now) }
-    requires quota { limits.now.quota ≡ default_quota }
-    ensures { (number_of result ≡ 8) ⊎ RunWent (run_value run.now)
+    requires quota { IsQuota limits.now.quota }
+    ensures { (number_of result ≡ 8) ⊎ SessionsWent (run_value run.now)
         (folder_of D.texts D.read_faults D.write_faults folder.old)
         (folder_of D.texts D.read_faults D.write_faults folder.new) (number_of result) }
 {
@@ -77,7 +78,8 @@ fn run_limited<D: Folder>(alloc: Global, run: &Run, limits: &Limits, folder: &mu
 
 /// Does a run, but for what it tells.
 fn run_words<D: Folder>(alloc: Global, run: &Run, folder: &mut D) -> Status
-    ensures { (number_of result ≡ 8) ⊎ RunWent (run_value run.now)
+    ensures fault { TellsFault (D.texts folder.old) run.now.limits.now result }
+    ensures went { (number_of result ≡ 8) ⊎ RunWent (run_value run.now)
         (folder_of D.texts D.read_faults D.write_faults folder.old)
         (folder_of D.texts D.read_faults D.write_faults folder.new) (number_of result) }
 {
@@ -94,24 +96,25 @@ fn run_and_tell<D: Folder, O: Sink>(alloc: Global, run: &Run, folder: &mut D, ou
         (ports_of D.texts D.read_faults D.write_faults O.held O.faults folder.new out.new) result }
 {
     let status = run_words(alloc, run, folder);
-    if status == Status::Memory {
-        return status.number();
+    if status.number() == Status::Memory.number() {
+        return Status::Memory.number();
     }
-    tell(out, status)
+    tell(alloc, out, status)
 }
 
 /// Does what the words ask for, and answers the status of the program.
 ///
 /// `words` doesn't hold the program's name. The statuses are 0 where all was read and written, 2 where
-/// the words are no form, 5 and 6 after a fault of reading or of writing, 8 for want of memory, and 9
-/// where the limit file or the session has a form that isn't built yet.
+/// the words are no form, 3 where the limit file is refused, 4 after a session that ends within a frame
+/// or with none, 5 and 6 after a fault of reading or of writing, 8 for want of memory, and 9 where a
+/// row of the limit file isn't served yet or the session has a form that isn't built yet.
 pub fn gate<D: Folder, O: Sink>(alloc: Global, words: &[String], folder: &mut D, out: &mut O) -> u8
     ensures run { GateRun (map string_bytes words.now)
         (ports_of D.texts D.read_faults D.write_faults O.held O.faults folder.old out.old)
         (ports_of D.texts D.read_faults D.write_faults O.held O.faults folder.new out.new) result }
 {
     match command_from(words) {
-        Some(Command::Run(run)) => run_and_tell(alloc, &run, folder, out),
-        None => tell(out, Status::Usage),
+        Some(run) => run_and_tell(alloc, &run, folder, out),
+        None => tell(alloc, out, Status::Usage),
     }
 }

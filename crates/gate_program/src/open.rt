@@ -1,7 +1,7 @@
 //! What is read and opened before a session runs.
 ghost use Rattle.std.specs.Prelude.{◌≡◌, ◌+◌, [], IfOk, IfErr, string_bytes};
 ghost use Rattle.std.specs.Option.{option_map};
-ghost use Rattle.gate_program.specs.Gate.{default_quota};
+ghost use Rattle.gate_program.specs.Limits.{IsQuota};
 ghost use Rattle.session_engine.specs.LimitsOf.{limits_value};
 ghost use Rattle.gate_program.specs.Stages.{folder_of, Went, HasFront, HasLimitsFault};
 ghost use Rattle.gate_program.specs.Gate.{HasLimits};
@@ -54,7 +54,7 @@ pub(crate) fn read_limits<D: Folder>(
     ensures texts { D.texts folder.new ≡ D.texts folder.old }
     ensures ok { IfOk result (λ limits.
         HasLimits (D.texts folder.old) name.now (limits_value limits)) }
-    ensures quota { IfOk result (λ limits. limits.quota ≡ default_quota) }
+    ensures quota { IfOk result (λ limits. IsQuota limits.quota) }
     ensures err { IfErr result (λ status.
         HasLimitsFault (folder_of D.texts D.read_faults D.write_faults folder.old)
         (folder_of D.texts D.read_faults D.write_faults folder.new) name.now status) }
@@ -63,10 +63,7 @@ pub(crate) fn read_limits<D: Folder>(
         Ok(bytes) => bytes,
         Err(status) => return Err(status),
     };
-    match limits_from(&bytes) {
-        Some(limits) => Ok(limits),
-        None => Err(Status::NotBuilt),
-    }
+    limits_from(alloc, &bytes)
 }
 
 /// The outputs of a session.

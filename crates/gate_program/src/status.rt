@@ -1,17 +1,20 @@
 //! How a call of the gate ends.
 ghost use Rattle.std.specs.Prelude.{◌≡◌, ◌∷◌, [], ◌≢◌, Bool};
 ghost use Rattle.gate_program.specs.Run.{standing_of};
-ghost use Rattle.gate_program.specs.Statuses.{number_of, told_text};
+ghost use Rattle.gate_program.specs.Statuses.{number_of};
 
+use limit_table::LimitFault;
 use risk_journal::End;
 
 /// How a call of the gate ends.
-#[derive(Clone, Copy, Debug, PartialEq, Eq)]
+#[derive(Clone, Copy, Debug)]
 pub(crate) enum Status {
     /// All was read and all was written.
     Done,
     /// The words are no form.
     Usage,
+    /// The limit file is refused.
+    Limits(LimitFault),
     /// A session's input ends within a frame, or what stands there is no frame, or one too long.
     CutShort,
     /// A read failed.
@@ -20,7 +23,7 @@ pub(crate) enum Status {
     WriteFault,
     /// Memory was wanting.
     Memory,
-    /// The limit file or a session has a form that isn't built yet.
+    /// A row of the limit file or a session has a form that isn't built yet.
     NotBuilt,
 }
 
@@ -32,26 +35,12 @@ impl Status {
         match self {
             Status::Done => 0,
             Status::Usage => 2,
+            Status::Limits(_) => 3,
             Status::CutShort => 4,
             Status::ReadFault => 5,
             Status::WriteFault => 6,
             Status::Memory => 8,
             Status::NotBuilt => 9,
-        }
-    }
-
-    /// What standard output is given.
-    pub(crate) fn text(self) -> &'static [u8]
-        ensures { result.now ≡ told_text self }
-    {
-        match self {
-            Status::Done => b"status 0\n",
-            Status::Usage => b"usage: gate run LIMITS OUT SESSION\n",
-            Status::ReadFault => b"read fault\n",
-            Status::WriteFault => b"write fault\n",
-            Status::CutShort => b"status 4\n",
-            Status::NotBuilt => b"not built\n",
-            Status::Memory => b"",
         }
     }
 }

@@ -21,6 +21,9 @@ const DEARER: &[u8] =
 const REFUSED: &[u8] =
     b"8=FIX.4.4\x019=130\x0135=8\x0149=GATE\x0156=C1\x0134=1\x0152=20240102-10:00:00\x0137=NONE\x0111=a1\x0117=G1\x01150=8\x0139=8\x01103=3\x011=ACC\x0155=XYZ\x0154=1\x0138=100\x01151=0\x0114=0\x016=0\x0158=FIRM\x0110=038\x01";
 
+const OVER_QUOTA: &[u8] =
+    b"8=FIX.4.4\x019=131\x0135=8\x0149=GATE\x0156=C1\x0134=1\x0152=20240102-10:00:00\x0137=NONE\x0111=a1\x0117=G1\x01150=8\x0139=8\x01103=0\x011=ACC\x0155=XYZ\x0154=1\x0138=100\x01151=0\x0114=0\x016=0\x0158=QUOTA\x0110=128\x01";
+
 const HUGE: &[u8] =
     b"8=FIX.4.4\x019=124\x0135=D\x0149=C1\x0156=GATE\x0134=1\x0152=20240102-10:00:00\x0111=a1\x011=ACC\x0155=XYZ\x0154=1\x0138=1000000000\x0140=2\x0144=999999.9999\x0160=20240102-10:00:00\x0110=026\x01";
 
@@ -30,10 +33,12 @@ const CAPPED: &[u8] =
 const HEARTBEAT: &[u8] =
     b"8=FIX.4.4\x019=45\x0135=0\x0149=C1\x0156=GATE\x0134=1\x0152=20240102-10:00:00\x0110=136\x01";
 
-/// A session's input, the texts of the venue, the client and the journal, the status and what is told.
+/// The limit file, a session's input, the texts of the venue, the client and the journal, the status
+/// and what is told.
 #[derive(Clone, Copy)]
 struct Row {
     name: &'static str,
+    limits: &'static [u8],
     session: &'static [u8],
     venue: &'static [u8],
     client: &'static [u8],
@@ -42,9 +47,10 @@ struct Row {
     told: &'static [u8],
 }
 
-const ROWS: [Row; 5] = [
+const ROWS: [Row; 6] = [
     Row {
         name: "nothing",
+        limits: LIMITS,
         session: b"",
         venue: b"",
         client: b"",
@@ -54,6 +60,7 @@ const ROWS: [Row; 5] = [
     },
     Row {
         name: "at the limit",
+        limits: LIMITS,
         session: ORDER,
         venue: FORWARD,
         client: b"",
@@ -63,6 +70,7 @@ const ROWS: [Row; 5] = [
     },
     Row {
         name: "above the limit by rounding up",
+        limits: LIMITS,
         session: DEARER,
         venue: b"",
         client: REFUSED,
@@ -72,6 +80,7 @@ const ROWS: [Row; 5] = [
     },
     Row {
         name: "more than a leaf holds",
+        limits: LIMITS,
         session: HUGE,
         venue: b"",
         client: CAPPED,
@@ -80,7 +89,18 @@ const ROWS: [Row; 5] = [
         told: b"status 0\n",
     },
     Row {
+        name: "a quota of one post",
+        limits: b"quota,,1,,,\nfirm,,1000,,,\n",
+        session: ORDER,
+        venue: b"",
+        client: OVER_QUOTA,
+        journal: b"kind,session,a,b,c,d\nrefused,0,0,5,0,0\nended,0,0,,,\n",
+        status: 0,
+        told: b"status 0\n",
+    },
+    Row {
         name: "a heartbeat",
+        limits: LIMITS,
         session: HEARTBEAT,
         venue: b"",
         client: b"",
@@ -96,7 +116,7 @@ fn whole_runs(rt: HostRuntime) -> Result<(), Fail> {
     for row in ROWS {
         let name = row.name;
         let mut folder = MemFolder::new(alloc, 65536);
-        folder.put("limits", Vec::from_slice(alloc, LIMITS)?)?;
+        folder.put("limits", Vec::from_slice(alloc, row.limits)?)?;
         folder.put("session", Vec::from_slice(alloc, row.session)?)?;
         let mut out = MemSink::new(alloc, 65536, Vec::new(alloc));
         let words = words_of(alloc, &WORDS)?;
@@ -106,7 +126,7 @@ fn whole_runs(rt: HostRuntime) -> Result<(), Fail> {
         assert_eq!(rt; folder.get("out/s00.venue"), Some(row.venue), "{name}");
         assert_eq!(rt; folder.get("out/s00.client"), Some(row.client), "{name}");
         assert_eq!(rt; folder.get("out/journal.csv"), Some(row.journal), "{name}");
-        assert_eq!(rt; folder.get("limits"), Some(LIMITS), "{name}");
+        assert_eq!(rt; folder.get("limits"), Some(row.limits), "{name}");
         assert_eq!(rt; folder.get("session"), Some(row.session), "{name}");
     }
     Ok(())
@@ -122,7 +142,7 @@ fn words_of(alloc: Global, words: &[&str]) -> Result<Vec<String>, AllocError> {
 }
 
 /// Words, the limit file's text, the status and what is told. No session is there.
-const STOPS: [(&str, &[&str], &[u8], u8, &[u8]); 13] = [
+const STOPS: [(&str, &[&str], &[u8], u8, &[u8]); 11] = [
     ("no words", &[], LIMITS, 2, USAGE),
     ("too few words", &["run", "limits", "out"], LIMITS, 2, USAGE),
     (
@@ -176,17 +196,133 @@ const STOPS: [(&str, &[&str], &[u8], u8, &[u8]); 13] = [
         b"read fault\n",
     ),
     ("no session", &WORDS, LIMITS, 5, b"read fault\n"),
-    ("no line end", &WORDS, b"firm,,1000,,,", 9, b"not built\n"),
-    (
-        "another row",
-        &WORDS,
-        b"account,ACC,1000,,,\n",
-        9,
-        b"not built\n",
-    ),
 ];
 
 const USAGE: &[u8] = b"usage: gate run LIMITS OUT SESSION\n";
+
+/// A limit file's text, the status and what is told. No session is there, so limits that are served
+/// end as a read fault.
+const LIMIT_FILES: [(&str, &[u8], u8, &[u8]); 17] = [
+    (
+        "five columns",
+        b"firm,,1000,,\n",
+        3,
+        b"limits fault 1 row 1\n",
+    ),
+    (
+        "no kind",
+        b"firm,,1000,,,\n\nfund,,1,,,\n",
+        3,
+        b"limits fault 2 row 2\n",
+    ),
+    (
+        "no number",
+        b"quota,,200001,,,\n",
+        3,
+        b"limits fault 3 row 1\n",
+    ),
+    (
+        "no name",
+        b"firm,,1,,,\nquota,,1,,,\naccount,,1,,,\n",
+        3,
+        b"limits fault 4 row 3\n",
+    ),
+    (
+        "two rows of the firm",
+        b"firm,,1,,,\nfirm,,1,,,\n",
+        3,
+        b"limits fault 5 row 2\n",
+    ),
+    ("an empty file", b"", 3, b"limits fault 6 row 0\n"),
+    (
+        "seventeen dropped screens",
+        b"off,a,1,,,\noff,b,1,,,\noff,c,1,,,\noff,d,1,,,\noff,e,1,,,\noff,f,1,,,\n\
+            off,g,1,,,\noff,h,1,,,\noff,i,1,,,\noff,j,1,,,\noff,k,1,,,\noff,l,1,,,\n\
+            off,m,1,,,\noff,n,1,,,\noff,o,1,,,\noff,p,1,,,\noff,q,1,,,\n",
+        3,
+        b"limits fault 7 row 17\n",
+    ),
+    (
+        "low above high",
+        b"symbol,XYZ,1,2,1,1\n",
+        3,
+        b"limits fault 8 row 1\n",
+    ),
+    (
+        "an account",
+        b"firm,,1,,,\naccount,ACC,1,,,\n",
+        9,
+        b"not built\n",
+    ),
+    (
+        "a symbol",
+        b"firm,,1,,,\nsymbol,XYZ,1,1,2,1\n",
+        9,
+        b"not built\n",
+    ),
+    ("a trip", b"firm,,1,,,\ntrip,,1,,,\n", 9, b"not built\n"),
+    (
+        "the screen of repeats",
+        b"firm,,1,,,\nrepeat,,1,,,\n",
+        9,
+        b"not built\n",
+    ),
+    (
+        "a dropped screen",
+        b"firm,,1,,,\noff,size,0,,,\n",
+        9,
+        b"not built\n",
+    ),
+    ("the firm alone", LIMITS, 5, b"read fault\n"),
+    ("no line end", b"firm,,1000,,,", 5, b"read fault\n"),
+    (
+        "a quota",
+        b"quota,,200000,,,\nfirm,,0,,,\n",
+        5,
+        b"read fault\n",
+    ),
+    (
+        "no repeats to look for",
+        b"firm,,1,,,\nrepeat,,0,,,\n",
+        5,
+        b"read fault\n",
+    ),
+];
+
+#[test]
+fn a_limit_file_is_taken_refused_or_not_served(rt: HostRuntime) -> Result<(), Fail> {
+    let alloc = rt.alloc();
+    let words = words_of(alloc, &WORDS)?;
+    for (name, limits, want, told) in LIMIT_FILES {
+        let mut folder = MemFolder::new(alloc, 65536);
+        folder.put("limits", Vec::from_slice(alloc, limits)?)?;
+        let mut out = MemSink::new(alloc, 65536, Vec::new(alloc));
+        let status = gate(alloc, &words, &mut folder, &mut out);
+        assert_eq!(rt; status, want, "{name}");
+        assert_eq!(rt; out.bytes(), told, "{name}");
+        assert_eq!(rt; folder.get("out/s00.venue"), None, "{name}");
+    }
+    Ok(())
+}
+
+#[test]
+fn a_limit_file_has_a_most_length(rt: HostRuntime) -> Result<(), Fail> {
+    let alloc = rt.alloc();
+    let words = words_of(alloc, &WORDS)?;
+    let cases: [(usize, &[u8]); 2] = [
+        (1_048_576, b"limits fault 6 row 0\n"),
+        (1_048_577, b"limits fault 7 row 0\n"),
+    ];
+    for (length, told) in cases {
+        let mut folder = MemFolder::new(alloc, 65536);
+        folder.put("limits", vec![in alloc; b'\n'; length]?)?;
+        let mut out = MemSink::new(alloc, 65536, Vec::new(alloc));
+        let status = gate(alloc, &words, &mut folder, &mut out);
+        assert_eq!(rt; status, 3);
+        assert_eq!(rt; out.bytes(), told);
+    }
+    Ok(())
+}
 
 #[test]
 fn stops_before_a_session(rt: HostRuntime) -> Result<(), Fail> {

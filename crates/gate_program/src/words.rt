@@ -8,12 +8,6 @@ ghost use Rattle.gate_program.specs.CommandOf.{command_value, run_value, file_na
 use fold_law::Memory;
 use std::alloc::Global;
 
-/// What the words ask for.
-#[derive(Clone, Copy, Debug)]
-pub(crate) enum Command<'a> {
-    Run(Run<'a>),
-}
-
 /// The words of a run.
 #[derive(Clone, Copy, Debug)]
 pub(crate) struct Run<'a> {
@@ -33,8 +27,8 @@ pub(crate) struct Outputs {
     pub journal: String,
 }
 
-/// What the words ask for. None where they are no form.
-pub(crate) fn command_from<'a>(words: &'a [String]) -> Option<Command<'a>>
+/// The run that the words ask for. None where they are no form.
+pub(crate) fn command_from<'a>(words: &'a [String]) -> Option<Run<'a>>
     ensures { option_map command_value result ≡ command_of (map string_bytes words.now) }
 {
     let [command, limits, out, session] = words else {
@@ -46,7 +40,7 @@ pub(crate) fn command_from<'a>(words: &'a [String]) -> Option<Command<'a>>
         session: session.as_str(),
     };
     if command.as_str() == "run" && is_run(&run) {
-        Some(Command::Run(run))
+        Some(run)
     } else {
         None
     }

@@ -1,0 +1,67 @@
+-- Which limit files a run is held to, and what is told of a text that isn't one.
+use Rattle.std.specs.Prelude.{◌≡◌, ℕ, ◌≤◌, ◌==◌, ◌&&◌, List, [], ◌∷◌, ◌++◌, length, Bool, false}
+use Rattle.std.specs.Prelude.{IsTrue, codes, decimal}
+use Rattle.std.specs.Option.{is_none}
+use Rattle.limit_table.specs.Files.{IsLimitFile, IsFirstFault}
+use Rattle.limit_table.specs.declared.fault.LimitFault.{LimitFault}
+use Rattle.limit_table.specs.declared.fault.LimitFault.TheVariants as fault
+use Rattle.limit_table.specs.declared.limits.Limits.{Limits}
+use Rattle.session_engine.specs.Session.{LimitsValue}
+
+-- The program serves these limits: no account, no symbol, no number that trips the halt, no setting of
+-- the screen of repeats, and no dropped screen.
+abbrev pub is_served : Limits → Bool
+is_served limits =
+    length limits.accounts == 0 && length limits.symbols == 0
+    && is_none limits.trip && limits.repeat == 0 && length limits.off == 0
+
+-- what a session knows of the limits of a file
+abbrev pub session_limits : Limits → LimitsValue
+session_limits limits = record { firm = limits.firm; quota = limits.quota }
+
+-- a limit file can set this quota
+abbrev pub IsQuota : ℕ → Type 0
+IsQuota quota = (1 ≤ quota) × (quota ≤ 200000)
+
+-- the text is a limit file, its limits are served, and a session knows this of them
+pub record AreLimits (text : List ℕ) (limits : LimitsValue) : Type 0 where
+  pub file : Limits
+  pub held : IsLimitFile text file
+  pub served : IsTrue (is_served file)
+  pub known : limits ≡ session_limits file
+
+-- the text is a limit file with limits that the program doesn't serve
+pub record AreUnserved (text : List ℕ) : Type 0 where
+  pub file : Limits
+  pub held : IsLimitFile text file
+  pub unserved : is_served file ≡ false
+
+-- the number of a fault; want of memory is no fault of a text, and is never told
+abbrev pub fault_number : LimitFault → ℕ
+fault_number (fault.RowShape row) = 1
+fault_number (fault.Kind row) = 2
+fault_number (fault.Number row) = 3
+fault_number (fault.Name row) = 4
+fault_number (fault.Repeated row) = 5
+fault_number fault.NoFirm = 6
+fault_number (fault.TooMany row) = 7
+fault_number (fault.Band row) = 8
+fault_number fault.Memory = 0
+
+-- the row of a fault, from 1, and 0 where it has none
+abbrev pub fault_row : LimitFault → ℕ
+fault_row (fault.RowShape row) = row
+fault_row (fault.Kind row) = row
+fault_row (fault.Number row) = row
+fault_row (fault.Name row) = row
+fault_row (fault.Repeated row) = row
+fault_row fault.NoFirm = 0
+fault_row (fault.TooMany row) = row
+fault_row (fault.Band row) = row
+fault_row fault.Memory = 0
+
+-- what is told of a text that is refused for this fault
+abbrev pub limits_fault_text : LimitFault → List ℕ
+limits_fault_text why =
+    codes "limits fault " ++ decimal (fault_number why) ++ codes " row "
+    ++ decimal (fault_row why) ++ 10 ∷ []
