@@ -1,5 +1,6 @@
 pub mod FileNames
 pub mod LimitFiles
+pub mod LimitQuota
 pub mod LimitTexts
 pub mod Chains
 pub mod Ran

@@ -10,7 +10,7 @@ use Rattle.session_engine.specs.Session.{LimitsValue}
 use Rattle.gate_program.specs.declared.status.Status.{Status}
 use Rattle.gate_program.specs.Limits.{AreLimits, AreUnserved, IsQuota, is_served, session_limits}
 use Rattle.gate_program.specs.Stages.{GivesNoLimits, status_of_fault}
-use Rattle.limit_table.proofs.Quota.{quota_of_file}
+use Rattle.gate_program.proofs.LimitQuota.{quota_of_file}
 
 -- limits that are served
 pub are_limits : (text : List ℕ) (file : FileLimits) (limits : Limits) → IsLimitFile text file
