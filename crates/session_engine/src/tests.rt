@@ -12,6 +12,7 @@ const ORDER: &[u8] =
 
 /// The quota, the numbers of the source's and of the venue's calls that fail, and how the session ends:
 /// its number of acts, and the lengths of what the venue and the client get.
+#[derive(Clone, Copy)]
 struct Row {
     name: &'static str,
     quota: u32,
