@@ -29,4 +29,5 @@ def main():
         sys.stdout.write(order(number))
 
 
-main()
+if __name__ == "__main__":
+    main()
