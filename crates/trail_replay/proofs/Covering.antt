@@ -112,3 +112,21 @@ module _ (taken : Record) (stamped : IsStampedRecord taken) (tree session : ℕ)
         reached = down.reached;
         covers = down.covers ∙ ap (λ n. cover (board.seen tree) leaf n held) (sym same);
       }
+
+  -- the parent of a node on the way is an inner node, and the stamp that is held is of it
+  pub parent_in : (height next node : ℕ) → height ≡ suc next → node ≡ leaf / 2 ^ next
+      → height ≤ levels → node / 2 < 2 ^ levels
+  parent_in height next node same is le =
+      let up : node ≡ ancestor leaf next = is ∙ sym (ancestor-shift leaf next) in
+      let within = ancestor-within levels next session below_leaves (omega arith) in
+      let high = within.high in
+      omega arith
+
+  pub held_in : (height next held node : ℕ) → height ≡ suc next → node ≡ leaf / 2 ^ next
+      → held ≤ stamp_in (word_at levels taken.words.items tree (ancestor leaf height))
+      → held ≤ stamp_in (word_at levels taken.words.items tree (node / 2))
+  held_in height next held node same is reached =
+      let up : node ≡ ancestor leaf next = is ∙ sym (ancestor-shift leaf next) in
+      let here : ancestor leaf height ≡ node / 2 =
+      ap (ancestor leaf) same ∙ ap (λ n. n / 2) (sym up) in
+      subst (λ n. held ≤ stamp_in (word_at levels taken.words.items tree n)) here reached

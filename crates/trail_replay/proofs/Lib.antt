@@ -16,3 +16,5 @@ pub mod Places
 pub mod BlockSteps
 pub mod WalkLaws
 pub mod Walkable
+pub mod Rows
+pub mod PreparedTables

@@ -3,3 +3,4 @@ pub mod Fronts
 pub mod Sums
 pub mod Histories
 pub mod Arrays
+pub mod Reads

@@ -12,15 +12,21 @@
 
 mod array;
 mod blocks;
+#[cfg(test)]
 mod covers;
 mod history;
 mod law;
+#[cfg(test)]
+mod plain_blocks;
 mod posts;
+mod prepared;
+mod reads;
+mod tree_posts;
 mod walk;
 
-pub use blocks::replay;
 pub use history::{History, at, place};
 pub use law::{closed_records_are_lawful, histories_are_legal};
+pub use prepared::{Prepared, replay, replay_of};
 pub use walk::Walk;
 
 #[cfg(test)]

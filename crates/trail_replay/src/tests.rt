@@ -9,7 +9,8 @@ ghost use Rattle.f_array.specs.Records.{AreAllOf};
 ghost use Rattle.trail_replay.specs.Arrays.{AreLines};
 ghost use Rattle.trail_replay.specs.Fronts.{IsLawful};
 
-use crate::{History, Walk, at, place, replay};
+use crate::plain_blocks::replay_plain;
+use crate::{History, Prepared, Walk, at, place, replay, replay_of};
 use f_array::{Forest, Keeper, Pass, Record};
 use fold_law::{LEAF, Sum};
 use risk_board::{Call, Line};
@@ -250,11 +251,12 @@ fn reads_agree(history: &History, calls: &[Call], tree: u32) -> bool
 }
 
 // How many lines the tree has, where each read of it is as a walk says.
-fn lines_of_tree(alloc: Global, taken: &Record, tree: u32) -> Option<usize>
+fn lines_of_tree(alloc: Global, taken: &Record, prepared: &Prepared, tree: u32) -> Option<usize>
     requires lawful { IsLawful 0 LEAF sum_of taken.now }
+    requires prepared { prepared.now ≡ taken.now }
     requires tree { tree < taken.now.shape.trees }
 {
-    let Ok(history) = replay::<Sum>(alloc, taken, tree) else {
+    let Ok(history) = replay_of::<Sum>(alloc, prepared, tree) else {
         return None;
     };
     for did in &taken.passes {
@@ -263,6 +265,22 @@ fn lines_of_tree(alloc: Global, taken: &Record, tree: u32) -> Option<usize>
         }
     }
     Some(history.lines.len())
+}
+
+// Whether the plain program gives the same lines and places.
+fn is_plain(alloc: Global, taken: &Record, prepared: &Prepared, tree: u32) -> bool
+    requires lawful { IsLawful 0 LEAF sum_of taken.now }
+    requires prepared { prepared.now ≡ taken.now }
+    requires tree { tree < taken.now.shape.trees }
+{
+    let Ok(history) = replay_of::<Sum>(alloc, prepared, tree) else {
+        return false;
+    };
+    let Ok(plain) = replay_plain::<Sum>(alloc, taken, tree) else {
+        return false;
+    };
+    let lines = plain.lines.as_slice() == history.lines.as_slice();
+    lines && plain.places.as_slice() == history.places.as_slice()
 }
 
 const NONE: Job = Job {
@@ -315,50 +333,63 @@ fn two_posts_and_a_read_are_in_order(rt: HostRuntime) -> Result<(), Fail> {
     );
     assert_eq!(rt; history.places.as_slice(), [0, 1, 2].as_slice(), "places");
     assert_eq!(rt; at::<Sum>(&history, 1), 5, "the root after one post");
-    assert_eq!(rt; lines_of_tree(rt.alloc(), &taken, 0), Some(2), "the read");
+    let Ok(prepared) = Prepared::of(rt.alloc(), &taken) else {
+        panic!(rt; "no memory")
+    };
+    assert_eq!(rt;
+        lines_of_tree(rt.alloc(), &taken, &prepared, 0),
+        Some(2),
+        "the read"
+    );
+    Ok(())
+}
+
+const BOTH: Job = Job {
+    only: None,
+    rounds: 1,
+    value: 3,
+    posts: true,
+    reads: true,
+};
+
+#[test]
+fn the_plain_program_gives_the_same_rows(rt: HostRuntime) -> Result<(), Fail> {
+    let Some(taken) = record_of(&rt, rt.alloc(), 8, 14, 13, [BOTH, NONE, BOTH]) else {
+        panic!(rt; "no record")
+    };
+    let Ok(prepared) = Prepared::of(rt.alloc(), &taken) else {
+        panic!(rt; "no memory")
+    };
+    for tree in 0..14 {
+        assert!(rt; is_plain(rt.alloc(), &taken, &prepared, tree), "{tree}");
+    }
     Ok(())
 }
 
 #[test]
 fn reads_on_threads_are_as_a_walk_says(rt: HostRuntime) -> Result<(), Fail> {
-    let job = Job {
-        only: None,
-        rounds: 1,
-        value: 3,
-        posts: true,
-        reads: true,
-    };
-    let Some(taken) = record_of(&rt, rt.alloc(), 8, 14, 13, [job, NONE, job]) else {
-        panic!(rt; "no record")
-    };
-    for tree in 0..13 {
-        assert_eq!(rt;
-            lines_of_tree(rt.alloc(), &taken, tree),
-            Some(16),
-            "eight sessions, {tree}"
-        );
+    const RUNS: [(&str, u32, u32, u32, u32, usize); 4] = [
+        ("two sessions", 2, 1, 1, 1000, 2000),
+        ("eight sessions", 8, 13, 13, 60, 480),
+        ("one session, no level", 1, 1, 1, 50, 50),
+        ("a tree without a post", 2, 1, 0, 1, 0),
+    ];
+    for (name, sessions, trees, used, rounds, lines) in RUNS {
+        let job = Job { rounds, ..BOTH };
+        let Some(taken) = record_of(&rt, rt.alloc(), sessions, trees, used, [job, NONE, NONE])
+        else {
+            panic!(rt; "no record")
+        };
+        let Ok(prepared) = Prepared::of(rt.alloc(), &taken) else {
+            panic!(rt; "no memory")
+        };
+        for tree in 0..trees {
+            assert_eq!(rt;
+                lines_of_tree(rt.alloc(), &taken, &prepared, tree),
+                Some(lines),
+                "{name}, {tree}"
+            );
+        }
     }
-    assert_eq!(rt;
-        lines_of_tree(rt.alloc(), &taken, 13),
-        Some(0),
-        "a tree without a post"
-    );
-    let many = Job { rounds: 50, ..job };
-    let Some(taken) = record_of(&rt, rt.alloc(), 2, 1, 1, [many, NONE, NONE]) else {
-        panic!(rt; "no record")
-    };
-    assert_eq!(rt;
-        lines_of_tree(rt.alloc(), &taken, 0),
-        Some(100),
-        "two sessions"
-    );
-    let Some(taken) = record_of(&rt, rt.alloc(), 1, 1, 1, [many, NONE, NONE]) else {
-        panic!(rt; "no record")
-    };
-    assert_eq!(rt;
-        lines_of_tree(rt.alloc(), &taken, 0),
-        Some(50),
-        "one session, no level"
-    );
     Ok(())
 }

@@ -7,7 +7,7 @@ use Rattle.trail_replay.proofs.BlockSteps.{root_stamp, if_ok_both, if_ok_with}
 use Rattle.trail_replay.proofs.LegalHistories.{legal_lines}
 use Rattle.trail_replay.proofs.Places.{length-places_to}
 use Rattle.trail_replay.proofs.Walkable.{walkable}
-use Rattle.trail_replay.proofs.blocks.replay.Goals as goal
+use Rattle.trail_replay.proofs.plain_blocks.replay_plain.Goals as goal
 
 pub returns-clause-legal : goal.returns-clause-legal
 returns-clause-legal g c =
