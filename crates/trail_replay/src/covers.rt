@@ -27,8 +27,8 @@ pub(crate) fn cover(taken: &Record, tree: u32, session: u32, stamp: u32) -> u32
     held
 }
 
-/// The stamp at which the install of the child's parent with this stamp read the child; 0 where there
-/// is no such install.
+/// The stamp at which the install of the child's parent with this stamp read the child; 0 where
+/// there is no such install.
 fn seen(passes: &[PassRecord], tree: u32, child: u32, stamp: u32) -> u32
     requires fits { read_in_all tree child stamp passes.now < 2 ^ 32 }
     ensures { result ≡ read_in_all tree child stamp passes.now }
