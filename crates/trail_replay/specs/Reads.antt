@@ -6,7 +6,6 @@ use Rattle.stamp_word.specs.Word.{stamp_in}
 use Rattle.risk_board.specs.declared.hand.Call.{Call}
 use Rattle.risk_board.specs.declared.hand.Call.TheVariants.{Post, Read}
 use Rattle.node_rule.specs.declared.view.Install.{Install}
-use Rattle.node_rule.specs.Sums.{posted}
 use Rattle.node_rule.specs.Fronts.{word_at}
 use Rattle.f_array.specs.declared.record.Record.{Record}
 use Rattle.f_array.specs.Records.{Did}
