@@ -53,7 +53,7 @@ fn seen_by(trail: &[Install], tree: u32, child: u32, stamp: u32) -> u32
 }
 
 /// The same of one install.
-pub(crate) fn read_of(install: &Install, tree: u32, child: u32, stamp: u32) -> u32
+fn read_of(install: &Install, tree: u32, child: u32, stamp: u32) -> u32
     ensures { result ≡ read_by tree child stamp install.now }
 {
     let at_parent = install.tree == tree && install.node == child / 2;
