@@ -4,7 +4,8 @@ use Rattle.std.proofs.Common.{take, refl, ap, sym, ◌∙◌, arith, Bool, true,
 use Rattle.std.proofs.Common.{slice_set, length-set}
 use Rattle.std.specs.Prelude.{slice_index, replicate, fold}
 use Rattle.std.proofs.lemmas.Bool.{eqb-true, eqb-false}
-use Rattle.std.proofs.lemmas.List.{get_or-set_same, get_or-set_other, get_or-replicate, length-replicate}
+use Rattle.std.proofs.lemmas.List.{get_or-set_same, get_or-set_other, get_or-replicate}
+use Rattle.std.proofs.lemmas.List.{length-replicate}
 use Rattle.risk_board.specs.declared.hand.Line.{Line}
 use Rattle.risk_board.specs.History.{own_lines, lines_of, array_after}
 

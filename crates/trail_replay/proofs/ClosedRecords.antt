@@ -1,5 +1,6 @@
 -- What a close gives is a lawful record.
-use Rattle.std.proofs.Common.{◌≡◌, ℕ, suc, ◌+◌, List, [], ◌∷◌, length, map, refl, ap, sym, ◌∙◌, subst, arith}
+use Rattle.std.proofs.Common.{◌≡◌, ℕ, suc, ◌+◌, List, [], ◌∷◌, length, map, refl, ap, sym, ◌∙◌}
+use Rattle.std.proofs.Common.{subst, arith}
 use mathlib.Core.Option.{some}
 use lib.ListN.{get_elem?}
 use Rattle.std.proofs.lemmas.List.{length-map}
@@ -30,7 +31,8 @@ tracks-passes first (pass ∷ passes) numbered =
     ∙ ap (λ (tracks : List Track). pass.track ∷ tracks) rest
 
 -- the words and the passes of a closed forest are a lawful record
-pub closed_is_lawful : (unit cap : ℕ) (join : ℕ → ℕ → ℕ) (forest : Forested) (passes : List PassValue)
+pub closed_is_lawful : (unit cap : ℕ) (join : ℕ → ℕ → ℕ) (forest : Forested)
+    (passes : List PassValue)
     (taken : Record) → AreAllOf forest passes → IsShapeOf forest.plan taken.shape
     → taken.passes.items ≡ map did_of passes
     → IsKept forest.plan unit cap join taken.words.items (final_view forest.plan passes ∷ [])

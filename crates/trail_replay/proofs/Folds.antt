@@ -1,5 +1,6 @@
 -- The value of a node is the join of the values of the leaves below it, from the left.
-use Rattle.std.proofs.Common.{◌≡◌, ℕ, zero, suc, ◌+◌, ◌-◌, ◌*◌, ◌/◌, ◌^◌, ◌<◌, ◌≤◌, Bool, List, [], ◌∷◌, ◌++◌}
+use Rattle.std.proofs.Common.{◌≡◌, ℕ, zero, suc, ◌+◌, ◌-◌, ◌*◌, ◌/◌, ◌^◌, ◌<◌, ◌≤◌, Bool, List, []}
+use Rattle.std.proofs.Common.{◌∷◌, ◌++◌}
 use Rattle.std.proofs.Common.{length, refl, ap, sym, ◌∙◌, subst, arith, length-append, lit<, ⊎_elim}
 use Rattle.std.specs.Prelude.{slice_index, fold}
 use Rattle.std.specs.List.{AllByRecursion}
@@ -161,7 +162,8 @@ module _ (at_leaf : ℕ → ℕ → ℕ) (seen : ℕ → ℕ → ℕ) where
       ⊎_elim
       (λ (lt : away < p).
       let same : leaf ≡ (2 * node) * p + away = whole ∙ omega arith in
-      let up : ancestor leaf height ≡ 2 * node = ancestor-below height (2 * node) away leaf same lt in
+      let up : ancestor leaf height ≡ 2 * node =
+      ancestor-below height (2 * node) away leaf same lt in
       get-first left right away (omega arith)
       ∙ (get-leaf_values height (2 * node) away leaf (seen (2 * node) stamp) same lt
       ∙ ap (λ n. at_leaf leaf (cover seen leaf height (seen n stamp))) (sym up)))

@@ -27,7 +27,8 @@ use Rattle.trail_replay.proofs.StampFronts.{are_fronts, reached_root}
 use Rattle.trail_replay.proofs.BlockLaws.{AreFronts, all_sessions, lines_of-to, front_within}
 use Rattle.trail_replay.proofs.Arrays.{last_value, post_at, length-array_after}
 use Rattle.trail_replay.proofs.Arrays.{component-array_after, last_value-own}
-use Rattle.trail_replay.proofs.Folds.{leaf_values, length-leaf_values, get-leaf_values, whole-leaf_values}
+use Rattle.trail_replay.proofs.Folds.{leaf_values, length-leaf_values, get-leaf_values}
+use Rattle.trail_replay.proofs.Folds.{whole-leaf_values}
 use Rattle.trail_replay.proofs.Tracks.{slice_get-map_some}
 use Rattle.trail_replay.proofs.Tracks.{over-session, over-no_session}
 
@@ -100,7 +101,8 @@ module _ (plan : Plan) (unit cap : ℕ) (join : ℕ → ℕ → ℕ) (words : Li
         (omega (arith, length-map passes (λ (did : Did). posted tree did.calls)))
         (all_sessions front posts (length posts) stamp (omega arith)) in
         let most = cover_below plan board h.stamps.grown tree session tree_in below plan.levels
-        stamp (omega arith) (reached_root plan words passes h.stamps all tree tree_in session stamp below le) in
+        stamp (omega arith)
+        (reached_root plan words passes h.stamps all tree tree_in session stamp below le) in
         let no_posts : board.posts session tree ≡ 0 =
         over-no_session (posts_in tree) plan.levels session passes ge in
         let covered : front stamp session ≡ 0 = omega arith in

@@ -9,7 +9,8 @@ use Rattle.fold_law.specs.Laws.{FoldLaws}
 use Rattle.fold_law.specs.Whole.{whole_of}
 use Rattle.risk_board.specs.declared.hand.Line.{Line}
 use Rattle.risk_board.specs.declared.hand.Call.TheVariants.{Read}
-use Rattle.risk_board.specs.History.{Event, IsLegal, IsOwnLegal, PlacesFollow, events_of_calls, own_lines}
+use Rattle.risk_board.specs.History.{Event, IsLegal, IsOwnLegal, PlacesFollow, events_of_calls}
+use Rattle.risk_board.specs.History.{own_lines}
 use Rattle.risk_board.specs.History.{array_after, lines_of}
 use Rattle.node_rule.specs.declared.view.Plan.{Plan}
 use Rattle.node_rule.specs.Sums.{Each, posted}
@@ -90,7 +91,8 @@ module _ (plan : Plan) (unit cap : ℕ) (join : ℕ → ℕ → ℕ) (le : ℕ �
         let first = take-place front posts s last read.reached in
         record {
           within = place_rises front posts s last read.reached;
-          is = is ∙ (sym (whole-at plan unit cap join words passes h all tree tree_in le under laws s
+          is = is
+              ∙ (sym (whole-at plan unit cap join words passes h all tree tree_in le under laws s
               read.reached)
               ∙ ap (λ l. whole (array_after unit (2 ^ plan.levels) l)) (sym first));
           own = ap (λ l. length (lines_of session l)) first
@@ -147,7 +149,8 @@ pub legal_lines : (unit cap : ℕ) (join : ℕ → ℕ → ℕ) (le : ℕ → �
     → tree < taken.shape.trees → (lines : List Line) (places : List ℕ)
     → lines ≡ history_of taken tree → places ≡ places_of taken tree
     → AreLegalIn join unit taken tree lines places
-legal_lines unit cap join le under laws taken tree lawful tree_in own own_places are_lines are_places =
+legal_lines
+    unit cap join le under laws taken tree lawful tree_in own own_places are_lines are_places =
     let passes = taken.passes.items in
     let front = front_of taken.shape.levels passes tree in
     let same : map (λ (did : Did). events_of_calls

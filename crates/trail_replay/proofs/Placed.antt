@@ -1,6 +1,8 @@
 -- The events of one session's calls, with the place of each read by its stamp.
-use Rattle.std.proofs.Common.{◌≡◌, ℕ, suc, ◌+◌, ◌≤◌, ◌==◌, Bool, true, false, cond, List, [], ◌∷◌, ◌++◌}
-use Rattle.std.proofs.Common.{length, take, refl, ap, sym, ◌∙◌, subst, arith, length-append, append_assoc}
+use Rattle.std.proofs.Common.{◌≡◌, ℕ, suc, ◌+◌, ◌≤◌, ◌==◌, Bool, true, false, cond, List, [], ◌∷◌}
+use Rattle.std.proofs.Common.{◌++◌}
+use Rattle.std.proofs.Common.{length, take, refl, ap, sym, ◌∙◌, subst, arith, length-append}
+use Rattle.std.proofs.Common.{append_assoc}
 use mathlib.Core.Option.{some}
 use lib.ListN.{get_elem?}
 use Rattle.std.proofs.lemmas.Bool.{eqb-true}
@@ -9,7 +11,8 @@ use Rattle.risk_board.specs.declared.hand.Line.{Line}
 use Rattle.risk_board.specs.declared.hand.Call.{Call}
 use Rattle.risk_board.specs.declared.hand.Call.TheVariants.{Post, Read}
 use Rattle.risk_board.specs.History as history
-use Rattle.risk_board.specs.History.{Event, events_of_calls, array_after, lines_of, ReadsFit, StampsRise}
+use Rattle.risk_board.specs.History.{Event, events_of_calls, array_after, lines_of, ReadsFit}
+use Rattle.risk_board.specs.History.{StampsRise}
 use Rattle.risk_board.specs.History.{PlaceFollows, PlacesFollow}
 use Rattle.risk_board.specs.History.Event.{Posted, Saw}
 use Rattle.node_rule.specs.Views.{pick}
@@ -57,7 +60,8 @@ module _ (place : ℕ → ℕ) (tree : ℕ) where
         → PlaceFollows stamp (place stamp) (events calls)
     place_follows stamp [] = tt
     place_follows stamp (Post t value ∷ calls) =
-        follows_post (t == tree) stamp (place stamp) value (events calls) (place_follows stamp calls)
+        follows_post (t == tree) stamp (place stamp) value (events calls)
+        (place_follows stamp calls)
     place_follows stamp (Read t other value ∷ calls) =
         follows_read (t == tree) stamp other value (events calls) (place_follows stamp calls)
 

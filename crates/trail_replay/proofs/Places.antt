@@ -1,5 +1,6 @@
 -- The places of a history, and the events with them.
-use Rattle.std.proofs.Common.{◌≡◌, ℕ, zero, suc, ◌<◌, ◌≤◌, ◌==◌, Bool, true, false, cond, List, [], ◌∷◌}
+use Rattle.std.proofs.Common.{◌≡◌, ℕ, zero, suc, ◌<◌, ◌≤◌, ◌==◌, Bool, true, false, cond, List, []}
+use Rattle.std.proofs.Common.{◌∷◌}
 use Rattle.std.proofs.Common.{length, map, refl, ap, sym, ◌∙◌, arith, length-append, ⊎_elim}
 use mathlib.Core.Option.{some}
 use lib.ListN.{get_elem?}

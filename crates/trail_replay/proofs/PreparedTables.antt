@@ -1,10 +1,14 @@
 -- Rows made from a record, and lists of posts by tree.
-use Rattle.std.proofs.Common.{◌≡◌, ◌⊎◌, ℕ, zero, suc, ◌+◌, ◌-◌, ◌*◌, ◌/◌, ◌%◌, ◌^◌, ◌<◌, ◌≤◌, List, [], ◌∷◌, ◌++◌, length, min, Bool, true, false, set}
-use Rattle.std.proofs.Common.{get_or, map, replicate, fold, refl, ap, sym, ◌∙◌, subst, inl, inr, ⊎_elim, arith, length-set, length-append, append_assoc, eq-eqb}
+use Rattle.std.proofs.Common.{◌≡◌, ℕ, zero, suc, ◌+◌, ◌-◌, ◌*◌, ◌/◌, ◌%◌, ◌^◌, ◌<◌, ◌≤◌, List}
+use Rattle.std.proofs.Common.{[], ◌∷◌, ◌++◌, length, min}
+use Rattle.std.proofs.Common.{get_or, map, replicate, fold, refl, ap, sym, ◌∙◌, subst}
+use Rattle.std.proofs.Common.{⊎_elim, arith, length-set, length-append, append_assoc, eq-eqb}
 use Rattle.std.specs.List.{AllByRecursion}
 use Rattle.trail_replay.proofs.CallPosts.{posted-append}
 use Rattle.std.proofs.lemmas.Bool.{ne_eqb}
-use Rattle.std.proofs.lemmas.List.{get_or-set_same, get_or-set_other, get_or_append_left, get_or-append-add, get_or-replicate, length-replicate, length-map, get_or-map, append-nil as append_nil}
+use Rattle.std.proofs.lemmas.List.{get_or-set_same, get_or-set_other, get_or_append_left}
+use Rattle.std.proofs.lemmas.List.{get_or-append-add, get_or-replicate, length-replicate}
+use Rattle.std.proofs.lemmas.List.{length-map, get_or-map, append-nil as append_nil}
 use Rattle.risk_board.specs.declared.hand.Call.{Call}
 use Rattle.risk_board.specs.declared.hand.Call.TheVariants.{Post, Read}
 use Rattle.node_rule.specs.Views.{pick}
@@ -14,7 +18,8 @@ use Rattle.f_array.specs.Records.{Did}
 use Rattle.trail_replay.specs.declared.reads.ChildStamps.{ChildStamps}
 use Rattle.trail_replay.specs.Sums.{read_in_all}
 use Rattle.trail_replay.specs.Histories.{posts_of_tree}
-use Rattle.trail_replay.specs.Reads.{unread, list_below, empty_nodes, empty_rows, end_stamp, row_of, rows_of}
+use Rattle.trail_replay.specs.Reads.{unread, list_below, empty_nodes, empty_rows, end_stamp, row_of}
+use Rattle.trail_replay.specs.Reads.{rows_of}
 use Rattle.trail_replay.specs.Reads.{AreSums, AreRows, lists_with, lists_of, ArePosts, IsPrepared}
 use Rattle.trail_replay.proofs.Rows.{same_or, sums-same, sums-of, length-of}
 

@@ -1,11 +1,13 @@
 -- What rows say after installs.
-use Rattle.std.proofs.Common.{◌≡◌, ◌⊎◌, ℕ, zero, suc, ◌+◌, ◌-◌, ◌*◌, ◌/◌, ◌%◌, ◌^◌, ◌<◌, ◌≤◌, List, [], ◌∷◌, length, min, Bool, true, false, set}
-use Rattle.std.proofs.Common.{get_or, map, refl, ap, sym, ◌∙◌, subst, inl, inr, ⊎_elim, arith, length-set, eq-eqb}
+use Rattle.std.proofs.Common.{◌≡◌, ◌⊎◌, ℕ, zero, suc, ◌+◌, ◌-◌, ◌*◌, ◌/◌, ◌%◌, ◌^◌, ◌<◌, List}
+use Rattle.std.proofs.Common.{[], ◌∷◌, length, min, set}
+use Rattle.std.proofs.Common.{get_or, map, refl, ap, sym, ◌∙◌, subst, inl, inr, ⊎_elim, arith}
+use Rattle.std.proofs.Common.{length-set, eq-eqb}
 use Rattle.std.proofs.lemmas.Bool.{ne_eqb}
 use Rattle.std.proofs.lemmas.List.{get_or-set_same, get_or-set_other, get_or-map, map-set}
 use Rattle.node_rule.specs.declared.view.Install.{Install}
 use Rattle.node_rule.specs.Views.{pick, is_left}
-use Rattle.node_rule.specs.Sums.{total, read_by}
+use Rattle.node_rule.specs.Sums.{read_by}
 use Rattle.node_rule.proofs.Adding.{matched-none, matched-some}
 use Rattle.f_array.specs.Records.{Did}
 use Rattle.trail_replay.specs.declared.reads.ChildStamps.{ChildStamps}

@@ -1,5 +1,5 @@
--- What the rule says of the fronts of a record: they begin with nothing, never fall, and end with all
--- posts.
+-- What the rule says of the fronts of a record: they begin with nothing, never fall, and end with
+-- all posts.
 use Rattle.std.proofs.Common.{◌≡◌, ℕ, zero, suc, ◌+◌, ◌^◌, ◌<◌, ◌≤◌, List, [], ◌∷◌}
 use Rattle.std.proofs.Common.{length, refl, ap, sym, ◌∙◌, subst, arith}
 use Rattle.std.specs.Prelude.{Some, None, slice_get}

@@ -1,11 +1,11 @@
 -- What installs read, in rows by tree, node and stamp; and posts, in lists by tree.
-use Rattle.std.specs.Prelude.{◌≡◌, ℕ, zero, suc, ◌+◌, ◌-◌, ◌*◌, ◌^◌, ◌<◌, List, [], ◌∷◌, ◌++◌, length, min, fold, map, replicate, slice_index_or, slice_set}
+use Rattle.std.specs.Prelude.{◌≡◌, ℕ, zero, suc, ◌+◌, ◌-◌, ◌*◌, ◌^◌, ◌<◌, List, [], ◌∷◌, ◌++◌}
+use Rattle.std.specs.Prelude.{length, min, fold, map, replicate, slice_index_or, slice_set}
 use Rattle.std.specs.List.{AllByRecursion}
 use Rattle.stamp_word.specs.Word.{stamp_in}
 use Rattle.risk_board.specs.declared.hand.Call.{Call}
 use Rattle.risk_board.specs.declared.hand.Call.TheVariants.{Post, Read}
 use Rattle.node_rule.specs.declared.view.Install.{Install}
-use Rattle.node_rule.specs.Sums.{posted}
 use Rattle.node_rule.specs.Fronts.{word_at}
 use Rattle.f_array.specs.declared.record.Record.{Record}
 use Rattle.f_array.specs.Records.{Did}
@@ -37,7 +37,8 @@ abbrev pub rows_with : List (List (List ChildStamps)) → Install → List (List
 rows_with rows x = slice_set rows x.tree (nodes_with x (slice_index_or rows x.tree []))
 
 -- all rows with the installs of a trail
-abbrev pub rows_after : List (List (List ChildStamps)) → List Install → List (List (List ChildStamps))
+abbrev pub rows_after : List (List (List ChildStamps)) → List Install
+    → List (List (List ChildStamps))
 rows_after rows trail = fold rows_with rows trail
 
 -- all rows with the installs of these passes
@@ -65,8 +66,8 @@ end_stamp taken tree node = stamp_in (word_at taken.shape.levels taken.words.ite
 abbrev pub row_of : List (List (List ChildStamps)) → ℕ → ℕ → List ChildStamps
 row_of rows tree node = slice_index_or (slice_index_or rows tree []) node []
 
--- the rows say of each stamp of each node of the trees what its install read of a child, by this sum,
--- where a u32 holds it
+-- the rows say of each stamp of each node of the trees what its install read of a child, by this
+-- sum, where a u32 holds it
 pub record AreSums (trees nodes : ℕ) (sum : ℕ → ℕ → ℕ → ℕ) (rows : List (List (List ChildStamps)))
     : Type 0 where
   pub left : (tree node stamp : ℕ) → tree < trees → node < nodes

@@ -1,5 +1,6 @@
 //! The history of a tree, block after block, from what was prepared of its record.
-ghost use Rattle.std.specs.Prelude.{◌≡◌, [], ◌+◌, ◌<◌, ◌≤◌, ◌++◌, length, map, slice_index_or, All, IfOk, OnOk};
+ghost use Rattle.std.specs.Prelude.{◌≡◌, [], ◌+◌, ◌<◌, ◌≤◌, ◌++◌, length, map, slice_index_or, All};
+ghost use Rattle.std.specs.Prelude.{IfOk, OnOk};
 ghost use Rattle.trail_replay.specs.Blocks.{block_from, places_to};
 ghost use Rattle.trail_replay.specs.Fronts.{front_of, last_stamp, IsStampedRecord};
 ghost use Rattle.trail_replay.specs.Histories.{posts_of_tree, lines_of_tree};
@@ -25,8 +26,9 @@ pub(crate) fn history_to(
     requires stamped { IsStampedRecord taken.now }
     requires tree { tree < taken.now.shape.trees }
     requires rows { AreRows taken.now (map (λ nodes. map (λ row. row.items) nodes.items) rows.now) }
-    requires posts { map (λ lists. slice_index_or (map (λ values. values.items) lists.items) tree [])
-        posts.now ≡ posts_of_tree tree taken.now.passes.items }
+    requires posts { map
+        (λ lists. slice_index_or (map (λ values. values.items) lists.items) tree []) posts.now
+        ≡ posts_of_tree tree taken.now.passes.items }
     requires long { All (λ lists. tree < length lists.items) posts.now }
     requires last { last ≤ last_stamp taken.now tree }
     ensures lines { IfOk result (λ h. h.lines.items ≡ lines_of_tree taken.now tree last) }
@@ -60,8 +62,9 @@ fn add_block(
     requires stamped { IsStampedRecord taken.now }
     requires tree { tree < taken.now.shape.trees }
     requires rows { AreRows taken.now (map (λ nodes. map (λ row. row.items) nodes.items) rows.now) }
-    requires posts { map (λ lists. slice_index_or (map (λ values. values.items) lists.items) tree [])
-        posts.now ≡ posts_of_tree tree taken.now.passes.items }
+    requires posts { map
+        (λ lists. slice_index_or (map (λ values. values.items) lists.items) tree []) posts.now
+        ≡ posts_of_tree tree taken.now.passes.items }
     requires long { All (λ lists. tree < length lists.items) posts.now }
     requires reached { stamp + 1 ≤ last_stamp taken.now tree }
     ensures { let front = front_of taken.now.shape.levels taken.now.passes.items tree in

@@ -27,8 +27,8 @@ pub(crate) fn cover(taken: &Record, tree: u32, session: u32, stamp: u32) -> u32
     held
 }
 
-/// The stamp at which the install of the child's parent with this stamp read the child; 0 where there
-/// is no such install.
+/// The stamp at which the install of the child's parent with this stamp read the child; 0 where
+/// there is no such install.
 fn seen(passes: &[PassRecord], tree: u32, child: u32, stamp: u32) -> u32
     requires fits { read_in_all tree child stamp passes.now < 2 ^ 32 }
     ensures { result ≡ read_in_all tree child stamp passes.now }
@@ -53,7 +53,7 @@ fn seen_by(trail: &[Install], tree: u32, child: u32, stamp: u32) -> u32
 }
 
 /// The same of one install.
-pub(crate) fn read_of(install: &Install, tree: u32, child: u32, stamp: u32) -> u32
+fn read_of(install: &Install, tree: u32, child: u32, stamp: u32) -> u32
     ensures { result ≡ read_by tree child stamp install.now }
 {
     let at_parent = install.tree == tree && install.node == child / 2;

@@ -10,8 +10,8 @@ ghost use Rattle.trail_replay.specs.Histories.{HasLegalHistory};
 
 use fold_law::Fold;
 
-/// A record of the shape of a forest, with what each of its passes did, and with words that meet the
-/// rule with them, as a close gives it, is lawful.
+/// A record of the shape of a forest, with what each of its passes did, and with words that meet
+/// the rule with them, as a close gives it, is lawful.
 pub fn closed_records_are_lawful<F: Fold>()
     ensures { (forest : Forested) (passes : List PassValue) (taken : Record)
         → AreAllOf forest passes → IsShapeOf forest.plan taken.shape

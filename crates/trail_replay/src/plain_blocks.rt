@@ -8,7 +8,8 @@ ghost use Rattle.trail_replay.specs.Histories.{AreLegalIn};
 
 use crate::covers::cover;
 use crate::history::History;
-use crate::posts::{add_between, posts_in};
+use crate::plain_posts::posts_in;
+use crate::posts::add_between;
 use f_array::Record;
 use fold_law::{Fold, Memory};
 use risk_board::Line;
@@ -16,8 +17,8 @@ use stamp_word::stamp_of;
 use std::alloc::Global;
 
 /// The history of a tree of a lawful record: the posts in the order of the first stamp of the root
-/// that covers them, and of one stamp by session and index. With each read at the place of its stamp
-/// it is legal.
+/// that covers them, and of one stamp by session and index. With each read at the place of its
+/// stamp it is legal.
 pub(crate) fn replay_plain<F: Fold>(
     alloc: Global,
     taken: &Record,

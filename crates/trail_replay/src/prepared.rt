@@ -68,8 +68,8 @@ pub fn replay_of<F: Fold>(alloc: Global, prepared: &Prepared, tree: u32) -> Resu
 }
 
 /// The history of a tree of a lawful record: the posts in the order of the first stamp of the root
-/// that covers them, and of one stamp by session and index. With each read at the place of its stamp
-/// it is legal. It prepares the record for all trees: for more than one, prepare it once.
+/// that covers them, and of one stamp by session and index. With each read at the place of its
+/// stamp it is legal. It prepares the record for all trees: for more than one, prepare it once.
 pub fn replay<F: Fold>(alloc: Global, taken: &Record, tree: u32) -> Result<History, Memory>
     requires lawful { IsLawful F.UNIT F.CAP F.join taken.now }
     requires tree { tree < taken.now.shape.trees }

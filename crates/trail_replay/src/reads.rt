@@ -1,8 +1,10 @@
 //! What the installs of a record read, in rows by tree, node and stamp, made in one pass over all
 //! trails. A node's stamps are dense from 1, so a row has no gaps.
-ghost use Rattle.std.specs.Prelude.{◌≡◌, ◌+◌, ◌/◌, ◌^◌, ◌<◌, ◌≤◌, map, replicate, slice_index, IfOk};
+ghost use Rattle.std.specs.Prelude.{◌≡◌, ◌+◌, ◌/◌, ◌^◌, ◌<◌, ◌≤◌, map, replicate, slice_index};
+ghost use Rattle.std.specs.Prelude.{IfOk};
 ghost use Rattle.stamp_word.specs.Word.{stamp_in};
-ghost use Rattle.trail_replay.specs.Reads.{unread, row_with, nodes_with, rows_with, rows_after, rows_of};
+ghost use Rattle.trail_replay.specs.Reads.{unread, row_with, nodes_with, rows_with, rows_after};
+ghost use Rattle.trail_replay.specs.Reads.{rows_of};
 ghost use Rattle.trail_replay.specs.Reads.{empty_nodes, empty_rows, end_stamp, AreRows};
 ghost use Rattle.trail_replay.specs.Sums.{read_in_all};
 
@@ -137,8 +139,8 @@ fn add_to_row(row: &mut Vec<ChildStamps>, install: &Install)
     }
 }
 
-/// The stamp at which the install of the child's parent with this stamp read the child; 0 where there
-/// is no such install.
+/// The stamp at which the install of the child's parent with this stamp read the child; 0 where
+/// there is no such install.
 pub(crate) fn seen_at(
     taken: &Record,
     rows: &[Vec<Vec<ChildStamps>>],

@@ -1,5 +1,5 @@
-//! What no clause says: that calls succeed with memory at hand, and a history that is known from its
-//! calls. Of runs on several threads each read is compared with a walk along the history.
+//! What no clause says: that calls succeed with memory at hand, and a history that is known from
+//! its calls. Of runs on several threads each read is compared with a walk along the history.
 ghost use Rattle.std.specs.Prelude.{◌≡◌, ◌≤◌, ◌<◌, IfSome};
 ghost use Rattle.fold_law.specs.declared.limits.TheConstants.{SESSIONS, LEAF};
 ghost use Rattle.fold_law.specs.Sum.{sum_of};
@@ -22,8 +22,8 @@ use std::test::*;
 use std::thread;
 use std::thread::Threads;
 
-// What passes are to do in each tree, the one with this number alone or all: so many rounds of a post
-// or a read or both, of which the first post has this value.
+// What passes are to do in each tree, the one with this number alone or all: so many rounds of a
+// post or a read or both, of which the first post has this value.
 #[derive(Clone, Copy)]
 struct Job {
     only: Option<u32>,
@@ -196,8 +196,8 @@ fn close(forest: Forest<Sum>, keeper: Keeper<Sum>, passes: Vec<Pass<Sum>>) -> Op
     Some(taken)
 }
 
-// The place of a call that is a read of the tree, where it is as the walk says; of any other call the
-// last place.
+// The place of a call that is a read of the tree, where it is as the walk says; of any other call
+// the last place.
 fn place_of_call<'a>(
     walk: &mut Walk<'a, Sum>,
     history: &'a History,
@@ -291,56 +291,60 @@ const NONE: Job = Job {
     reads: false,
 };
 
+const FIRST_POSTS: Job = Job {
+    only: Some(0),
+    rounds: 1,
+    value: 5,
+    posts: true,
+    reads: false,
+};
+
+const SECOND_POSTS: Job = Job {
+    only: Some(1),
+    rounds: 1,
+    value: 7,
+    posts: true,
+    reads: false,
+};
+
+const FIRST_READS: Job = Job {
+    only: Some(0),
+    rounds: 1,
+    value: 0,
+    posts: false,
+    reads: true,
+};
+
+const LINES: [Line; 2] = [
+    Line {
+        session: 0,
+        index: 1,
+        value: 5,
+    },
+    Line {
+        session: 1,
+        index: 1,
+        value: 7,
+    },
+];
+
 #[test]
 fn two_posts_and_a_read_are_in_order(rt: HostRuntime) -> Result<(), Fail> {
-    let job = Job {
-        only: Some(0),
-        rounds: 1,
-        value: 5,
-        posts: true,
-        reads: false,
-    };
-    let other = Job {
-        only: Some(1),
-        value: 7,
-        ..job
-    };
-    let read = Job {
-        posts: false,
-        reads: true,
-        ..job
-    };
-    let Some(taken) = record_of(&rt, rt.alloc(), 2, 1, 1, [job, other, read]) else {
+    const JOBS: [Job; 3] = [FIRST_POSTS, SECOND_POSTS, FIRST_READS];
+    let Some(taken) = record_of(&rt, rt.alloc(), 2, 1, 1, JOBS) else {
         panic!(rt; "no record")
     };
     let Ok(history) = replay::<Sum>(rt.alloc(), &taken, 0) else {
         panic!(rt; "no memory")
     };
-    let first = Line {
-        session: 0,
-        index: 1,
-        value: 5,
-    };
-    let second = Line {
-        session: 1,
-        index: 1,
-        value: 7,
-    };
-    assert_eq!(rt;
-        history.lines.as_slice(),
-        [first, second].as_slice(),
-        "lines"
-    );
+    assert_eq!(rt; history.lines.as_slice(), LINES.as_slice(), "lines");
     assert_eq!(rt; history.places.as_slice(), [0, 1, 2].as_slice(), "places");
     assert_eq!(rt; at::<Sum>(&history, 1), 5, "the root after one post");
     let Ok(prepared) = Prepared::of(rt.alloc(), &taken) else {
         panic!(rt; "no memory")
     };
-    assert_eq!(rt;
-        lines_of_tree(rt.alloc(), &taken, &prepared, 0),
-        Some(2),
-        "the read"
-    );
+    let lines = lines_of_tree(rt.alloc(), &taken, &prepared, 0);
+    assert_eq!(rt; lines, Some(2), "the read");
     Ok(())
 }
 

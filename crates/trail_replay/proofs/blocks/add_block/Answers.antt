@@ -1,4 +1,5 @@
-use Rattle.std.proofs.Common.{◌≡◌, ap, sym, ◌∙◌, ◌+◌, ◌++◌, ◌<◌, [], List, ℕ, length, arith, append_assoc, get_or, subst, map, take, refl}
+use Rattle.std.proofs.Common.{◌≡◌, ap, sym, ◌∙◌, ◌+◌, ◌++◌, ◌<◌, [], length, arith}
+use Rattle.std.proofs.Common.{append_assoc, get_or, subst, map, take, refl}
 use Rattle.std.specs.Prelude.{slice_get, Some}
 use Rattle.std.proofs.lemmas.List.Elements.{All-get_or}
 use Rattle.trail_replay.specs.Blocks.{block_from, lines_between}

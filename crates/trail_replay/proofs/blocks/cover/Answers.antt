@@ -4,7 +4,6 @@ use Rattle.stamp_word.specs.Word.{stamp_in}
 use Rattle.stamp_word.specs.Places.{leaf_of}
 use Rattle.node_rule.specs.Fronts.{word_at, board_of, ancestor, cover}
 use Rattle.trail_replay.specs.Fronts.{view_of}
-use Rattle.trail_replay.specs.Sums.{read_in_all}
 use Rattle.trail_replay.proofs.Covering.{at_root, goes_down, parent_in, held_in}
 use Rattle.trail_replay.proofs.blocks.cover.Goals as goal
 

@@ -1,4 +1,5 @@
-use Rattle.std.proofs.Common.{◌≡◌, ap, sym, ◌∙◌, ◌+◌, ◌++◌, arith, append_assoc, subst, map, take, refl}
+use Rattle.std.proofs.Common.{◌≡◌, ap, sym, ◌∙◌, ◌+◌, ◌++◌, arith, append_assoc, subst, map, take}
+use Rattle.std.proofs.Common.{refl}
 use Rattle.std.specs.Prelude.{slice_get, Some}
 use Rattle.trail_replay.specs.Blocks.{block_from, lines_between}
 use Rattle.trail_replay.specs.Fronts.{front_of}

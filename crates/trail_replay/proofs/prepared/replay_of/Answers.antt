@@ -1,12 +1,13 @@
-use Rattle.std.proofs.Common.{◌≡◌, ◌+◌, ◌<◌, ℕ, List, [], length, get_or, map, ap, sym, ◌∙◌, subst, arith}
-use Rattle.std.specs.List.{AllByRecursion}
+use Rattle.std.proofs.Common.{◌<◌, ℕ, List, [], length, get_or, map, ap, sym, ◌∙◌, subst}
+use Rattle.std.proofs.Common.{arith}
 use Rattle.std.specs.Prelude.{All}
 use Rattle.std.proofs.lemmas.List.Elements.{All-from_recursion}
 use Rattle.f_array.specs.declared.record.Record.{Record}
 use Rattle.trail_replay.specs.Arrays.{AreLines}
 use Rattle.trail_replay.specs.Blocks.{places_to}
 use Rattle.trail_replay.specs.Fronts.{front_of, last_stamp, IsLawful}
-use Rattle.trail_replay.specs.Histories.{posts_of_tree, lines_of_tree, history_of, places_of, AreLegalIn}
+use Rattle.trail_replay.specs.Histories.{posts_of_tree, lines_of_tree, history_of, places_of}
+use Rattle.trail_replay.specs.Histories.{AreLegalIn}
 use Rattle.trail_replay.proofs.BlockSteps.{root_stamp, if_ok_both, if_ok_with}
 use Rattle.trail_replay.proofs.LegalHistories.{legal_lines}
 use Rattle.trail_replay.proofs.Places.{length-places_to}
@@ -49,7 +50,8 @@ returns-clause-lines g c =
     c.index-root.result.now c.root.result c.stamp_of-last.result c.stamp_of-last.ensures.stamp
     c.index-root.ensures c.root.ensures in
     if_ok_with _ _ c.history_to.result
-    (λ h lines. lines ∙ (ap (lines_of_tree taken tree) last ∙ ap (λ (r : Record). history_of r tree) is))
+    (λ h lines. lines
+    ∙ (ap (lines_of_tree taken tree) last ∙ ap (λ (r : Record). history_of r tree) is))
     c.history_to.ensures.lines
 
 pub returns-clause-places : goal.returns-clause-places
@@ -66,7 +68,8 @@ returns-clause-places g c =
     let front = front_of taken.shape.levels taken.passes.items tree in
     let posts = posts_of_tree tree taken.passes.items in
     if_ok_with _ _ c.history_to.result
-    (λ h places. places ∙ (ap (places_to front posts) last ∙ ap (λ (r : Record). places_of r tree) is))
+    (λ h places. places
+    ∙ (ap (places_to front posts) last ∙ ap (λ (r : Record). places_of r tree) is))
     c.history_to.ensures.places
 
 pub returns-clause-legal : goal.returns-clause-legal

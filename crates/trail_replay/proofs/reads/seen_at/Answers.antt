@@ -1,8 +1,10 @@
-use Rattle.std.proofs.Common.{◌≡◌, ◌+◌, ◌/◌, ◌%◌, ◌<◌, [], ℕ, length, get_or, map, ap, sym, ◌∙◌, arith}
+use Rattle.std.proofs.Common.{◌≡◌, ◌/◌, [], ℕ, length, get_or, map, ap, ◌∙◌}
+use Rattle.std.proofs.Common.{arith}
 use Rattle.std.proofs.lemmas.List.{length-map, get_or_default}
 use Rattle.trail_replay.specs.declared.reads.ChildStamps.{ChildStamps}
 use Rattle.trail_replay.specs.Reads.{row_of, unread}
-use Rattle.trail_replay.proofs.PreparedTables.{value_at, tree_inside, node_inside, row_has, seen-left, seen-right}
+use Rattle.trail_replay.proofs.PreparedTables.{value_at, tree_inside, node_inside, row_has}
+use Rattle.trail_replay.proofs.PreparedTables.{seen-left, seen-right}
 use Rattle.trail_replay.proofs.reads.seen_at.Goals as goal
 
 pub returns-then-child-eq0 : goal.returns-then-child-eq0

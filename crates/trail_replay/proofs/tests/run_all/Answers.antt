@@ -19,6 +19,14 @@ map_vec-requires-after_bounds g c κs within i x short is =
 pub returns-in-Ok : goal.returns-in-Ok
 returns-in-Ok g c =
     same_passes_are_all c.args.forest.now c.args.passes.items c.in-Ok.after.items
-    (let long = c.in-Ok.ensures.len in let a = c.in-Ok.after.ok in let b = c.args.passes.ok in omega arith)
-    (λ k other short. let gives = (c.in-Ok.ensures.each k other short).1 in let met = gives.call.met in let is = gives.job_is other in subst (λ (p : PassValue). IsSamePass p (slice_index_or c.in-Ok.after.items k other)) (sym is) (assumption (met)))
+    (let long = c.in-Ok.ensures.len in
+    let a = c.in-Ok.after.ok in
+    let b = c.args.passes.ok in
+    omega arith)
+    (λ k other short.
+    let gives = (c.in-Ok.ensures.each k other short).1 in
+    let met = gives.call.met in
+    let is = gives.job_is other in
+    subst (λ (p : PassValue). IsSamePass p (slice_index_or c.in-Ok.after.items k other)) (sym is)
+    (assumption (met)))
     c.requires.all

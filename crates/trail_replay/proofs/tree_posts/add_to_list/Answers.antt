@@ -1,5 +1,4 @@
-use Rattle.std.proofs.Common.{◌≡◌, ◌<◌, ◌++◌, ◌∷◌, [], map, length, ap, sym, ◌∙◌, arith}
-use Rattle.risk_board.specs.declared.hand.Call.TheVariants.{Post}
+use Rattle.std.proofs.Common.{◌<◌, ◌++◌, ◌∷◌, [], map, length, ap, sym, ◌∙◌, arith}
 use Rattle.trail_replay.specs.Reads.{lists_with}
 use Rattle.trail_replay.proofs.Rows.{map-changed}
 use Rattle.trail_replay.proofs.tree_posts.add_to_list.Goals as goal

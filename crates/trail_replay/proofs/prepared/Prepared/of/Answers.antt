@@ -8,4 +8,5 @@ pub invariant_of-result : goal.invariant_of-result
 invariant_of-result c =
     are_prepared c.args.taken.now _ _ c.in_ok-rows.ensures
     (c.in_ok-posts.ensures
-    ∙ ap (map (λ (did : Did). lists_of c.args.taken.now.shape.trees did.calls)) c.deref.ensures.value)
+    ∙ ap (map (λ (did : Did). lists_of c.args.taken.now.shape.trees did.calls))
+    c.deref.ensures.value)

@@ -1,7 +1,7 @@
 -- the posts of the sessions so far
 use Rattle.std.proofs.Common.{◌≡◌, map, take}
 use Rattle.trail_replay.specs.Histories.{posts_of_tree}
-use Rattle.trail_replay.proofs.posts.posts_in.Given as goal
+use Rattle.trail_replay.proofs.plain_posts.posts_in.Given as goal
 
 abbrev pub invariant-loop-did : goal.invariant-loop-did
 invariant-loop-did l =

@@ -2,7 +2,7 @@ use Rattle.std.proofs.Common.{get_or, ap, sym, ◌∙◌, ◌++◌, ◌∷◌, [
 use Rattle.risk_board.specs.declared.hand.Call.TheVariants.{Post}
 use Rattle.node_rule.specs.Sums.{posted}
 use Rattle.trail_replay.proofs.CallPosts.{posted-more}
-use Rattle.trail_replay.proofs.posts.posts_by.Goals as goal
+use Rattle.trail_replay.proofs.plain_posts.posts_by.Goals as goal
 
 pub loop-call-preserved : goal.loop-call-preserved
 loop-call-preserved c =
