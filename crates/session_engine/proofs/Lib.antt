@@ -9,7 +9,7 @@ pub mod PlacedFollows
 pub mod ReachLemmas
 pub mod ReadLemmas
 pub mod Reports
-pub mod Rows
+pub mod WorkedRows
 pub mod RunLemmas
 pub mod ShortFields
 pub mod ShortValues
