@@ -79,30 +79,33 @@ above_is_other in_tree tree count inside outside = grind (arith, nat_tests)
 pub post_count-below : (count tree : ℕ) → tree < count → (acts : List Act)
     → post_count tree (calls_below count acts) ≡ posts_in tree acts
 post_count-below count tree inside [] = refl
-post_count-below count tree inside (Post t index value ∷ xs) = by_test (nat_lt t count) refl
+post_count-below count tree inside (Post t index value ∷ xs) =
+    by_test (nat_lt t count) refl (post_count-below count tree inside xs)
   where
     by_test : (test : Bool) → nat_lt t count ≡ test
+        → post_count tree (calls_below count xs) ≡ posts_in tree xs
         → post_count tree (cond test (call.Post t value ∷ calls_below count xs)
         (calls_below count xs)) ≡ posts_in tree (Post t index value ∷ xs)
-    by_test true is =
+    by_test true is later =
         count_by-cons (is_post_in tree) (call.Post t value) (calls_below count xs)
-        ∙ ap (λ n. cond (t == tree) 1 0 + n) (post_count-below count tree inside xs)
+        ∙ ap (λ n. cond (t == tree) 1 0 + n) later
         ∙ sym (count_by-cons (is_post_act_in tree) (Post t index value) xs)
-    by_test false is =
-        post_count-below count tree inside xs
+    by_test false is later =
+        later
         ∙ sym (count_by-skips tree (Post t index value) xs
         (above_is_other t tree count inside is))
-post_count-below count tree inside (Read t stamp place value ∷ xs) = by_test (nat_lt t count)
+post_count-below count tree inside (Read t stamp place value ∷ xs) =
+    by_test (nat_lt t count) (post_count-below count tree inside xs)
   where
-    by_test : (test : Bool)
+    by_test : (test : Bool) → post_count tree (calls_below count xs) ≡ posts_in tree xs
         → post_count tree (cond test (call.Read t stamp value ∷ calls_below count xs)
         (calls_below count xs)) ≡ posts_in tree (Read t stamp place value ∷ xs)
-    by_test true =
+    by_test true later =
         count_by-cons (is_post_in tree) (call.Read t stamp value) (calls_below count xs)
-        ∙ ap (λ n. 0 + n) (post_count-below count tree inside xs)
+        ∙ ap (λ n. 0 + n) later
         ∙ sym (count_by-cons (is_post_act_in tree) (Read t stamp place value) xs)
-    by_test false =
-        post_count-below count tree inside xs
+    by_test false later =
+        later
         ∙ sym (count_by-skips tree (Read t stamp place value) xs refl)
 post_count-below count tree inside (Sent frame ∷ xs) = post_count-below count tree inside xs
     ∙ sym (count_by-skips tree (Sent frame) xs refl)
@@ -119,23 +122,28 @@ post_count-below count tree inside (Ended end ∷ xs) = post_count-below count t
 last_from : (count tree : ℕ) → tree < count → (start : ℕ) (acts : List Act)
     → fold (latest_call tree) start (calls_below count acts) ≡ fold (latest tree) start acts
 last_from count tree inside start [] = refl
-last_from count tree inside start (Post t index value ∷ xs) = by_test (nat_lt t count) refl
+last_from count tree inside start (Post t index value ∷ xs) =
+    by_test (nat_lt t count) refl (λ from. last_from count tree inside from xs)
   where
     by_test : (test : Bool) → nat_lt t count ≡ test
+        → ((from : ℕ) → fold (latest_call tree) from (calls_below count xs)
+        ≡ fold (latest tree) from xs)
         → fold (latest_call tree) start (cond test (call.Post t value ∷ calls_below count xs)
         (calls_below count xs)) ≡ fold (latest tree) (cond (t == tree) value start) xs
-    by_test true is = last_from count tree inside (cond (t == tree) value start) xs
-    by_test false is =
-        last_from count tree inside start xs
+    by_test true is later = later (cond (t == tree) value start)
+    by_test false is later =
+        later start
         ∙ ap (λ b. fold (latest tree) (cond b value start) xs)
         (sym (above_is_other t tree count inside is))
-last_from count tree inside start (Read t stamp place value ∷ xs) = by_test (nat_lt t count)
+last_from count tree inside start (Read t stamp place value ∷ xs) =
+    by_test (nat_lt t count) (last_from count tree inside start xs)
   where
     by_test : (test : Bool)
+        → fold (latest_call tree) start (calls_below count xs) ≡ fold (latest tree) start xs
         → fold (latest_call tree) start (cond test (call.Read t stamp value ∷ calls_below count xs)
         (calls_below count xs)) ≡ fold (latest tree) start xs
-    by_test true = last_from count tree inside start xs
-    by_test false = last_from count tree inside start xs
+    by_test true later = later
+    by_test false later = later
 last_from count tree inside start (Sent frame ∷ xs) = last_from count tree inside start xs
 last_from count tree inside start (Refused frame code first second ∷ xs) =
     last_from count tree inside start xs
@@ -158,12 +166,12 @@ pub posts_in-other : (tree other index value : ℕ) (acts : List Act) → (other
     → posts_in tree (acts ++ Post other index value ∷ []) ≡ posts_in tree acts
 posts_in-other tree other index value acts apart =
     posts_in-append tree acts (Post other index value ∷ [])
-    ∙ ap (λ b. posts_in tree acts + (0 + cond b 1 0)) apart
+    ∙ ap (λ b. posts_in tree acts + (0 + cond b 1 0)) apart ∙ omega arith
 
 pub posts_in-read : (tree other stamp place value : ℕ) (acts : List Act)
     → posts_in tree (acts ++ Read other stamp place value ∷ []) ≡ posts_in tree acts
 posts_in-read tree other stamp place value acts =
-    posts_in-append tree acts (Read other stamp place value ∷ [])
+    posts_in-append tree acts (Read other stamp place value ∷ []) ∙ omega arith
 
 pub lt_false_from_le : (a b : ℕ) → a ≤ b → nat_lt b a ≡ false
 lt_false_from_le a b h = grind (arith, nat_tests)

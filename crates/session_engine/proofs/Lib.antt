@@ -1,11 +1,15 @@
 pub mod AnswerLemmas
+pub mod AskLemmas
 pub mod Covered
 pub mod FollowLemmas
 pub mod Forwards
 pub mod InStepLemmas
+pub mod KeptLemmas
+pub mod LegLimits
 pub mod MovedSessions
 pub mod OtherFields
 pub mod PlacedFollows
+pub mod Places
 pub mod ReachLemmas
 pub mod ReadLemmas
 pub mod Reports

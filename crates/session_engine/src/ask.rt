@@ -3,7 +3,7 @@ ghost use Rattle.std.specs.Prelude.{◌≡◌, ℕ, ◌+◌, ◌*◌, ◌^◌, �
 ghost use Rattle.std.specs.List.{list_any, slice_set};
 ghost use Rattle.fold_law.specs.declared.limits.TheConstants.{LEAF};
 ghost use Rattle.limit_table.specs.Files.{IsHeldByFile};
-ghost use Rattle.session_engine.specs.Asking.{ask_of, refusal_by, roots_by, made_in_all};
+ghost use Rattle.session_engine.specs.Asking.{ask_of, refusal_by, is_quota, roots_by, made_in_all};
 ghost use Rattle.session_engine.specs.Asking.{posts_told, reads_told};
 ghost use Rattle.session_engine.specs.OrderTrees.{rows_of, exposure_of, units_up};
 ghost use Rattle.session_engine.specs.Orders.{order_value};
@@ -100,10 +100,9 @@ fn tell_posts(
     values: &[u64; 3],
 )
     requires room { vec_len acts.old + 3 ≤ vec_capacity acts.old }
-    requires more { more ≤ 2 }
-    requires firm { slice_index made.now 0 < 2 ^ 31 }
-    requires account { slice_index made.now 1 < 2 ^ 31 }
-    requires symbol { slice_index made.now 2 < 2 ^ 31 }
+    requires firm { slice_index made.now 0 + more < 2 ^ 32 }
+    requires account { slice_index made.now 1 + more < 2 ^ 32 }
+    requires symbol { slice_index made.now 2 + more < 2 ^ 32 }
     ensures acts { acts.new.items
         ≡ acts.old.items ++ posts_told trees.now made.now more values.now }
     ensures room { vec_capacity acts.new ≡ vec_capacity acts.old }
@@ -148,6 +147,13 @@ fn tell_reads(acts: &mut Vec<Act>, halt: u32, trees: &[u32; 3], outcome: &Outcom
     acts.push_reserved(read_of(trees[0], &outcome.roots[0]));
     acts.push_reserved(read_of(trees[1], &outcome.roots[1]));
     acts.push_reserved(read_of(trees[2], &outcome.roots[2]));
+}
+
+/// Whether too few posts were left, and so nothing was posted or read.
+fn is_quota(verdict: Verdict) -> bool
+    ensures { result ≡ is_quota verdict }
+{
+    matches!(verdict, Verdict::Quota)
 }
 
 /// Why a verdict refuses, if it does.
@@ -227,17 +233,21 @@ fn ask_in<H: Hand, M: Hand>(
     };
     let made = count_posts(&hands.sum, limits.quota, &ask.trees);
     let outcome = admit(&mut hands.sum, &mut hands.halt, &ask);
-    if outcome.verdict == Verdict::Quota {
+    if is_quota(outcome.verdict) {
         return Some(Refusal::Quota);
     }
     tell_posts(acts, &ask.trees, &made, 1, &ask.new);
     tell_reads(acts, limits.halt_tree(), &ask.trees, &outcome);
-    if outcome.verdict == Verdict::Sent {
-        keep_sent(trees, limits, rows, &ask, order);
-    } else {
-        tell_posts(acts, &ask.trees, &made, 2, &ask.old);
+    match refusal_by(outcome.verdict) {
+        None => {
+            keep_sent(trees, limits, rows, &ask, order);
+            None
+        }
+        Some(why) => {
+            tell_posts(acts, &ask.trees, &made, 2, &ask.old);
+            Some(why)
+        }
     }
-    refusal_by(outcome.verdict)
 }
 
 /// Asks for an order: it is refused, where its account or its symbol is unknown, before any post.
