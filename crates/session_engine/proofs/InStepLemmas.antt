@@ -3,7 +3,12 @@ use Rattle.std.proofs.Common.{◌≡◌, ℕ, ◌+◌, ◌≤◌, ◌<◌, ◌==
 use Rattle.std.proofs.Common.{arith, true, false, Bool, cond}
 use Rattle.std.specs.Prelude.{count_by, fold, nat_lt}
 use Rattle.std.proofs.lemmas.List.Sums.{fold-append, sum_by-append}
-use Rattle.std.proofs.lemmas.Bool.{ne_eqb, eq-eqb}
+use Rattle.std.proofs.lemmas.Bool.{eq-eqb}
+use Rattle.std.proofs.lemmas.List.{append-nil}
+use Rattle.risk_board.specs.Hands.{HandValue}
+use Rattle.session_engine.specs.declared.totals.TreeTotals.{TreeTotals}
+use Rattle.session_engine.specs.Stands.{InStep}
+use Rattle.session_engine.specs.Trees.{LimitsValue, halt_tree}
 use Rattle.std.proofs.lemmas.Bool.Decides.{nat_tests}
 use Rattle.risk_board.specs.Calls.{post_count, is_post_in}
 use Rattle.risk_board.specs.declared.hand.Call.{Call}
@@ -178,3 +183,34 @@ lt_false_from_le a b h = grind (arith, nat_tests)
 
 pub lt_true : (a b : ℕ) → a < b → nat_lt a b ≡ true
 lt_true a b h = grind (arith, nat_tests)
+
+-- acts that are no calls
+module _ (limits : LimitsValue) (sum halt : HandValue) (acts : List Act)
+    (trees : List TreeTotals) where
+  after_note : (note : Act) → calls_below (halt_tree limits) (note ∷ []) ≡ []
+      → calls_at (halt_tree limits) (note ∷ []) ≡ []
+      → ((tree start : ℕ) → latest tree start note ≡ start)
+      → InStep limits sum halt acts trees → InStep limits sum halt (acts ++ note ∷ []) trees
+  after_note note below at kept step = record {
+    sum_hand = step.sum_hand;
+    halt_hand = step.halt_hand;
+    sum_calls = step.sum_calls ∙ sym (append-nil (calls_below (halt_tree limits) acts))
+        ∙ ap (λ calls. calls_below (halt_tree limits) acts ++ calls) (sym below)
+        ∙ sym (calls_below-append (halt_tree limits) acts (note ∷ []));
+    halt_calls = step.halt_calls ∙ sym (append-nil (calls_at (halt_tree limits) acts))
+        ∙ ap (λ calls. calls_at (halt_tree limits) acts ++ calls) (sym at)
+        ∙ sym (calls_at-append (halt_tree limits) acts (note ∷ []));
+    count = step.count;
+    lasts = λ tree. step.lasts tree ∙ sym (kept tree (last_post tree acts))
+        ∙ sym (last_post-append tree acts (note ∷ []));
+    capped = step.capped;
+  }
+
+  pub in_step_after_sent : (frame : ℕ) → InStep limits sum halt acts trees
+      → InStep limits sum halt (acts ++ Sent frame ∷ []) trees
+  in_step_after_sent frame step = after_note (Sent frame) refl refl (λ tree start. refl) step
+
+  pub in_step_after_refused : (frame code : ℕ) → InStep limits sum halt acts trees
+      → InStep limits sum halt (acts ++ Refused frame code 0 0 ∷ []) trees
+  in_step_after_refused frame code step =
+      after_note (Refused frame code 0 0) refl refl (λ tree start. refl) step

@@ -212,11 +212,9 @@ pub head_is_read : (fields : List FieldValue) → IsRead fields → is_head_read
 head_is_read fields read =
     and_true _ _ (and_true _ _
     (and_true _ _ (and_true _ _
-    (and_true _ _ (and_true _ _
     (and_true _ _ (and_true _ _ read.number read.sender) read.target) read.time)
-    read.kind) read.account) read.symbol) read.side) read.order_type
+    read.kind) read.side) read.order_type
 
--- the order that was read is that of the fields
 -- the text that was read as an id
 id_text : (tag : ℕ) (fields : List FieldValue) (id : List ℕ)
     → option_and_then (λ value. result_ok (id_of value)) (only_of tag fields) ≡ Some id
@@ -225,6 +223,7 @@ id_text tag fields id read =
     let i = read_takes Identifier id_of (only_of tag fields) id (λ value. refl) read in
     (i.3, id_is_text i.0 id i.2 ∙ sym (value_from_only tag fields i.0 i.1))
 
+-- the order that was read is that of the fields
 pub read_whole : (fields : List FieldValue) (id account symbol : List ℕ) (quantity price : ℕ)
     → is_head_read fields ≡ true
     → option_and_then (λ value. result_ok (id_of value)) (only_of 11 fields) ≡ Some id

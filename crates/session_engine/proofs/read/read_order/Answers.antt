@@ -9,13 +9,13 @@ pub returns-in_default-clause-none : goal.returns-in_default-clause-none
 returns-in_default-clause-none c = λ fields has read. id_is_read fields read
     (sym (c.in_default.ensures (values_of 11 fields) has.id))
 
-pub returns-in_default-id_in-2-clause-none : goal.returns-in_default-id_in-2-clause-none
-returns-in_default-id_in-2-clause-none c = λ fields has read. account_is_read fields read
-    (sym (c.in_default-id_in-2.ensures (values_of 1 fields) has.account))
+pub returns-in_default-id_in-clause-none : goal.returns-in_default-id_in-clause-none
+returns-in_default-id_in-clause-none c = λ fields has read. account_is_read fields read
+    (sym (c.in_default-id_in.ensures (values_of 1 fields) has.account))
 
-pub returns-in_default-id_in-3-clause-none : goal.returns-in_default-id_in-3-clause-none
-returns-in_default-id_in-3-clause-none c = λ fields has read. symbol_is_read fields read
-    (sym (c.in_default-id_in-3.ensures (values_of 55 fields) has.symbol))
+pub returns-in_default-id_in-2-clause-none : goal.returns-in_default-id_in-2-clause-none
+returns-in_default-id_in-2-clause-none c = λ fields has read. symbol_is_read fields read
+    (sym (c.in_default-id_in-2.ensures (values_of 55 fields) has.symbol))
 
 pub returns-in_default-quantity_in-clause-none : goal.returns-in_default-quantity_in-clause-none
 returns-in_default-quantity_in-clause-none c = λ fields has read.
@@ -32,7 +32,7 @@ returns-clause-some c = λ fields has.
     read_whole fields _ _ _ _ _
     (sym (c.is_head_read.ensures fields has) ∙ c.if-not-is_head_read.false)
     (sym (c.in-Some.ensures (values_of 11 fields) has.id))
-    (sym (c.in-Some-id_in-2.ensures (values_of 1 fields) has.account))
-    (sym (c.in-Some-id_in-3.ensures (values_of 55 fields) has.symbol))
+    (sym (c.in-Some-id_in.ensures (values_of 1 fields) has.account))
+    (sym (c.in-Some-id_in-2.ensures (values_of 55 fields) has.symbol))
     (sym (c.in-Some-quantity_in.ensures.read (values_of 38 fields) has.quantity))
     (sym (c.in-Some-price_in.ensures.read (values_of 44 fields) has.price))
