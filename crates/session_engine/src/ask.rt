@@ -38,12 +38,7 @@ fn value_with(own: &TreeTotals, order: &Order) -> u128
 }
 
 /// What an order of these rows asks of its trees; nothing where a value is more than a leaf holds.
-fn ask_for(
-    limits: &Limits,
-    rows: &OrderRows,
-    trees: &Vec<TreeTotals>,
-    order: &Order,
-) -> Option<Ask>
+fn ask_for(limits: &Limits, rows: &OrderRows, trees: &Vec<TreeTotals>, order: &Order) -> Option<Ask>
     requires held { IsHeldByFile limits.now }
     requires account { rows.now.account < length limits.now.accounts }
     requires symbol { rows.now.symbol < length limits.now.symbols }
@@ -93,13 +88,7 @@ fn count_posts<H: Hand>(sum: &H, quota: u32, trees: &[u32; 3]) -> [u32; 3]
 }
 
 /// Tells posts in three trees, so many after those made.
-fn tell_posts(
-    acts: &mut Vec<Act>,
-    trees: &[u32; 3],
-    made: &[u32; 3],
-    more: u32,
-    values: &[u64; 3],
-)
+fn tell_posts(acts: &mut Vec<Act>, trees: &[u32; 3], made: &[u32; 3], more: u32, values: &[u64; 3])
     requires room { vec_len acts.old + 3 ≤ vec_capacity acts.old }
     requires firm { slice_index made.now 0 + more < 2 ^ 32 }
     requires account { slice_index made.now 1 + more < 2 ^ 32 }
@@ -187,7 +176,13 @@ fn keep_in(trees: &mut Vec<TreeTotals>, tree: u32, exposure: u128, value: u64)
 }
 
 /// Keeps in its three trees that an order was sent.
-fn keep_sent(trees: &mut Vec<TreeTotals>, limits: &Limits, rows: &OrderRows, ask: &Ask, order: &Order)
+fn keep_sent(
+    trees: &mut Vec<TreeTotals>,
+    limits: &Limits,
+    rows: &OrderRows,
+    ask: &Ask,
+    order: &Order,
+)
     requires held { IsHeldByFile limits.now }
     requires rows { rows_of limits.now (order_value order.now) ≡ Ok rows.now }
     requires ask { ask.now
