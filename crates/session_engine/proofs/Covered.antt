@@ -1,5 +1,5 @@
--- After each frame what a session has admitted in a tree is its last post there, and that is what its
--- orders are worth there.
+-- After each frame what a session has admitted in a tree is its last post there, and that is what
+-- its orders are worth there.
 use Rattle.std.proofs.Common.{◌≡◌, ℕ, ◌+◌, ◌/◌, ◌≤◌, ◌<◌, ◌==◌, List, [], ◌∷◌, ◌++◌, fold, length}
 use Rattle.std.proofs.Common.{refl, ap, sym, ◌∙◌, arith, Bool, true, false, cond, min, subst}
 use Rattle.std.proofs.Common.{length-append}
@@ -104,8 +104,8 @@ posted_from limit tree start (Refused frame code one two ∷ acts) =
 posted_from limit tree start (Noted frame code one two ∷ acts) = posted_from limit tree start acts
 posted_from limit tree start (Ended end ∷ acts) = posted_from limit tree start acts
 
--- What holds after each frame: what is posted in the tree is admitted, and it is what the orders are
--- worth there.
+-- What holds after each frame: what is posted in the tree is admitted, and it is what the orders
+-- are worth there.
 record IsEven (limits : LimitsValue) (limit tree : ℕ) (acts : List Act) (orders : List OrderValue)
     : Type 0 where
   admitted : (standing_of limit tree acts).admitted ≡ last_post tree acts
@@ -463,7 +463,8 @@ module _ (limits : LimitsValue) (limit tree : ℕ) (at : limit_of limits tree �
       (fold read_root (fold post_new session legs) (roots_of limits legs))))
   even_after_read fields order rows session known even None is =
       subst (λ (a : List Act). IsEven limits limit tree a (session.orders ++ order ∷ []))
-      (sym (snocs session.acts (sent_list limits limit tree at rows order known session even _ _ _)))
+      (sym (snocs session.acts
+      (sent_list limits limit tree at rows order known session even _ _ _)))
       (sent_even limits limit tree at rows order known session even _ _ _ is)
   even_after_read fields order rows session known even (Some why) is =
       subst (λ (a : List Act). IsEven limits limit tree a session.orders)
@@ -506,8 +507,8 @@ module _ (limits : LimitsValue) (limit tree : ℕ) (at : limit_of limits tree �
       even_after_frames frames (after_frame limits frame.fields session)
       (even_after_frame frame.fields session even)
 
--- After any frames and reads, in each tree with a limit, what the session's sent orders are worth is
--- admitted, and is its last post.
+-- After any frames and reads, in each tree with a limit, what the session's sent orders are worth
+-- is admitted, and is its last post.
 pub covers_orders : (limits : LimitsValue) (reads : List SeenAt) (frames : List FrameValue)
     → CoversOrders limits (after_frames limits (opening reads) frames)
 covers_orders limits reads frames tree inside = by_limit (limit_of limits tree) refl

@@ -256,7 +256,8 @@ with_rows place limits fields order (Ok rows) session =
     let legs = legs_of limits rows session order in
     let refusal = early_refusal limits session.acts legs in
     let legs_moved = legs_of limits rows (moved place session) order in
-    let refusal_moved : early_refusal limits (map (placed place) session.acts) legs_moved ≡ refusal =
+    let refusal_moved : early_refusal limits (map (placed place) session.acts) legs_moved ≡ refusal
+    =
     ap (early_refusal limits (map (placed place) session.acts))
     (legs_of-moved place limits rows session order)
     ∙ early_refusal-moved place limits session.acts legs in

@@ -1,4 +1,5 @@
--- Among different names a name has one place, and the trees of an order are different trees of sums.
+-- Among different names a name has one place, and the trees of an order are different trees of
+-- sums.
 use Rattle.std.proofs.Common.{◌≡◌, ◌≢◌, ℕ, zero, suc, ◌+◌, ◌<◌, ◌==◌, List, [], ◌∷◌, length, map}
 use Rattle.std.proofs.Common.{refl, sym, ap, ◌∙◌, arith, Bool, true, false, Option, Some, None}
 use Rattle.std.proofs.Common.{cond, inl, inr}
@@ -154,7 +155,8 @@ pub record TreeTests (limits : LimitsValue) (rows : OrderRows) : Type 0 where
   pub halt_above : nat_lt (halt_tree limits) (halt_tree limits) ≡ false
 
 apart : (a b : ℕ) → a < b → ((a == b) ≡ false) × ((b == a) ≡ false)
-apart a b less = (ne_eqb a b (λ e. absurd (omega (arith, e))), ne_eqb b a (λ e. absurd (omega (arith, e))))
+apart a b less =
+    (ne_eqb a b (λ e. absurd (omega (arith, e))), ne_eqb b a (λ e. absurd (omega (arith, e))))
 
 below : (a b : ℕ) → a < b → nat_lt a b ≡ true
 below a b less = grind (arith, nat_tests)

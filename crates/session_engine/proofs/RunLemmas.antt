@@ -63,7 +63,8 @@ pub runs_next : (limits : LimitsValue) (bytes : List ℕ) (place : ℕ) (frame :
     → TakesAny limits bytes frame has has_after acts acts_after trees trees_after totals
     totals_after venue_middle
     venue_after client_middle client_after → CountsGrow trees trees_after totals totals_after
-    → RunsTo limits bytes frame.end has_after acts_after trees_after totals_after venue venue_after client
+    → RunsTo limits bytes frame.end has_after acts_after trees_after totals_after venue venue_after
+    client
     client_after
 runs_next limits bytes place frame fields has has_after acts acts_after trees trees_after totals
     totals_after venue
@@ -114,14 +115,16 @@ pub runs_found : (limits : LimitsValue) (bytes : List ℕ) (place : ℕ) (frame 
     → TakesAny limits bytes frame has has_after acts acts_after trees trees_after totals
     totals_after venue_middle
     venue_after client_middle client_after → CountsGrow trees trees_after totals totals_after
-    → RunsTo limits bytes frame.end has_after acts_after trees_after totals_after venue venue_after client
+    → RunsTo limits bytes frame.end has_after acts_after trees_after totals_after venue venue_after
+    client
     client_after
 runs_found limits bytes place frame has has_after acts acts_after trees trees_after totals
     totals_after venue
     venue_middle venue_after client client_middle client_after within runs finds sound takes grow =
     let there = fields_there finds.0 (sym finds.2 ∙ sound) in
     let P : Option (List FieldValue) → Type 0 = λ fs. StandsAt bytes place frame fs in
-    runs_next limits bytes place frame there.0 has has_after acts acts_after trees trees_after totals
+    runs_next limits bytes place frame there.0 has has_after acts acts_after trees trees_after
+    totals
     totals_after
     venue venue_middle venue_after client client_middle client_after within runs
     (subst P there.1 finds.1) takes grow
@@ -136,7 +139,8 @@ stands_here bytes place from frame known fields here there =
 
 other_is : (limits : LimitsValue) (has : List ℕ → Bool) (acts : List Act)
     (trees : List TreeTotals) (totals : Totals) (session : SessionValue)
-    (fields : Option (List FieldValue)) → StandsFor limits has acts trees totals session → IsOther has fields
+    (fields : Option (List FieldValue)) → StandsFor limits has acts trees totals session → IsOther
+    has fields
     → is_taken session fields ≡ false
 other_is limits has acts trees totals session None stands other = refl
 other_is limits has acts trees totals session (Some fields) stands other =

@@ -155,16 +155,21 @@ is_of_stage limits has acts trees totals fields session stands read new =
 -- a decided and answered order takes the frame
 pub takes_order : (limits : LimitsValue) (fields : List FieldValue) (session : SessionValue)
     (refusal : Option Refusal) (has has_after : List ℕ → Bool) (acts acts_after : List Act)
-    (trees trees_after : List TreeTotals) (totals totals_after : Totals) (venue venue_after client client_after_ : Option (List ℕ))
+    (trees trees_after : List TreeTotals) (totals totals_after : Totals) (venue venue_after client
+    client_after_ : Option (List ℕ))
     → StandsFor limits has acts trees totals session → LastsFit acts trees → IsRead fields
     → has (value_of 11 fields) ≡ false
-    → Decides limits (order_of fields) has has_after acts acts_after trees trees_after totals totals_after refusal
+    → Decides limits (order_of fields) has has_after acts acts_after trees trees_after totals
+    totals_after refusal
     → IsAnswered fields totals_after refusal venue venue_after client client_after_
-    → (next : SessionValue) × Takes limits fields session next has_after acts_after trees_after totals_after
+    → (next : SessionValue) × Takes limits fields session next has_after acts_after trees_after
+    totals_after
     venue venue_after client client_after_
-takes_order limits fields session None has has_after acts acts_after trees trees_after totals totals_after venue
+takes_order limits fields session None has has_after acts acts_after trees trees_after totals
+    totals_after venue
     venue_after client client_after_ stands fit read new decides answered =
-    let goes = decided limits fields session None has has_after acts acts_after trees trees_after totals totals_after
+    let goes = decided limits fields session None has has_after acts acts_after trees trees_after
+    totals totals_after
     stands fit decides in
     let message = forward_of fields session in
     let number : totals_after.sent ≡ length session.venue + 1 =
@@ -183,9 +188,11 @@ takes_order limits fields session None has has_after acts acts_after trees trees
         client_is = sym (append-nil (concat session.client));
       },
     )
-takes_order limits fields session (Some refusal) has has_after acts acts_after trees trees_after totals totals_after
+takes_order limits fields session (Some refusal) has has_after acts acts_after trees trees_after
+    totals totals_after
     venue venue_after client client_after_ stands fit read new decides answered =
-    let goes = decided limits fields session (Some refusal) has has_after acts acts_after trees trees_after totals
+    let goes = decided limits fields session (Some refusal) has has_after acts acts_after trees
+    trees_after totals
     totals_after stands fit decides in
     let message = refusal_of fields refusal session in
     let number : totals_after.refused ≡ length session.client + 1 =
@@ -213,18 +220,24 @@ takes_order limits fields session (Some refusal) has has_after acts acts_after t
 pub takes_read : (limits : LimitsValue) (fields : List FieldValue) (session : SessionValue)
     (order : OrderValue) (refusal : Option Refusal) (has has_after : List ℕ → Bool)
     (acts acts_after : List Act)
-    (trees trees_after : List TreeTotals) (totals totals_after : Totals) (venue venue_after client client_after_ : Option (List ℕ))
+    (trees trees_after : List TreeTotals) (totals totals_after : Totals) (venue venue_after client
+    client_after_ : Option (List ℕ))
     → StandsFor limits has acts trees totals session → LastsFit acts trees → IsRead fields
     × (order ≡ order_of fields) → has order.id ≡ false
-    → Decides limits order has has_after acts acts_after trees trees_after totals totals_after refusal
+    → Decides limits order has has_after acts acts_after trees trees_after totals totals_after
+    refusal
     → IsAnswered fields totals_after refusal venue venue_after client client_after_
-    → (next : SessionValue) × Takes limits fields session next has_after acts_after trees_after totals_after
+    → (next : SessionValue) × Takes limits fields session next has_after acts_after trees_after
+    totals_after
     venue venue_after client client_after_
-takes_read limits fields session order refusal has has_after acts acts_after trees trees_after totals totals_after
+takes_read limits fields session order refusal has has_after acts acts_after trees trees_after
+    totals totals_after
     venue venue_after client client_after_ stands fit read new decides answered =
     let P : OrderValue → Type 0 =
-    λ o. Decides limits o has has_after acts acts_after trees trees_after totals totals_after refusal in
-    takes_order limits fields session refusal has has_after acts acts_after trees trees_after totals totals_after
+    λ o. Decides limits o has has_after acts acts_after trees trees_after totals totals_after
+    refusal in
+    takes_order limits fields session refusal has has_after acts acts_after trees trees_after
+    totals totals_after
     venue venue_after client client_after_ stands fit read.0
     (ap (λ o. has o.id) (sym read.1) ∙ new) (subst P read.1 decides) answered
 

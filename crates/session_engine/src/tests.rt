@@ -1,5 +1,5 @@
-//! One session over plain boards and ports in memory, with ample memory: how it ends where a port fails,
-//! and each refusal once, with its acts and its message.
+//! One session over plain boards and ports in memory, with ample memory: how it ends where a port
+//! fails, and each refusal once, with its acts and its message.
 ghost use Rattle.std.specs.Prelude.{◌≡◌, ◌≤◌, length, IfOk};
 ghost use Rattle.limit_table.specs.Files.{IsHeldByFile};
 
@@ -52,8 +52,8 @@ const HUGE: &[u8] =
 const FORWARD: &[u8] =
     b"8=FIX.4.4\x019=116\x0135=D\x0149=GATE\x0156=VENUE\x0134=1\x0152=20240102-10:00:00\x0111=a1\x011=ACC\x0155=XYZ\x0154=1\x0138=100\x0140=2\x0144=10.0000\x0160=20240102-10:00:00\x0110=193\x01";
 
-/// What a session over these limits and this input does. The read and the write of these numbers fail,
-/// from 0.
+/// What a session over these limits and this input does. The read and the write of these numbers
+/// fail, from 0.
 #[derive(Clone, Copy)]
 struct Row {
     name: &'static str,

@@ -32,8 +32,10 @@ pub returns : goal.returns
 returns c =
     let are = known_rows c.args.limits.now (order_value c.args.order.now) c.args.rows.now
     c.requires.rows in
-    kept_sent c.args.limits.now c.args.rows.now (order_value c.args.order.now) c.args.trees.now.items are
-    c.requires.count c.exposure_of-exposure.result c.keep_in.new.trees.items c.keep_in-2.new.trees.items
+    kept_sent c.args.limits.now c.args.rows.now (order_value c.args.order.now)
+    c.args.trees.now.items are
+    c.requires.count c.exposure_of-exposure.result c.keep_in.new.trees.items
+    c.keep_in-2.new.trees.items
     c.keep_in-3.new.trees.items c.requires.rows c.exposure_of-exposure.ensures.exposure
     (c.keep_in.ensures ∙ ap (kept_at 0 c.args.trees.now.items c.exposure_of-exposure.result)
     c.requires.ask)
