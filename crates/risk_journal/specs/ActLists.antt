@@ -1,5 +1,6 @@
 -- What the acts of a session are: its posts and reads by tree, its calls, and its reads' places.
 use Rattle.std.specs.Prelude.{ℕ, ◌==◌, List, [], ◌∷◌, fold, count_by, if◌then◌else◌, Bool, false}
+use Rattle.std.specs.Prelude.{nat_lt}
 use Rattle.risk_board.specs.History.{Event}
 use Rattle.risk_board.specs.History.Event.{Posted, Saw}
 use Rattle.risk_board.specs.declared.hand.Call.{Call}
@@ -63,6 +64,32 @@ calls_of (Sent frame ∷ acts) = calls_of acts
 calls_of (Refused frame code first second ∷ acts) = calls_of acts
 calls_of (Noted frame code first second ∷ acts) = calls_of acts
 calls_of (Ended end ∷ acts) = calls_of acts
+
+-- the calls of a session in the trees below a number, in order
+abbrev pub calls_below : ℕ → List Act → List Call
+calls_below count [] = []
+calls_below count (Post tree index value ∷ acts) =
+    if nat_lt tree count then call.Post tree value ∷ calls_below count acts
+    else calls_below count acts
+calls_below count (Read tree stamp place value ∷ acts) =
+    if nat_lt tree count then call.Read tree stamp value ∷ calls_below count acts
+    else calls_below count acts
+calls_below count (Sent frame ∷ acts) = calls_below count acts
+calls_below count (Refused frame code first second ∷ acts) = calls_below count acts
+calls_below count (Noted frame code first second ∷ acts) = calls_below count acts
+calls_below count (Ended end ∷ acts) = calls_below count acts
+
+-- the calls of a session in one tree, as calls on a hand of that tree alone, in order
+abbrev pub calls_at : ℕ → List Act → List Call
+calls_at tree [] = []
+calls_at tree (Post in_tree index value ∷ acts) =
+    if in_tree == tree then call.Post 0 value ∷ calls_at tree acts else calls_at tree acts
+calls_at tree (Read in_tree stamp place value ∷ acts) =
+    if in_tree == tree then call.Read 0 stamp value ∷ calls_at tree acts else calls_at tree acts
+calls_at tree (Sent frame ∷ acts) = calls_at tree acts
+calls_at tree (Refused frame code first second ∷ acts) = calls_at tree acts
+calls_at tree (Noted frame code first second ∷ acts) = calls_at tree acts
+calls_at tree (Ended end ∷ acts) = calls_at tree acts
 
 -- an act with the place of a read by its stamp
 abbrev pub placed : (ℕ → ℕ) → Act → Act

@@ -1,35 +1,59 @@
--- A hand and the acts that tell of it stay in step at a post and at a read.
-use Rattle.std.proofs.Common.{◌≡◌, ℕ, ◌+◌, ◌≤◌, ◌==◌, List, [], ◌∷◌, ◌++◌, refl, sym, ap, ◌∙◌}
+-- The calls, the posts and the last posts of acts one after another, and of the hands that made
+-- them.
+use Rattle.std.proofs.Common.{◌≡◌, ℕ, ◌+◌, ◌≤◌, ◌<◌, ◌==◌, List, [], ◌∷◌, ◌++◌, refl, sym, ap, ◌∙◌}
 use Rattle.std.proofs.Common.{arith, true, false, Bool, cond}
-use Rattle.std.specs.Prelude.{count_by, fold, None, nat_lt, ◌<◌}
-use Rattle.std.proofs.lemmas.List.{append-nil}
+use Rattle.std.specs.Prelude.{count_by, fold, nat_lt}
 use Rattle.std.proofs.lemmas.List.Sums.{fold-append, sum_by-append}
-use Rattle.fold_law.specs.declared.limits.TheConstants.{LEAF}
+use Rattle.std.proofs.lemmas.Bool.{eq-eqb}
+use Rattle.std.proofs.lemmas.List.{append-nil}
+use Rattle.risk_board.specs.Hands.{HandValue}
+use Rattle.session_engine.specs.declared.totals.TreeTotals.{TreeTotals}
+use Rattle.session_engine.specs.Stands.{InStep}
+use Rattle.session_engine.specs.Trees.{LimitsValue, halt_tree}
+use Rattle.std.proofs.lemmas.Bool.Decides.{nat_tests}
 use Rattle.risk_board.specs.Calls.{post_count, is_post_in}
-use Rattle.risk_board.specs.Hands.{HandValue, with_call}
+use Rattle.risk_board.specs.declared.hand.Call.{Call}
 use Rattle.risk_board.specs.declared.hand.Call.TheVariants as call
+use Rattle.admit_core.specs.Asks.{last_post as last_call, latest as latest_call}
 use Rattle.risk_journal.specs.declared.acts.Act.{Act}
 use Rattle.risk_journal.specs.declared.acts.Act.TheVariants.{Post, Read, Sent, Refused, Noted}
 use Rattle.risk_journal.specs.declared.acts.Act.TheVariants.{Ended}
-use Rattle.session_engine.specs.declared.totals.Totals.{Totals}
 use Rattle.risk_journal.specs.ActLists.{posts_in, last_post, latest, is_post_act_in}
-use Rattle.risk_journal.specs.ActLists.{calls_of}
-use Rattle.std.proofs.lemmas.Bool.Decides.{nat_tests}
-use Rattle.session_engine.specs.Session.{LimitsValue, OrderValue}
-use Rattle.risk_journal.specs.ActLists.{SeenAt}
-use Rattle.session_engine.specs.Stands.{InStep, posted_totals, post_act, asked_acts, new_value}
-use Rattle.session_engine.specs.Stands.{early_by_totals, sent_totals, refused_totals}
+use Rattle.risk_journal.specs.ActLists.{calls_below, calls_at}
 
-pub calls_of-append : (xs ys : List Act) → calls_of (xs ++ ys) ≡ calls_of xs ++ calls_of ys
-calls_of-append [] ys = refl
-calls_of-append (Post tree index value ∷ xs) ys = ap (λ cs. call.Post tree value ∷ cs)
-    (calls_of-append xs ys)
-calls_of-append (Read tree stamp place value ∷ xs) ys = ap (λ cs. call.Read tree stamp value ∷ cs)
-    (calls_of-append xs ys)
-calls_of-append (Sent frame ∷ xs) ys = calls_of-append xs ys
-calls_of-append (Refused frame code first second ∷ xs) ys = calls_of-append xs ys
-calls_of-append (Noted frame code first second ∷ xs) ys = calls_of-append xs ys
-calls_of-append (Ended end ∷ xs) ys = calls_of-append xs ys
+-- a call that is there or isn't, in front of others
+call_in_front : (here : Bool) (one : Call) (first both later : List Call)
+    → both ≡ first ++ later → cond here (one ∷ both) both ≡ cond here (one ∷ first) first ++ later
+call_in_front true one first both later is = ap (λ s. one ∷ s) is
+call_in_front false one first both later is = is
+
+pub calls_below-append : (count : ℕ) (xs ys : List Act)
+    → calls_below count (xs ++ ys) ≡ calls_below count xs ++ calls_below count ys
+calls_below-append count [] ys = refl
+calls_below-append count (Post tree index value ∷ xs) ys =
+    call_in_front (nat_lt tree count) (call.Post tree value) (calls_below count xs)
+    (calls_below count (xs ++ ys)) (calls_below count ys) (calls_below-append count xs ys)
+calls_below-append count (Read tree stamp place value ∷ xs) ys =
+    call_in_front (nat_lt tree count) (call.Read tree stamp value) (calls_below count xs)
+    (calls_below count (xs ++ ys)) (calls_below count ys) (calls_below-append count xs ys)
+calls_below-append count (Sent frame ∷ xs) ys = calls_below-append count xs ys
+calls_below-append count (Refused frame code first second ∷ xs) ys = calls_below-append count xs ys
+calls_below-append count (Noted frame code first second ∷ xs) ys = calls_below-append count xs ys
+calls_below-append count (Ended end ∷ xs) ys = calls_below-append count xs ys
+
+pub calls_at-append : (tree : ℕ) (xs ys : List Act)
+    → calls_at tree (xs ++ ys) ≡ calls_at tree xs ++ calls_at tree ys
+calls_at-append tree [] ys = refl
+calls_at-append tree (Post in_tree index value ∷ xs) ys =
+    call_in_front (in_tree == tree) (call.Post 0 value) (calls_at tree xs)
+    (calls_at tree (xs ++ ys)) (calls_at tree ys) (calls_at-append tree xs ys)
+calls_at-append tree (Read in_tree stamp place value ∷ xs) ys =
+    call_in_front (in_tree == tree) (call.Read 0 stamp value) (calls_at tree xs)
+    (calls_at tree (xs ++ ys)) (calls_at tree ys) (calls_at-append tree xs ys)
+calls_at-append tree (Sent frame ∷ xs) ys = calls_at-append tree xs ys
+calls_at-append tree (Refused frame code first second ∷ xs) ys = calls_at-append tree xs ys
+calls_at-append tree (Noted frame code first second ∷ xs) ys = calls_at-append tree xs ys
+calls_at-append tree (Ended end ∷ xs) ys = calls_at-append tree xs ys
 
 pub count_by-append : {X : Type 0} (p : X → Bool) (xs ys : List X)
     → count_by p (xs ++ ys) ≡ count_by p xs + count_by p ys
@@ -44,27 +68,6 @@ count_by-skips : (tree : ℕ) (act : Act) (xs : List Act) → is_post_act_in tre
 count_by-skips tree act xs skipped = count_by-cons (is_post_act_in tree) act xs
     ∙ rw skipped (omega arith)
 
--- the posts of the calls are those of the acts
-pub post_count-calls_of : (tree : ℕ) (acts : List Act)
-    → post_count tree (calls_of acts) ≡ posts_in tree acts
-post_count-calls_of tree [] = refl
-post_count-calls_of tree (Post t index value ∷ xs) =
-    count_by-cons (is_post_in tree) (call.Post t value) (calls_of xs)
-    ∙ ap (λ n. cond (t == tree) 1 0 + n) (post_count-calls_of tree xs)
-    ∙ sym (count_by-cons (is_post_act_in tree) (Post t index value) xs)
-post_count-calls_of tree (Read t stamp place value ∷ xs) =
-    count_by-cons (is_post_in tree) (call.Read t stamp value) (calls_of xs)
-    ∙ ap (λ n. 0 + n) (post_count-calls_of tree xs)
-    ∙ sym (count_by-cons (is_post_act_in tree) (Read t stamp place value) xs)
-post_count-calls_of tree (Sent frame ∷ xs) = post_count-calls_of tree xs
-    ∙ sym (count_by-skips tree (Sent frame) xs refl)
-post_count-calls_of tree (Refused frame code first second ∷ xs) = post_count-calls_of tree xs
-    ∙ sym (count_by-skips tree (Refused frame code first second) xs refl)
-post_count-calls_of tree (Noted frame code first second ∷ xs) = post_count-calls_of tree xs
-    ∙ sym (count_by-skips tree (Noted frame code first second) xs refl)
-post_count-calls_of tree (Ended end ∷ xs) = post_count-calls_of tree xs
-    ∙ sym (count_by-skips tree (Ended end) xs refl)
-
 pub posts_in-append : (tree : ℕ) (xs ys : List Act)
     → posts_in tree (xs ++ ys) ≡ posts_in tree xs + posts_in tree ys
 posts_in-append tree xs ys = count_by-append (is_post_act_in tree) xs ys
@@ -73,77 +76,108 @@ pub last_post-append : (tree : ℕ) (xs ys : List Act) → last_post tree (xs ++
     (latest tree) (last_post tree xs) ys
 last_post-append tree xs ys = fold-append (latest tree) 0 xs ys
 
--- a post and its act
-pub in_step_after_post : (hand : HandValue) (acts : List Act) (totals : Totals) (index value : ℕ)
-    → InStep hand acts totals → value ≤ LEAF
-    → InStep (with_call (call.Post 0 value) hand) (acts ++ Post 0 index value ∷ [])
-    (posted_totals value totals)
-in_step_after_post hand acts totals index value step capped = record {
-  trees = step.trees;
-  cap = step.cap;
-  calls = ap (λ cs. cs ++ call.Post 0 value ∷ []) step.calls
-      ∙ sym (calls_of-append acts (Post 0 index value ∷ []));
-  posts = ap (λ n. n + 1) step.posts ∙ sym (posts_in-append 0 acts (Post 0 index value ∷ []));
-  last = sym (last_post-append 0 acts (Post 0 index value ∷ []));
-  capped = capped;
-}
+-- a tree that isn't below a number isn't one that is
+above_is_other : (in_tree tree count : ℕ) → tree < count → nat_lt in_tree count ≡ false
+    → (in_tree == tree) ≡ false
+above_is_other in_tree tree count inside outside = grind (arith, nat_tests)
 
--- a read and its act
-pub in_step_after_read : (hand : HandValue) (acts : List Act) (totals : Totals)
-    (stamp place value : ℕ) → InStep hand acts totals
-    → InStep (with_call (call.Read 0 stamp value) hand) (acts ++ Read 0 stamp place value ∷ [])
-    totals
-in_step_after_read hand acts totals stamp place value step = record {
-  trees = step.trees;
-  cap = step.cap;
-  calls = ap (λ cs. cs ++ call.Read 0 stamp value ∷ []) step.calls
-      ∙ sym (calls_of-append acts (Read 0 stamp place value ∷ []));
-  posts = step.posts ∙ omega (arith, posts_in-append 0 acts (Read 0 stamp place value ∷ []));
-  last = step.last ∙ sym (last_post-append 0 acts (Read 0 stamp place value ∷ []));
-  capped = step.capped;
-}
+-- the posts of the calls in a tree below are those of the acts
+pub post_count-below : (count tree : ℕ) → tree < count → (acts : List Act)
+    → post_count tree (calls_below count acts) ≡ posts_in tree acts
+post_count-below count tree inside [] = refl
+post_count-below count tree inside (Post t index value ∷ xs) =
+    by_test (nat_lt t count) refl (post_count-below count tree inside xs)
+  where
+    by_test : (test : Bool) → nat_lt t count ≡ test
+        → post_count tree (calls_below count xs) ≡ posts_in tree xs
+        → post_count tree (cond test (call.Post t value ∷ calls_below count xs)
+        (calls_below count xs)) ≡ posts_in tree (Post t index value ∷ xs)
+    by_test true is later =
+        count_by-cons (is_post_in tree) (call.Post t value) (calls_below count xs)
+        ∙ ap (λ n. cond (t == tree) 1 0 + n) later
+        ∙ sym (count_by-cons (is_post_act_in tree) (Post t index value) xs)
+    by_test false is later =
+        later
+        ∙ sym (count_by-skips tree (Post t index value) xs
+        (above_is_other t tree count inside is))
+post_count-below count tree inside (Read t stamp place value ∷ xs) =
+    by_test (nat_lt t count) (post_count-below count tree inside xs)
+  where
+    by_test : (test : Bool) → post_count tree (calls_below count xs) ≡ posts_in tree xs
+        → post_count tree (cond test (call.Read t stamp value ∷ calls_below count xs)
+        (calls_below count xs)) ≡ posts_in tree (Read t stamp place value ∷ xs)
+    by_test true later =
+        count_by-cons (is_post_in tree) (call.Read t stamp value) (calls_below count xs)
+        ∙ ap (λ n. 0 + n) later
+        ∙ sym (count_by-cons (is_post_act_in tree) (Read t stamp place value) xs)
+    by_test false later =
+        later
+        ∙ sym (count_by-skips tree (Read t stamp place value) xs refl)
+post_count-below count tree inside (Sent frame ∷ xs) = post_count-below count tree inside xs
+    ∙ sym (count_by-skips tree (Sent frame) xs refl)
+post_count-below count tree inside (Refused frame code first second ∷ xs) =
+    post_count-below count tree inside xs
+    ∙ sym (count_by-skips tree (Refused frame code first second) xs refl)
+post_count-below count tree inside (Noted frame code first second ∷ xs) =
+    post_count-below count tree inside xs
+    ∙ sym (count_by-skips tree (Noted frame code first second) xs refl)
+post_count-below count tree inside (Ended end ∷ xs) = post_count-below count tree inside xs
+    ∙ sym (count_by-skips tree (Ended end) xs refl)
 
--- an act that is no call
-pub in_step_after_sent : (hand : HandValue) (acts : List Act) (totals : Totals) (frame : ℕ)
-    (order : OrderValue) → InStep hand acts totals
-    → InStep hand (acts ++ Sent frame ∷ []) (sent_totals order totals)
-in_step_after_sent hand acts totals frame order step = record {
-  trees = step.trees;
-  cap = step.cap;
-  calls = step.calls ∙ sym (append-nil (calls_of acts))
-      ∙ sym (calls_of-append acts (Sent frame ∷ []));
-  posts = step.posts ∙ omega (arith, posts_in-append 0 acts (Sent frame ∷ []));
-  last = step.last ∙ sym (last_post-append 0 acts (Sent frame ∷ []));
-  capped = step.capped;
-}
+-- the last post of the calls in a tree below is that of the acts
+last_from : (count tree : ℕ) → tree < count → (start : ℕ) (acts : List Act)
+    → fold (latest_call tree) start (calls_below count acts) ≡ fold (latest tree) start acts
+last_from count tree inside start [] = refl
+last_from count tree inside start (Post t index value ∷ xs) =
+    by_test (nat_lt t count) refl (λ from. last_from count tree inside from xs)
+  where
+    by_test : (test : Bool) → nat_lt t count ≡ test
+        → ((from : ℕ) → fold (latest_call tree) from (calls_below count xs)
+        ≡ fold (latest tree) from xs)
+        → fold (latest_call tree) start (cond test (call.Post t value ∷ calls_below count xs)
+        (calls_below count xs)) ≡ fold (latest tree) (cond (t == tree) value start) xs
+    by_test true is later = later (cond (t == tree) value start)
+    by_test false is later =
+        later start
+        ∙ ap (λ b. fold (latest tree) (cond b value start) xs)
+        (sym (above_is_other t tree count inside is))
+last_from count tree inside start (Read t stamp place value ∷ xs) =
+    by_test (nat_lt t count) (last_from count tree inside start xs)
+  where
+    by_test : (test : Bool)
+        → fold (latest_call tree) start (calls_below count xs) ≡ fold (latest tree) start xs
+        → fold (latest_call tree) start (cond test (call.Read t stamp value ∷ calls_below count xs)
+        (calls_below count xs)) ≡ fold (latest tree) start xs
+    by_test true later = later
+    by_test false later = later
+last_from count tree inside start (Sent frame ∷ xs) = last_from count tree inside start xs
+last_from count tree inside start (Refused frame code first second ∷ xs) =
+    last_from count tree inside start xs
+last_from count tree inside start (Noted frame code first second ∷ xs) =
+    last_from count tree inside start xs
+last_from count tree inside start (Ended end ∷ xs) = last_from count tree inside start xs
 
-pub in_step_after_refused : (hand : HandValue) (acts : List Act) (totals : Totals)
-    (frame code first second : ℕ) → InStep hand acts totals
-    → InStep hand (acts ++ Refused frame code first second ∷ []) (refused_totals totals)
-in_step_after_refused hand acts totals frame code first second step = record {
-  trees = step.trees;
-  cap = step.cap;
-  calls = step.calls ∙ sym (append-nil (calls_of acts))
-      ∙ sym (calls_of-append acts (Refused frame code first second ∷ []));
-  posts = step.posts ∙ omega (arith, posts_in-append 0 acts (Refused frame code first second ∷ []));
-  last = step.last ∙ sym (last_post-append 0 acts (Refused frame code first second ∷ []));
-  capped = step.capped;
-}
+pub last_post-below : (count tree : ℕ) → tree < count → (acts : List Act)
+    → last_call tree (calls_below count acts) ≡ last_post tree acts
+last_post-below count tree inside acts = last_from count tree inside 0 acts
 
--- fewer calls than posts are posts of the hand
-pub post_count_in_step : (hand : HandValue) (acts : List Act) (totals : Totals)
-    → InStep hand acts totals → post_count 0 hand.calls ≡ totals.posts
-post_count_in_step hand acts totals step = ap (post_count 0) step.calls ∙ post_count-calls_of 0 acts
-    ∙ sym step.posts
+-- how many posts stand in a tree after one more act
+pub posts_in-own : (tree index value : ℕ) (acts : List Act)
+    → posts_in tree (acts ++ Post tree index value ∷ []) ≡ posts_in tree acts + 1
+posts_in-own tree index value acts =
+    posts_in-append tree acts (Post tree index value ∷ [])
+    ∙ ap (λ b. posts_in tree acts + (0 + cond b 1 0)) (eq-eqb tree tree refl)
 
--- no refusal before any post
-pub early-none : (limits : LimitsValue) (totals : Totals) (order : OrderValue)
-    → new_value totals order ≤ LEAF → totals.posts + 2 ≤ limits.quota
-    → early_by_totals limits totals order ≡ None
-early-none limits totals order capped left =
-    let first : nat_lt LEAF (new_value totals order) ≡ false = grind (arith, nat_tests) in
-    let second : nat_lt limits.quota (totals.posts + 2) ≡ false = grind (arith, nat_tests) in
-    rw (first, second) refl
+pub posts_in-other : (tree other index value : ℕ) (acts : List Act) → (other == tree) ≡ false
+    → posts_in tree (acts ++ Post other index value ∷ []) ≡ posts_in tree acts
+posts_in-other tree other index value acts apart =
+    posts_in-append tree acts (Post other index value ∷ [])
+    ∙ ap (λ b. posts_in tree acts + (0 + cond b 1 0)) apart ∙ omega arith
+
+pub posts_in-read : (tree other stamp place value : ℕ) (acts : List Act)
+    → posts_in tree (acts ++ Read other stamp place value ∷ []) ≡ posts_in tree acts
+posts_in-read tree other stamp place value acts =
+    posts_in-append tree acts (Read other stamp place value ∷ []) ∙ omega arith
 
 pub lt_false_from_le : (a b : ℕ) → a ≤ b → nat_lt b a ≡ false
 lt_false_from_le a b h = grind (arith, nat_tests)
@@ -151,22 +185,33 @@ lt_false_from_le a b h = grind (arith, nat_tests)
 pub lt_true : (a b : ℕ) → a < b → nat_lt a b ≡ true
 lt_true a b h = grind (arith, nat_tests)
 
--- the acts of a post, a read and a post of the value before
-pub late_acts : (order : OrderValue) (seen : SeenAt) (totals first : Totals) (value : ℕ)
-    (acts posted read last : List Act)
-    → value ≡ new_value totals order → first ≡ posted_totals value totals
-    → posted ≡ acts ++ post_act value totals ∷ []
-    → read ≡ posted ++ Read 0 seen.stamp seen.place seen.value ∷ []
-    → last ≡ read ++ post_act totals.last first ∷ []
-    → last ≡ asked_acts totals order seen acts ++ post_act totals.last
-    (posted_totals (new_value totals order) totals) ∷ []
-late_acts order seen totals first value acts posted read last value_is first_is posted_is read_is
-    last_is =
-    last_is ∙ rw (read_is, posted_is, first_is, value_is) refl
+-- acts that are no calls
+module _ (limits : LimitsValue) (sum halt : HandValue) (acts : List Act)
+    (trees : List TreeTotals) where
+  after_note : (note : Act) → calls_below (halt_tree limits) (note ∷ []) ≡ []
+      → calls_at (halt_tree limits) (note ∷ []) ≡ []
+      → ((tree start : ℕ) → latest tree start note ≡ start)
+      → InStep limits sum halt acts trees → InStep limits sum halt (acts ++ note ∷ []) trees
+  after_note note below at kept step = record {
+    sum_hand = step.sum_hand;
+    halt_hand = step.halt_hand;
+    sum_calls = step.sum_calls ∙ sym (append-nil (calls_below (halt_tree limits) acts))
+        ∙ ap (λ calls. calls_below (halt_tree limits) acts ++ calls) (sym below)
+        ∙ sym (calls_below-append (halt_tree limits) acts (note ∷ []));
+    halt_calls = step.halt_calls ∙ sym (append-nil (calls_at (halt_tree limits) acts))
+        ∙ ap (λ calls. calls_at (halt_tree limits) acts ++ calls) (sym at)
+        ∙ sym (calls_at-append (halt_tree limits) acts (note ∷ []));
+    count = step.count;
+    lasts = λ tree. step.lasts tree ∙ sym (kept tree (last_post tree acts))
+        ∙ sym (last_post-append tree acts (note ∷ []));
+    capped = step.capped;
+  }
 
-pub late_totals : (order : OrderValue) (totals first second : Totals) (value : ℕ)
-    → value ≡ new_value totals order → first ≡ posted_totals value totals
-    → second ≡ posted_totals totals.last first
-    → second ≡ posted_totals totals.last (posted_totals (new_value totals order) totals)
-late_totals order totals first second value value_is first_is second_is = second_is
-    ∙ rw first_is refl
+  pub in_step_after_sent : (frame : ℕ) → InStep limits sum halt acts trees
+      → InStep limits sum halt (acts ++ Sent frame ∷ []) trees
+  in_step_after_sent frame step = after_note (Sent frame) refl refl (λ tree start. refl) step
+
+  pub in_step_after_refused : (frame code : ℕ) → InStep limits sum halt acts trees
+      → InStep limits sum halt (acts ++ Refused frame code 0 0 ∷ []) trees
+  in_step_after_refused frame code step =
+      after_note (Refused frame code 0 0) refl refl (λ tree start. refl) step

@@ -188,6 +188,16 @@ pub id_is_read : (fields : List FieldValue) → IsRead fields
 id_is_read fields read none = taken_is_read Identifier id_of (only_of 11 fields)
     (λ value. refl) read.id none
 
+pub account_is_read : (fields : List FieldValue) → IsRead fields
+    → option_and_then (λ value. result_ok (id_of value)) (only_of 1 fields) ≡ None → ⊥
+account_is_read fields read none = taken_is_read Identifier id_of (only_of 1 fields)
+    (λ value. refl) read.account none
+
+pub symbol_is_read : (fields : List FieldValue) → IsRead fields
+    → option_and_then (λ value. result_ok (id_of value)) (only_of 55 fields) ≡ None → ⊥
+symbol_is_read fields read none = taken_is_read Identifier id_of (only_of 55 fields)
+    (λ value. refl) read.symbol none
+
 pub quantity_is_read : (fields : List FieldValue) → IsRead fields
     → option_and_then (λ value. result_ok (quantity_of value)) (only_of 38 fields) ≡ None → ⊥
 quantity_is_read fields read none = taken_is_read Quantity quantity_of (only_of 38 fields)
@@ -202,26 +212,41 @@ pub head_is_read : (fields : List FieldValue) → IsRead fields → is_head_read
 head_is_read fields read =
     and_true _ _ (and_true _ _
     (and_true _ _ (and_true _ _
-    (and_true _ _ (and_true _ _
     (and_true _ _ (and_true _ _ read.number read.sender) read.target) read.time)
-    read.kind) read.account) read.symbol) read.side) read.order_type
+    read.kind) read.side) read.order_type
+
+-- the text that was read as an id
+id_text : (tag : ℕ) (fields : List FieldValue) (id : List ℕ)
+    → option_and_then (λ value. result_ok (id_of value)) (only_of tag fields) ≡ Some id
+    → (is_taken_by Identifier (only_of tag fields) ≡ true) × (id ≡ value_of tag fields)
+id_text tag fields id read =
+    let i = read_takes Identifier id_of (only_of tag fields) id (λ value. refl) read in
+    (i.3, id_is_text i.0 id i.2 ∙ sym (value_from_only tag fields i.0 i.1))
 
 -- the order that was read is that of the fields
-pub read_whole : (fields : List FieldValue) (id : List ℕ) (quantity price : ℕ)
+pub read_whole : (fields : List FieldValue) (id account symbol : List ℕ) (quantity price : ℕ)
     → is_head_read fields ≡ true
     → option_and_then (λ value. result_ok (id_of value)) (only_of 11 fields) ≡ Some id
+    → option_and_then (λ value. result_ok (id_of value)) (only_of 1 fields) ≡ Some account
+    → option_and_then (λ value. result_ok (id_of value)) (only_of 55 fields) ≡ Some symbol
     → option_and_then (λ value. result_ok (quantity_of value)) (only_of 38 fields) ≡ Some quantity
     → option_and_then (λ value. result_ok (price_of value)) (only_of 44 fields) ≡ Some price
-    → IsRead fields × ((let order : OrderValue =
-    record { id = id; quantity = quantity; price = price } in order) ≡ order_of fields)
-read_whole fields id quantity price head id_read quantity_read price_read =
-    let i = read_takes Identifier id_of (only_of 11 fields) id (λ value. refl) id_read in
+    → IsRead fields × ((let order : OrderValue = record {
+      id = id;
+      account = account;
+      symbol = symbol;
+      quantity = quantity;
+      price = price;
+    } in order) ≡ order_of fields)
+read_whole fields id account symbol quantity price head id_read account_read symbol_read
+    quantity_read price_read =
+    let i = id_text 11 fields id id_read in
+    let a = id_text 1 fields account account_read in
+    let s = id_text 55 fields symbol symbol_read in
     let q = read_takes Quantity quantity_of (only_of 38 fields) quantity
     (λ value. refl) quantity_read in
     let p = read_takes Price price_of (only_of 44 fields) price (λ value. refl) price_read in
-    let h8 = both _ _ head in
-    let h7 = both _ _ h8.0 in
-    let h6 = both _ _ h7.0 in
+    let h6 = both _ _ head in
     let h5 = both _ _ h6.0 in
     let h4 = both _ _ h5.0 in
     let h3 = both _ _ h4.0 in
@@ -233,27 +258,40 @@ read_whole fields id quantity price head id_read quantity_read price_read =
         target = h2.1;
         time = h3.1;
         kind = h4.1;
-        id = i.3;
-        account = h5.1;
-        symbol = h6.1;
-        side = h7.1;
+        id = i.0;
+        account = a.0;
+        symbol = s.0;
+        side = h5.1;
         quantity = q.3;
-        order_type = h8.1;
+        order_type = h6.1;
         price = p.3;
       },
-      order_same id (value_of 11 fields) quantity _ price _
-          (id_is_text i.0 id i.2 ∙ sym (value_from_only 11 fields i.0 i.1))
+      order_same id (value_of 11 fields) account (value_of 1 fields) symbol (value_of 55 fields)
+          quantity _ price _ i.1 a.1 s.1
           (sym (ap (λ v. result_unwrap_or (quantity_of v) 0) (value_from_only 38 fields q.0 q.1)
           ∙ ap (λ r. result_unwrap_or r 0) q.2))
           (sym (ap (λ v. result_unwrap_or (price_of v) 0) (value_from_only 44 fields p.0 p.1)
           ∙ ap (λ r. result_unwrap_or r 0) p.2)),
     )
   where
-    order_same : (id other : List ℕ) (quantity q price p : ℕ) → id ≡ other → quantity ≡ q
-        → price ≡ p
-        → (let order : OrderValue = record { id = id; quantity = quantity; price = price } in order)
-        ≡ (let order : OrderValue = record { id = other; quantity = q; price = p } in order)
-    order_same id other quantity q price p a b d = rw (a, b, d) refl
+    order_same : (id i account a symbol s : List ℕ) (quantity q price p : ℕ) → id ≡ i
+        → account ≡ a → symbol ≡ s → quantity ≡ q → price ≡ p
+        → (let order : OrderValue = record {
+          id = id;
+          account = account;
+          symbol = symbol;
+          quantity = quantity;
+          price = price;
+        } in order)
+        ≡ (let order : OrderValue = record {
+          id = i;
+          account = a;
+          symbol = s;
+          quantity = q;
+          price = p;
+        } in order)
+    order_same id i account a symbol s quantity q price p one two three four five =
+        rw (one, two, three, four, five) refl
 
 -- a row that is no price row
 row : (tag : ℕ) (reader : Reader) (fields : List FieldValue) (rows : List FieldRow)

@@ -10,7 +10,9 @@ use Rattle.fix_fields.specs.Messages.{frame_text, message_text}
 use Rattle.fix_fields.specs.declared.frame.Frame.{Frame}
 use Rattle.session_engine.specs.declared.put.Part.{Part}
 use Rattle.session_engine.specs.declared.refusal.Refusal.{Refusal}
-use Rattle.session_engine.specs.declared.refusal.Refusal.TheVariants.{Firm, Quota, Cap}
+use Rattle.session_engine.specs.declared.refusal.Refusal.TheVariants.{Firm, Account, Symbol, Halt}
+use Rattle.session_engine.specs.declared.refusal.Refusal.TheVariants.{Quota, Cap}
+use Rattle.session_engine.specs.declared.refusal.Refusal.TheVariants.{UnknownAccount, UnknownSymbol}
 use Rattle.session_engine.specs.declared.slots.Slots.{Slots}
 use Rattle.session_engine.specs.Answers.{opening_fields, order_reason_of, text_of, refusal_text}
 use Rattle.session_engine.specs.Answers.{refusal_fields}
@@ -61,12 +63,22 @@ pub reason_is_short : (refusal : Refusal) → IsShort (decimal (order_reason_of 
 reason_is_short Firm = number_is_short 3 (omega arith)
 reason_is_short Quota = number_is_short 0 (omega arith)
 reason_is_short Cap = number_is_short 3 (omega arith)
+reason_is_short Account = number_is_short 3 (omega arith)
+reason_is_short Symbol = number_is_short 3 (omega arith)
+reason_is_short Halt = number_is_short 0 (omega arith)
+reason_is_short UnknownAccount = number_is_short 99 (omega arith)
+reason_is_short UnknownSymbol = number_is_short 1 (omega arith)
 
 -- Text (58) is short
 pub text_is_short : (refusal : Refusal) → IsShort (text_of refusal)
 text_is_short Firm = record { without_soh = refl; few = omega arith }
 text_is_short Quota = record { without_soh = refl; few = omega arith }
 text_is_short Cap = record { without_soh = refl; few = omega arith }
+text_is_short Account = record { without_soh = refl; few = omega arith }
+text_is_short Symbol = record { without_soh = refl; few = omega arith }
+text_is_short Halt = record { without_soh = refl; few = omega arith }
+text_is_short UnknownAccount = record { without_soh = refl; few = omega arith }
+text_is_short UnknownSymbol = record { without_soh = refl; few = omega arith }
 
 -- the field of a part
 pub part_is : (p : Part) (tag : ℕ) (value : List ℕ) → p.tag ≡ tag → p.value.now ≡ value

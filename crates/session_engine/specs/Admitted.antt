@@ -5,9 +5,10 @@ use Rattle.std.specs.List.{slice_index_or, slice_set, enumerate_from, flat_map}
 use Rattle.risk_board.specs.declared.hand.Line.{Line}
 use Rattle.risk_board.specs.History.{Event}
 use Rattle.risk_board.specs.History.Event.{Posted, Saw}
-use Rattle.session_engine.specs.Session.{LimitsValue, SessionValue, value_of_orders}
+use Rattle.session_engine.specs.Session.{SessionValue}
 use Rattle.risk_journal.specs.ActLists.{last_post}
-use Rattle.session_engine.specs.Trees.{tree_count, limit_of}
+use Rattle.session_engine.specs.Trees.{LimitsValue, tree_count, limit_of}
+use Rattle.session_engine.specs.OrderTrees.{value_in}
 use Rattle.risk_journal.specs.ActLists.{events_of}
 
 -- what a session has posted in a tree, and how much of it is admitted
@@ -90,13 +91,15 @@ abbrev pub own_admitted : ℕ → List Event → ℕ
 own_admitted limit events = (fold (after_event limit) nothing events).admitted
 
 -- In a tree with this limit what a session has admitted is its last post, and its sent orders are
--- worth no more.
-pub record IsCovered (limit tree : ℕ) (session : SessionValue) : Type 0 where
+-- worth no more there.
+pub record IsCovered (limits : LimitsValue) (limit tree : ℕ) (session : SessionValue)
+    : Type 0 where
   pub posted : own_admitted limit (events_of tree session.acts) ≡ last_post tree session.acts
-  pub orders : value_of_orders session.orders ≤ own_admitted limit (events_of tree session.acts)
+  pub orders : value_in limits tree session.orders
+      ≤ own_admitted limit (events_of tree session.acts)
 
 -- in each tree that has a limit, what a session's sent orders are worth is admitted
 abbrev pub CoversOrders : LimitsValue → SessionValue → Type 0
 CoversOrders limits session =
     (tree : ℕ) → tree < tree_count limits
-    → IfSome (limit_of limits tree) (λ limit. IsCovered limit tree session)
+    → IfSome (limit_of limits tree) (λ limit. IsCovered limits limit tree session)

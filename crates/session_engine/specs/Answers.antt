@@ -3,7 +3,9 @@ use Rattle.std.specs.Prelude.{ℕ, ◌==◌, ◌||◌, List, [], ◌∷◌, ◌+
 use Rattle.fix_fields.specs.Fields.{FieldValue, field}
 use Rattle.fix_fields.specs.Messages.{message_text}
 use Rattle.session_engine.specs.declared.refusal.Refusal.{Refusal}
-use Rattle.session_engine.specs.declared.refusal.Refusal.TheVariants.{Firm, Quota, Cap}
+use Rattle.session_engine.specs.declared.refusal.Refusal.TheVariants.{Firm, Account, Symbol, Halt}
+use Rattle.session_engine.specs.declared.refusal.Refusal.TheVariants.{Quota, Cap}
+use Rattle.session_engine.specs.declared.refusal.Refusal.TheVariants.{UnknownAccount, UnknownSymbol}
 use Rattle.session_engine.specs.FieldRows.{value_of}
 
 -- the first fields of each message: its type, the gate as sender, its receiver, its number, its time
@@ -29,20 +31,36 @@ forward_text receiver number fields = message_text (forward_fields receiver numb
 -- the number of a refusal in the journal
 abbrev pub code_of : Refusal → ℕ
 code_of Firm = 1
+code_of Account = 2
+code_of Symbol = 3
+code_of Halt = 4
 code_of Quota = 5
 code_of Cap = 6
+code_of UnknownAccount = 8
+code_of UnknownSymbol = 9
 
--- OrdRejReason (103): 3 order exceeds limit, 0 broker or exchange option
+-- OrdRejReason (103): 0 broker or exchange option, 1 unknown symbol, 3 order exceeds limit, 99
+-- other
 abbrev pub order_reason_of : Refusal → ℕ
 order_reason_of Firm = 3
+order_reason_of Account = 3
+order_reason_of Symbol = 3
+order_reason_of Halt = 0
 order_reason_of Quota = 0
 order_reason_of Cap = 3
+order_reason_of UnknownAccount = 99
+order_reason_of UnknownSymbol = 1
 
 -- Text (58)
 abbrev pub text_of : Refusal → List ℕ
 text_of Firm = codes "FIRM"
+text_of Account = codes "ACCOUNT"
+text_of Symbol = codes "SYMBOL"
+text_of Halt = codes "HALT"
 text_of Quota = codes "QUOTA"
 text_of Cap = codes "CAP"
+text_of UnknownAccount = codes "UNKNOWN ACCOUNT"
+text_of UnknownSymbol = codes "UNKNOWN SYMBOL"
 
 -- the fields of an ExecutionReport that refuses an order, after the first ones
 abbrev pub refusal_fields : ℕ → List FieldValue → Refusal → List FieldValue

@@ -1,10 +1,12 @@
 pub mod Admitted
 pub mod Answers
+pub mod Asking
 pub mod Counted
 pub mod FieldRows
 pub mod Follows
+pub mod Hands
 pub mod Ids
-pub mod LimitsOf
+pub mod OrderTrees
 pub mod Orders
 pub mod Parts
 pub mod Reaches

@@ -15,6 +15,7 @@ use Rattle.risk_journal.specs.declared.acts.Act.{Act}
 use Rattle.session_engine.specs.declared.session.Stop.{Stop}
 use Rattle.session_engine.specs.declared.session.Stop.TheVariants as stop
 use Rattle.session_engine.specs.declared.totals.Totals.{Totals}
+use Rattle.session_engine.specs.declared.totals.TreeTotals.{TreeTotals}
 use Rattle.session_engine.specs.Session.{LimitsValue, SessionValue}
 use Rattle.session_engine.specs.Follows.{StopsAt}
 use Rattle.session_engine.specs.Reaches.{Reaches}
@@ -24,12 +25,12 @@ use Rattle.session_engine.specs.Taken.{CountsFit}
 -- The frames up to a place were taken: the values are those of the session to which they lead, and the
 -- sinks got its messages.
 pub record RunsTo (limits : LimitsValue) (bytes : List ℕ) (place : ℕ) (has : List ℕ → Bool)
-    (acts : List Act) (totals : Totals) (venue venue_after client client_after : Option (List ℕ))
-    : Type 0 where
+    (acts : List Act) (trees : List TreeTotals) (totals : Totals)
+    (venue venue_after client client_after : Option (List ℕ)) : Type 0 where
   pub session : SessionValue
   pub reaches : Reaches limits bytes place session
-  pub stands : StandsFor has acts totals session
-  pub counts : CountsFit place totals
+  pub stands : StandsFor limits has acts trees totals session
+  pub counts : CountsFit place trees totals
   pub within : place ≤ length bytes
   pub venue_grows : Appends venue venue_after (concat session.venue)
   pub client_grows : Appends client client_after (concat session.client)

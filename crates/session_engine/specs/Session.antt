@@ -1,8 +1,8 @@
 -- What a session does with each frame, as a function of the frames and of the reads.
-use Rattle.std.specs.Prelude.{ℕ, ◌+◌, ◌*◌, ◌/◌, ◌==◌, ◌&&◌, List, [], ◌∷◌, ◌++◌, length, drop, fold, map}
-use Rattle.std.specs.Prelude.{sum_by, count_by, Option, Some, None, is_none, IsTrue, Bool, true, false}
-use Rattle.std.specs.Prelude.{not, nat_lt, if◌then◌else◌, codes}
-use Rattle.std.specs.List.{list_any}
+use Rattle.std.specs.Prelude.{ℕ, ◌+◌, ◌&&◌, List, [], ◌∷◌, ◌++◌, length, drop, fold, map}
+use Rattle.std.specs.Prelude.{Option, Some, None, is_none, IsTrue, Bool, true, false}
+use Rattle.std.specs.Prelude.{not, nat_lt, if◌then◌else◌, codes, Result, Ok, Err}
+use Rattle.std.specs.List.{list_any, slice_index_or}
 use Rattle.std.specs.Result.{result_unwrap_or}
 use Rattle.std.specs.Str.{bytes_eq}
 use Rattle.fold_law.specs.declared.limits.TheConstants.{LEAF}
@@ -16,21 +16,15 @@ use Rattle.risk_journal.specs.declared.acts.Act.TheVariants.{Post, Read, Sent, R
 use Rattle.risk_journal.specs.declared.acts.End.{End}
 use Rattle.risk_journal.specs.declared.acts.End.TheVariants.{Whole, NotBuilt}
 use Rattle.session_engine.specs.declared.refusal.Refusal.{Refusal}
-use Rattle.session_engine.specs.declared.refusal.Refusal.TheVariants.{Firm, Quota, Cap}
+use Rattle.session_engine.specs.declared.refusal.Refusal.TheVariants as refusal
+use Rattle.session_engine.specs.declared.rows.OrderRows.{OrderRows}
 use Rattle.risk_journal.specs.ActLists.{SeenAt, posts_in, last_post}
+pub use Rattle.session_engine.specs.Trees.{LimitsValue}
+use Rattle.session_engine.specs.Trees.{halt_tree, tree_limits, account_tree, symbol_tree}
+pub use Rattle.session_engine.specs.OrderTrees.{OrderValue}
+use Rattle.session_engine.specs.OrderTrees.{rows_of, value_in}
 use Rattle.session_engine.specs.FieldRows.{value_of, values_of, first_fault, new_order_rows}
 use Rattle.session_engine.specs.Answers.{forward_text, refusal_text, code_of}
-
--- the limits that a session knows: the firm's in whole currency units, and the quota of posts
-pub record LimitsValue : Type 0 where
-  pub firm : ℕ
-  pub quota : ℕ
-
--- an order that was sent: its ClOrdID (11), its OrderQty (38), its Price (44) in ten-thousandths
-pub record OrderValue : Type 0 where
-  pub id : List ℕ
-  pub quantity : ℕ
-  pub price : ℕ
 
 -- a session after some frames: what it did and wrote, and the reads that are still to come
 pub record SessionValue : Type 0 where
@@ -64,9 +58,12 @@ abbrev pub with_act : Act → SessionValue → SessionValue
 with_act act session = record session { acts = session.acts ++ act ∷ [] }
 
 -- a post of the next index in the tree
+abbrev pub with_post : ℕ → ℕ → List Act → List Act
+with_post tree value acts = acts ++ Post tree (posts_in tree acts + 1) value ∷ []
+
 abbrev pub after_posting : ℕ → ℕ → SessionValue → SessionValue
 after_posting tree value session =
-    with_act (Post tree (posts_in tree session.acts + 1) value) session
+    record session { acts = with_post tree value session.acts }
 
 -- the next read, in the tree
 abbrev pub after_reading : ℕ → SessionValue → SessionValue
@@ -76,8 +73,8 @@ after_reading tree session =
       reads = drop 1 session.reads;
     }
 
--- a tree that an order counts in: its limit, the value last posted, the value with the order, and the
--- refusal where the root is above the limit
+-- a tree that an order counts in: its limit, the value last posted, the value with the order, and
+-- the refusal where the root is above the limit
 pub record Leg : Type 0 where
   pub tree : ℕ
   pub limit : ℕ
@@ -85,32 +82,39 @@ pub record Leg : Type 0 where
   pub new : ℕ
   pub refusal : Refusal
 
--- the exposure of an order in ten-thousandths, rounded nowhere
-abbrev pub exposure_of : OrderValue → ℕ
-exposure_of order = order.quantity * order.price
-
--- the exposure of orders in whole currency units, rounded up once
-abbrev pub value_of_orders : List OrderValue → ℕ
-value_of_orders orders = (sum_by exposure_of orders + 9999) / 10000
-
 -- the order that the fields ask for
 abbrev pub order_of : List FieldValue → OrderValue
 order_of fields = record {
   id = value_of 11 fields;
+  account = value_of 1 fields;
+  symbol = value_of 55 fields;
   quantity = result_unwrap_or (quantity_of (value_of 38 fields)) 0;
   price = result_unwrap_or (price_of (value_of 44 fields)) 0;
 }
 
--- the trees of an order
-abbrev pub legs_of : LimitsValue → SessionValue → OrderValue → List Leg
-legs_of limits session order =
-    record {
-      tree = 0;
-      limit = limits.firm;
-      old = last_post 0 session.acts;
-      new = value_of_orders (session.orders ++ order ∷ []);
-      refusal = Firm;
-    } ∷ []
+-- the leg of a tree, by what was last posted in each tree and what is to be posted
+abbrev pub leg_with : LimitsValue → (ℕ → ℕ) → (ℕ → ℕ) → ℕ → Refusal → Leg
+leg_with limits old new tree why = record {
+  tree = tree;
+  limit = slice_index_or (tree_limits limits) tree 0;
+  old = old tree;
+  new = new tree;
+  refusal = why;
+}
+
+-- the legs of these rows: the firm's, the account's and the symbol's
+abbrev pub legs_with : LimitsValue → OrderRows → (ℕ → ℕ) → (ℕ → ℕ) → List Leg
+legs_with limits rows old new =
+    leg_with limits old new 0 refusal.Firm
+    ∷ leg_with limits old new (account_tree rows.account) refusal.Account
+    ∷ leg_with limits old new (symbol_tree limits rows.symbol) refusal.Symbol ∷ []
+
+-- the legs of an order of these rows: what the session last posted, and what its orders are worth
+-- with this one
+abbrev pub legs_of : LimitsValue → OrderRows → SessionValue → OrderValue → List Leg
+legs_of limits rows session order =
+    legs_with limits rows (λ tree. last_post tree session.acts)
+    (λ tree. value_in limits tree (session.orders ++ order ∷ []))
 
 -- the first leg whose read is above its limit
 abbrev pub first_above : List Leg → List SeenAt → Option Refusal
@@ -120,11 +124,11 @@ first_above (leg ∷ legs) reads =
     else first_above legs (drop 1 reads)
 
 -- why the order is refused before any post: a value that no leaf holds, or too few posts left
-abbrev pub early_refusal : LimitsValue → SessionValue → List Leg → Option Refusal
-early_refusal limits session legs =
-    if list_any (λ leg. nat_lt LEAF leg.new) legs then Some Cap
-    else (if list_any (λ leg. nat_lt limits.quota (posts_in leg.tree session.acts + 2)) legs
-    then Some Quota else None)
+abbrev pub early_refusal : LimitsValue → List Act → List Leg → Option Refusal
+early_refusal limits acts legs =
+    if list_any (λ leg. nat_lt LEAF leg.new) legs then Some refusal.Cap
+    else (if list_any (λ leg. nat_lt limits.quota (posts_in leg.tree acts + 2)) legs
+    then Some refusal.Quota else None)
 
 abbrev pub post_new : SessionValue → Leg → SessionValue
 post_new session leg = after_posting leg.tree leg.new session
@@ -132,16 +136,18 @@ post_new session leg = after_posting leg.tree leg.new session
 abbrev pub post_old : SessionValue → Leg → SessionValue
 post_old session leg = after_posting leg.tree leg.old session
 
--- the trees whose roots are read for an order, in order
-abbrev pub roots_of : List Leg → List ℕ
-roots_of legs = map (λ leg. leg.tree) legs
+-- the trees whose roots are read for an order, in order: the halt tree comes first
+abbrev pub roots_of : LimitsValue → List Leg → List ℕ
+roots_of limits legs = halt_tree limits ∷ map (λ leg. leg.tree) legs
 
 abbrev pub read_root : SessionValue → ℕ → SessionValue
 read_root session tree = after_reading tree session
 
--- why the roots that were read refuse the order, if they do
+-- why the roots that were read refuse the order, if they do: somebody has halted, or a root is
+-- above its limit
 abbrev pub verdict_of : List Leg → List SeenAt → Option Refusal
-verdict_of legs reads = first_above legs reads
+verdict_of legs reads =
+    if nat_lt 0 (next_read reads).value then Some refusal.Halt else first_above legs (drop 1 reads)
 
 -- the order is sent
 abbrev pub after_sending : List FieldValue → OrderValue → SessionValue → SessionValue
@@ -154,36 +160,45 @@ after_sending fields order session =
 
 -- the order is refused
 abbrev pub after_refusing : List FieldValue → Refusal → SessionValue → SessionValue
-after_refusing fields refusal session =
+after_refusing fields why session =
     let number = length session.client + 1 in
-    record (with_act (Refused session.frames (code_of refusal) 0 0) session) {
-      client = session.client ++ refusal_text session.client_id number fields refusal ∷ [];
+    record (with_act (Refused session.frames (code_of why) 0 0) session) {
+      client = session.client ++ refusal_text session.client_id number fields why ∷ [];
     }
 
 -- The roots were read: the order is sent, or the old values are posted again and it is refused.
 abbrev pub after_verdict : List FieldValue → OrderValue → List Leg → Option Refusal → SessionValue
     → SessionValue
 after_verdict fields order legs None session = after_sending fields order session
-after_verdict fields order legs (Some refusal) session =
-    after_refusing fields refusal (fold post_old session legs)
+after_verdict fields order legs (Some why) session =
+    after_refusing fields why (fold post_old session legs)
 
 -- the new values are posted and the roots read
-abbrev pub after_admission : List FieldValue → OrderValue → List Leg → SessionValue → SessionValue
-after_admission fields order legs session =
-    after_verdict fields order legs (verdict_of legs session.reads)
-    (fold read_root (fold post_new session legs) (roots_of legs))
-
-abbrev pub after_checks : List FieldValue → OrderValue → List Leg → Option Refusal → SessionValue
+abbrev pub after_admission : LimitsValue → List FieldValue → OrderValue → List Leg → SessionValue
     → SessionValue
-after_checks fields order legs None session = after_admission fields order legs session
-after_checks fields order legs (Some refusal) session = after_refusing fields refusal session
+after_admission limits fields order legs session =
+    after_verdict fields order legs (verdict_of legs session.reads)
+    (fold read_root (fold post_new session legs) (roots_of limits legs))
+
+abbrev pub after_checks : LimitsValue → List FieldValue → OrderValue → List Leg → Option Refusal
+    → SessionValue → SessionValue
+after_checks limits fields order legs None session =
+    after_admission limits fields order legs session
+after_checks limits fields order legs (Some why) session = after_refusing fields why session
+
+-- an order is taken up, whose rows are these or aren't there
+abbrev pub after_rows : LimitsValue → List FieldValue → OrderValue → Result OrderRows Refusal
+    → SessionValue → SessionValue
+after_rows limits fields order (Err why) session = after_refusing fields why session
+after_rows limits fields order (Ok rows) session =
+    let legs = legs_of limits rows session order in
+    after_checks limits fields order legs (early_refusal limits session.acts legs) session
 
 -- an order is taken up
 abbrev pub after_order : LimitsValue → List FieldValue → SessionValue → SessionValue
 after_order limits fields session =
     let order = order_of fields in
-    let legs = legs_of limits session order in
-    after_checks fields order legs (early_refusal limits session legs) session
+    after_rows limits fields order (rows_of limits order) session
 
 -- no order sent before has this ClOrdID (11)
 abbrev pub is_new_id : List ℕ → List OrderValue → Bool

@@ -109,8 +109,7 @@ abbrev pub is_head_read : List FieldValue → Bool
 is_head_read fields =
     is_taken_by Sequence (only_of 34 fields) && is_taken_by Identifier (only_of 49 fields)
     && is_taken_by Identifier (only_of 56 fields) && is_taken_by Identifier (only_of 52 fields)
-    && is_only (codes "D") (only_of 35 fields) && is_taken_by Identifier (only_of 1 fields)
-    && is_taken_by Identifier (only_of 55 fields) && is_only (codes "1") (only_of 54 fields)
+    && is_only (codes "D") (only_of 35 fields) && is_only (codes "1") (only_of 54 fields)
     && is_only (codes "2") (only_of 40 fields)
 
 -- each field of a limit order to buy stands once and is read

@@ -10,9 +10,10 @@ use Rattle.risk_journal.specs.declared.acts.Act.{Act}
 use Rattle.session_engine.specs.declared.refusal.Refusal.{Refusal}
 use Rattle.session_engine.specs.declared.slots.Slots.{Slots}
 use Rattle.session_engine.specs.declared.totals.Totals.{Totals}
+use Rattle.session_engine.specs.declared.totals.TreeTotals.{TreeTotals}
 use Rattle.session_engine.specs.Session.{LimitsValue, SessionValue, is_taken_order}
 use Rattle.session_engine.specs.Slotted.{SlotsHave, IsRead, is_sound_order}
-use Rattle.session_engine.specs.Stands.{StandsFor}
+use Rattle.session_engine.specs.Stands.{StandsFor, totals_at}
 use Rattle.session_engine.specs.Reaches.{Steps}
 use Rattle.session_engine.specs.Answers.{forward_text, refusal_text}
 use Rattle.session_engine.specs.FieldRows.{value_of}
@@ -47,18 +48,19 @@ IsOtherIn bytes frame has =
     × IsOther has fields
 
 -- the counts of a session after the frames up to a place
-pub record CountsFit (place : ℕ) (totals : Totals) : Type 0 where
+pub record CountsFit (place : ℕ) (trees : List TreeTotals) (totals : Totals) : Type 0 where
   pub frames : totals.frames ≤ place
   pub sent : totals.sent ≤ totals.frames
   pub refused : totals.refused ≤ totals.frames
-  pub exposure : totals.exposure ≤ 10000000000000000000 * totals.frames
+  pub exposures : (tree : ℕ)
+      → (totals_at tree trees).exposure ≤ 10000000000000000000 * totals.frames
 
 -- the counts are those of at most as many frames as an input has bytes
-pub record HasSmallCounts (totals : Totals) : Type 0 where
+pub record HasSmallCounts (trees : List TreeTotals) (totals : Totals) : Type 0 where
   pub frames : totals.frames < 2 ^ 31
   pub sent : totals.sent < 2 ^ 31
   pub refused : totals.refused < 2 ^ 31
-  pub exposure : totals.exposure < 2 ^ 99
+  pub exposures : (tree : ℕ) → (totals_at tree trees).exposure < 2 ^ 99
 
 -- one sink took a message, and the other nothing
 abbrev pub IsAnswered : List FieldValue → Totals → Option Refusal → Option (List ℕ)
@@ -72,11 +74,11 @@ IsAnswered fields totals (Some refusal) venue venue_after client client_after =
 
 -- A frame of these fields was taken: the session goes on with it, and its answer was given.
 pub record Takes (limits : LimitsValue) (fields : List FieldValue) (session next : SessionValue)
-    (has : List ℕ → Bool) (acts : List Act) (totals : Totals)
+    (has : List ℕ → Bool) (acts : List Act) (trees : List TreeTotals) (totals : Totals)
     (venue venue_after client client_after : Option (List ℕ)) : Type 0 where
   pub order : is_taken_order session fields ≡ true
   pub steps : Steps limits fields session next
-  pub stands : StandsFor has acts totals next
+  pub stands : StandsFor limits has acts trees totals next
   pub to_venue : List ℕ
   pub to_client : List ℕ
   pub venue_grows : Appends venue venue_after to_venue
@@ -86,14 +88,14 @@ pub record Takes (limits : LimitsValue) (fields : List FieldValue) (session next
 
 -- Whatever session stands for the values before, the frame was taken in it.
 abbrev pub TakesAny : LimitsValue → List ℕ → Frame → (List ℕ → Bool) → (List ℕ → Bool)
-    → List Act → List Act → Totals → Totals
+    → List Act → List Act → List TreeTotals → List TreeTotals → Totals → Totals
     → Option (List ℕ) → Option (List ℕ) → Option (List ℕ) → Option (List ℕ) → Type 0
-TakesAny limits bytes frame has has_after acts acts_after totals totals_after
+TakesAny limits bytes frame has has_after acts acts_after trees trees_after totals totals_after
     venue venue_after client client_after =
     (fields : List FieldValue) (session : SessionValue) → HasFieldsIn bytes frame fields
-    → StandsFor has acts totals session
-    → (next : SessionValue) × Takes limits fields session next has_after acts_after totals_after
-    venue venue_after client client_after
+    → StandsFor limits has acts trees totals session
+    → (next : SessionValue) × Takes limits fields session next has_after acts_after trees_after
+    totals_after venue venue_after client client_after
 
 -- Whatever session stands for the values before, the frame isn't one of this stage in it; nothing
 -- was done.
@@ -106,8 +108,10 @@ pub record LeavesAny (bytes : List ℕ) (frame : Frame) (has : List ℕ → Bool
   pub same_client : client_after ≡ client
 
 -- the counts after one frame more
-pub record CountsGrow (totals totals_after : Totals) : Type 0 where
+pub record CountsGrow (trees trees_after : List TreeTotals) (totals totals_after : Totals)
+    : Type 0 where
   pub frames : totals_after.frames ≡ totals.frames + 1
   pub sent : totals_after.sent ≤ totals.sent + 1
   pub refused : totals_after.refused ≤ totals.refused + 1
-  pub exposure : totals_after.exposure ≤ totals.exposure + 10000000000000000000
+  pub exposures : (tree : ℕ) → (totals_at tree trees_after).exposure
+      ≤ (totals_at tree trees).exposure + 10000000000000000000

@@ -11,8 +11,13 @@ impl Refusal {
     {
         match self {
             Refusal::Firm => 1,
+            Refusal::Account => 2,
+            Refusal::Symbol => 3,
+            Refusal::Halt => 4,
             Refusal::Quota => 5,
             Refusal::Cap => 6,
+            Refusal::UnknownAccount => 8,
+            Refusal::UnknownSymbol => 9,
         }
     }
 
@@ -22,8 +27,13 @@ impl Refusal {
     {
         match self {
             Refusal::Firm => b"3",
+            Refusal::Account => b"3",
+            Refusal::Symbol => b"3",
+            Refusal::Halt => b"0",
             Refusal::Quota => b"0",
             Refusal::Cap => b"3",
+            Refusal::UnknownAccount => b"99",
+            Refusal::UnknownSymbol => b"1",
         }
     }
 
@@ -33,8 +43,13 @@ impl Refusal {
     {
         match self {
             Refusal::Firm => b"FIRM",
+            Refusal::Account => b"ACCOUNT",
+            Refusal::Symbol => b"SYMBOL",
+            Refusal::Halt => b"HALT",
             Refusal::Quota => b"QUOTA",
             Refusal::Cap => b"CAP",
+            Refusal::UnknownAccount => b"UNKNOWN ACCOUNT",
+            Refusal::UnknownSymbol => b"UNKNOWN SYMBOL",
         }
     }
 }

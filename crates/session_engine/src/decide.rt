@@ -1,77 +1,87 @@
 //! What is done with an order.
 ghost use Rattle.std.specs.Prelude.{◌≡◌, ℕ, ◌+◌, ◌^◌, ◌≤◌, ◌<◌, List, [], ◌∷◌, ◌++◌, false, vec_len, vec_capacity, IfOk, OnOk, OnErr};
 ghost use Rattle.std.specs.BTreeSet.{contains};
-ghost use Rattle.risk_board.specs.Hands.{KeepsOrigin};
-ghost use Rattle.session_engine.specs.LimitsOf.{limits_value};
+ghost use Rattle.limit_table.specs.Files.{IsHeldByFile};
 ghost use Rattle.session_engine.specs.Orders.{order_value};
 ghost use Rattle.session_engine.specs.Ids.{SameIds};
 ghost use Rattle.session_engine.specs.Stands.{InStep, Decides, sent_totals, refused_totals};
+ghost use Rattle.session_engine.specs.Taken.{HasSmallCounts};
 ghost use Rattle.session_engine.specs.Answers.{code_of};
 
-use crate::admit::ask;
+use crate::ask::ask_order;
+use crate::hands::Hands;
 use crate::ids::{add_id, remove_id};
-use crate::limits::Limits;
 use crate::order::Order;
 use crate::refusal::Refusal;
-use crate::totals::Totals;
-use fix_fields::Id;
+use crate::totals::{Totals, TreeTotals};
+use fix_fields::{Id, Writer};
 use fold_law::Memory;
+use limit_table::Limits;
 use risk_board::Hand;
 use risk_journal::Act;
 use std::collections::BTreeSet;
 
+/// What a session keeps as it goes.
+#[derive(Drop)]
+pub(crate) struct State {
+    pub acts: Vec<Act>,
+    pub ids: BTreeSet<Id>,
+    pub trees: Vec<TreeTotals>,
+    pub totals: Totals,
+    pub writer: Writer,
+}
+
 /// Sends or refuses an order whose id is new, and tells what was done. It writes no message.
-pub(crate) fn decide<H: Hand>(
-    hand: &mut H,
-    acts: &mut Vec<Act>,
-    ids: &mut BTreeSet<Id>,
-    totals: &mut Totals,
+pub(crate) fn decide<H: Hand, M: Hand>(
+    hands: &mut Hands<H, M>,
+    state: &mut State,
     limits: &Limits,
     order: &Order,
 ) -> Result<Option<Refusal>, Memory>
-    requires step { InStep (H.meaning hand.old) acts.old.items totals.old }
-    requires quota { (H.meaning hand.old).quota ≡ limits.now.quota }
-    requires spare { 3 ≤ (H.meaning hand.old).spare }
-    requires room { vec_len acts.old + 4 ≤ vec_capacity acts.old }
-    requires fits { totals.old.exposure < 2 ^ 99 }
-    requires counts { (totals.old.frames < 2 ^ 31) × (totals.old.sent < 2 ^ 31)
-        × (totals.old.refused < 2 ^ 31) }
-    requires new { contains ⟦<Id as Ord>⟧.cmp ids.old order.now.id ≡ false }
-    ensures step { InStep (H.meaning hand.new) acts.new.items totals.new }
-    ensures bounds { KeepsOrigin (H.meaning hand.old) (H.meaning hand.new) }
-    ensures origin { H.SameOrigin hand.old hand.new }
-    ensures room { vec_capacity acts.new ≡ vec_capacity acts.old }
-    ensures few { vec_len acts.new ≤ vec_len acts.old + 4 }
-    ensures ok { IfOk result (λ refusal. Decides (limits_value limits.now) (order_value order.now)
-        (contains ⟦<Id as Ord>⟧.cmp ids.old) (contains ⟦<Id as Ord>⟧.cmp ids.new)
-        acts.old.items acts.new.items totals.old totals.new refusal) }
-    ensures err { OnErr result (acts.new.items ≡ acts.old.items) }
+    requires held { IsHeldByFile limits.now }
+    requires step { InStep limits.now (H.meaning hands.old.sum) (M.meaning hands.old.halt)
+        state.old.acts.items state.old.trees.items }
+    requires sum_spare { 9 ≤ (H.meaning hands.old.sum).spare }
+    requires halt_spare { 1 ≤ (M.meaning hands.old.halt).spare }
+    requires room { vec_len state.old.acts + 11 ≤ vec_capacity state.old.acts }
+    requires counts { HasSmallCounts state.old.trees.items state.old.totals }
+    requires new { contains ⟦<Id as Ord>⟧.cmp state.old.ids order.now.id ≡ false }
+    ensures step { InStep limits.now (H.meaning hands.new.sum) (M.meaning hands.new.halt)
+        state.new.acts.items state.new.trees.items }
+    ensures sum_origin { H.SameOrigin hands.old.sum hands.new.sum }
+    ensures halt_origin { M.SameOrigin hands.old.halt hands.new.halt }
+    ensures room { vec_capacity state.new.acts ≡ vec_capacity state.old.acts }
+    ensures few { vec_len state.new.acts ≤ vec_len state.old.acts + 11 }
+    ensures ok { IfOk result (λ refusal. Decides limits.now (order_value order.now)
+        (contains ⟦<Id as Ord>⟧.cmp state.old.ids) (contains ⟦<Id as Ord>⟧.cmp state.new.ids)
+        state.old.acts.items state.new.acts.items state.old.trees.items state.new.trees.items
+        state.old.totals state.new.totals refusal) }
+    ensures err { OnErr result (state.new.acts.items ≡ state.old.acts.items) }
 {
-    add_id(ids, order.id)?;
-    let refusal = ask(hand, acts, totals, limits, order);
+    add_id(&mut state.ids, order.id)?;
+    let refusal = ask_order(hands, &mut state.acts, &mut state.trees, limits, order);
     match refusal {
-        None => tell_sent(acts, totals, order),
+        None => tell_sent(&mut state.acts, &mut state.totals),
         Some(refusal) => {
-            remove_id(ids, &order.id);
-            tell_refused(acts, totals, refusal);
+            remove_id(&mut state.ids, &order.id);
+            tell_refused(&mut state.acts, &mut state.totals, refusal);
         }
     }
     Ok(refusal)
 }
 
 /// Tells that the order of this frame was sent, and counts it.
-fn tell_sent(acts: &mut Vec<Act>, totals: &mut Totals, order: &Order)
+fn tell_sent(acts: &mut Vec<Act>, totals: &mut Totals)
     requires room { vec_len acts.old < vec_capacity acts.old }
-    requires fits { totals.old.exposure < 2 ^ 100 }
-    requires counts { (totals.old.frames < 2 ^ 31) × (totals.old.sent < 2 ^ 31) }
+    requires frames { totals.old.frames < 2 ^ 31 }
+    requires sent { totals.old.sent < 2 ^ 31 }
     ensures acts { acts.new.items ≡ acts.old.items ++ Act.Sent totals.old.frames ∷ [] }
     ensures room { vec_capacity acts.new ≡ vec_capacity acts.old }
-    ensures totals { totals.new ≡ sent_totals (order_value order.now) totals.old }
+    ensures totals { totals.new ≡ sent_totals totals.old }
 {
     acts.push_reserved(Act::Sent {
         frame: totals.frames,
     });
-    totals.exposure += u128::from(order.quantity) * u128::from(order.price);
     totals.sent += 1;
     totals.frames += 1;
 }
@@ -79,7 +89,8 @@ fn tell_sent(acts: &mut Vec<Act>, totals: &mut Totals, order: &Order)
 /// Tells that the order of this frame was refused, and counts it.
 fn tell_refused(acts: &mut Vec<Act>, totals: &mut Totals, refusal: Refusal)
     requires room { vec_len acts.old < vec_capacity acts.old }
-    requires counts { (totals.old.frames < 2 ^ 31) × (totals.old.refused < 2 ^ 31) }
+    requires frames { totals.old.frames < 2 ^ 31 }
+    requires refused { totals.old.refused < 2 ^ 31 }
     ensures acts { acts.new.items
         ≡ acts.old.items ++ Act.Refused totals.old.frames (code_of refusal) 0 0 ∷ [] }
     ensures room { vec_capacity acts.new ≡ vec_capacity acts.old }

@@ -119,8 +119,6 @@ fn is_head_read(bytes: &[u8], slots: &Slots) -> bool
         && is_id(bytes, slots.target)
         && is_id(bytes, slots.time)
         && is_text(bytes, slots.kind, b"D")
-        && is_id(bytes, slots.account)
-        && is_id(bytes, slots.symbol)
         && is_text(bytes, slots.side, b"1")
         && is_text(bytes, slots.order_type, b"2")
 }
@@ -139,6 +137,12 @@ pub(crate) fn read_order(bytes: &[u8], slots: &Slots) -> Option<Order>
     let Some(id) = id_in(bytes, slots.id) else {
         return None;
     };
+    let Some(account) = id_in(bytes, slots.account) else {
+        return None;
+    };
+    let Some(symbol) = id_in(bytes, slots.symbol) else {
+        return None;
+    };
     let Some(quantity) = quantity_in(bytes, slots.quantity) else {
         return None;
     };
@@ -147,6 +151,8 @@ pub(crate) fn read_order(bytes: &[u8], slots: &Slots) -> Option<Order>
     };
     Some(Order {
         id,
+        account,
+        symbol,
         quantity,
         price,
     })

@@ -5,8 +5,18 @@
 pub enum Refusal {
     /// The firm's root was above the firm's limit.
     Firm,
-    /// The session has too few posts left.
+    /// The account's root was above the account's limit, and the firm's was not.
+    Account,
+    /// The symbol's root was above the symbol's limit, and the two others were not.
+    Symbol,
+    /// The halt root was above 0.
+    Halt,
+    /// In one of the order's trees the session has too few posts left.
     Quota,
-    /// The value is more than a leaf can hold.
+    /// A value is more than a leaf can hold.
     Cap,
+    /// The limits have no such account.
+    UnknownAccount,
+    /// The limits have no such symbol.
+    UnknownSymbol,
 }

@@ -1,21 +1,24 @@
 //! A session: its input is fetched, its frames are taken one after another, and it ends.
 ghost use Rattle.std.specs.Prelude.{◌≡◌, ℕ, ◌+◌, ◌≤◌, ◌<◌, List, [], ◌∷◌, ◌++◌, ◌⊎◌, IsTrue, vec_len, vec_capacity, length, take};
 ghost use Rattle.std.specs.BTreeSet.{contains, IsEmpty};
-ghost use Rattle.fold_law.specs.declared.limits.TheConstants.{LEAF};
-ghost use Rattle.risk_board.specs.Hands.{KeepsOrigin};
+ghost use Rattle.limit_table.specs.Files.{IsHeldByFile};
 ghost use Rattle.gate_ports.specs.Faults.{Rose};
-ghost use Rattle.risk_journal.specs.ActLists.{calls_of};
+ghost use Rattle.risk_journal.specs.ActLists.{calls_below, calls_at};
 ghost use Rattle.session_engine.specs.Follows.{IsByInput, FollowsSource, EndsAs};
-ghost use Rattle.session_engine.specs.LimitsOf.{limits_value};
+ghost use Rattle.session_engine.specs.Hands.{IsSumHand, IsHaltHand};
+ghost use Rattle.session_engine.specs.Trees.{halt_tree};
 ghost use Rattle.session_engine.specs.Stands.{InStep};
 ghost use Rattle.session_engine.specs.Runs.{RunsTo, StopsBy, end_after};
-ghost use Rattle.session_engine.specs.Counted.{no_totals};
+ghost use Rattle.session_engine.specs.Counted.{no_totals, no_tree};
 
-use crate::limits::Limits;
-use crate::take::{Sinks, State, Step, take_frame};
-use crate::totals::Totals;
+use crate::decide::State;
+use crate::hands::Hands;
+use crate::take::{Sinks, Step, take_frame};
+use crate::totals::{Totals, zero_trees};
 use fix_fields::{Found, Id, Writer, frame_is_within, frame_stays, next_frame};
+use fold_law::Memory;
 use gate_ports::{FetchEnd, Sink, Source, fetch_up_to};
+use limit_table::Limits;
 use risk_board::Hand;
 use risk_journal::{Act, End};
 use std::alloc::Global;
@@ -35,25 +38,29 @@ pub(crate) enum Stop {
 }
 
 /// Takes frames up to the first that isn't one of this stage.
-fn take_frames<H: Hand, V: Sink, C: Sink>(
+fn take_frames<H: Hand, M: Hand, V: Sink, C: Sink>(
     limits: &Limits,
-    hand: &mut H,
+    hands: &mut Hands<H, M>,
     state: &mut State,
     sinks: &mut Sinks<V, C>,
     bytes: &[u8],
 ) -> Stop
-    requires step { InStep (H.meaning hand.old) state.old.acts.items state.old.totals }
-    requires quota { (H.meaning hand.old).quota ≡ limits.now.quota }
+    requires held { IsHeldByFile limits.now }
+    requires step { InStep limits.now (H.meaning hands.old.sum) (M.meaning hands.old.halt)
+        state.old.acts.items state.old.trees.items }
     requires room { vec_len state.old.acts < vec_capacity state.old.acts }
     requires few { length bytes.now ≤ 33554432 }
-    requires runs { RunsTo (limits_value limits.now) bytes.now 0
-        (contains ⟦<Id as Ord>⟧.cmp state.old.ids) state.old.acts.items state.old.totals
+    requires runs { RunsTo limits.now bytes.now 0
+        (contains ⟦<Id as Ord>⟧.cmp state.old.ids) state.old.acts.items state.old.trees.items
+        state.old.totals
         (V.held sinks.old.venue) (V.held sinks.old.venue)
         (C.held sinks.old.client) (C.held sinks.old.client) }
-    ensures step { InStep (H.meaning hand.new) state.new.acts.items state.new.totals }
-    ensures origin { H.SameOrigin hand.old hand.new }
+    ensures step { InStep limits.now (H.meaning hands.new.sum) (M.meaning hands.new.halt)
+        state.new.acts.items state.new.trees.items }
+    ensures sum_origin { H.SameOrigin hands.old.sum hands.new.sum }
+    ensures halt_origin { M.SameOrigin hands.old.halt hands.new.halt }
     ensures room { vec_len state.new.acts < vec_capacity state.new.acts }
-    ensures found { StopsBy (limits_value limits.now) bytes.now result state.new.acts.items
+    ensures found { StopsBy limits.now bytes.now result state.new.acts.items
         (V.held sinks.old.venue) (V.held sinks.new.venue)
         (C.held sinks.old.client) (C.held sinks.new.client) }
     ensures write_fault { result ≡ Stop.Fault End.WriteFault
@@ -73,7 +80,7 @@ fn take_frames<H: Hand, V: Sink, C: Sink>(
         let Found::Frame(frame) = next else {
             return Stop::Found { place, next };
         };
-        match take_frame(limits, hand, state, sinks, bytes, &frame) {
+        match take_frame(limits, hands, state, sinks, bytes, &frame) {
             Step::Taken => place = frame.end,
             Step::Other => return Stop::Found { place, next },
             Step::Fault(end) => return Stop::Fault(end),
@@ -83,8 +90,8 @@ fn take_frames<H: Hand, V: Sink, C: Sink>(
 
 /// A session that has ended.
 #[derive(Drop)]
-pub struct SessionDone<H, S, V, C> {
-    pub hand: H,
+pub struct SessionDone<H: Hand, M: Hand, S, V, C> {
+    pub hands: Hands<H, M>,
     pub acts: Vec<Act>,
     pub end: End,
     pub source: S,
@@ -118,21 +125,26 @@ fn end_after(fetch: FetchEnd, goes_on: bool, place: usize, next: Found) -> End
 }
 
 /// Runs a session up to its end, over at most so many bytes of its source.
-pub fn run_session<H: Hand, S: Source, V: Sink, C: Sink>(
+pub fn run_session<H: Hand, M: Hand, S: Source, V: Sink, C: Sink>(
     alloc: Global,
     limits: &Limits,
-    mut hand: H,
+    mut hands: Hands<H, M>,
     mut source: S,
     venue: V,
     client: C,
-) -> SessionDone<H, S, V, C>
-    requires trees { 1 ≤ (H.meaning hand).trees }
-    requires quota { (H.meaning hand).quota ≡ limits.now.quota }
-    requires cap { (H.meaning hand).cap ≡ LEAF }
-    requires idle { (H.meaning hand).calls ≡ [] }
-    ensures origin { H.SameOrigin hand result.hand }
-    ensures calls { (H.meaning result.hand).calls ≡ calls_of result.acts.items }
-    ensures follows { IsByInput result.end → FollowsSource (limits_value limits.now) (S.left source)
+) -> SessionDone<H, M, S, V, C>
+    requires held { IsHeldByFile limits.now }
+    requires sum { IsSumHand limits.now (H.meaning hands.sum) }
+    requires halt { IsHaltHand (M.meaning hands.halt) }
+    requires sum_idle { (H.meaning hands.sum).calls ≡ [] }
+    requires halt_idle { (M.meaning hands.halt).calls ≡ [] }
+    ensures sum_origin { H.SameOrigin hands.sum result.hands.sum }
+    ensures halt_origin { M.SameOrigin hands.halt result.hands.halt }
+    ensures sum_calls { (H.meaning result.hands.sum).calls
+        ≡ calls_below (halt_tree limits.now) result.acts.items }
+    ensures halt_calls { (M.meaning result.hands.halt).calls
+        ≡ calls_at (halt_tree limits.now) result.acts.items }
+    ensures follows { IsByInput result.end → FollowsSource limits.now (S.left source)
         result.acts.items result.end (V.held venue) (V.held result.venue)
         (C.held client) (C.held result.client) }
     ensures read_fault { result.end ≡ End.ReadFault
@@ -152,12 +164,13 @@ pub fn run_session<H: Hand, S: Source, V: Sink, C: Sink>(
     let mut state = State {
         acts: Vec::new(alloc),
         ids: BTreeSet::new(alloc),
+        trees: Vec::new(alloc),
         totals: Totals::zero(),
         writer: Writer::new(),
     };
     if state.acts.reserve(1).is_err() {
         return SessionDone {
-            hand,
+            hands,
             acts: state.acts,
             end: End::Memory,
             source,
@@ -169,14 +182,14 @@ pub fn run_session<H: Hand, S: Source, V: Sink, C: Sink>(
     let end = run_frames(
         alloc,
         limits,
-        &mut hand,
+        &mut hands,
         &mut source,
         &mut state,
         &mut sinks,
     );
     state.acts.push_reserved(Act::Ended { end });
     SessionDone {
-        hand,
+        hands,
         acts: state.acts,
         end,
         source,
@@ -186,24 +199,31 @@ pub fn run_session<H: Hand, S: Source, V: Sink, C: Sink>(
 }
 
 /// Fetches the input and takes its frames, and says how the session ends.
-fn run_frames<H: Hand, S: Source, V: Sink, C: Sink>(
+fn run_frames<H: Hand, M: Hand, S: Source, V: Sink, C: Sink>(
     alloc: Global,
     limits: &Limits,
-    hand: &mut H,
+    hands: &mut Hands<H, M>,
     source: &mut S,
     state: &mut State,
     sinks: &mut Sinks<V, C>,
 ) -> End
-    requires step { InStep (H.meaning hand.old) state.old.acts.items state.old.totals }
-    requires quota { (H.meaning hand.old).quota ≡ limits.now.quota }
+    requires held { IsHeldByFile limits.now }
+    requires sum { IsSumHand limits.now (H.meaning hands.old.sum) }
+    requires halt { IsHaltHand (M.meaning hands.old.halt) }
+    requires sum_idle { (H.meaning hands.old.sum).calls ≡ [] }
+    requires halt_idle { (M.meaning hands.old.halt).calls ≡ [] }
     requires room { vec_len state.old.acts < vec_capacity state.old.acts }
     requires acts { state.old.acts.items ≡ [] }
     requires ids { IsEmpty state.old.ids }
     requires totals { state.old.totals ≡ no_totals }
-    ensures step { InStep (H.meaning hand.new) state.new.acts.items state.new.totals }
-    ensures origin { H.SameOrigin hand.old hand.new }
+    ensures sum_calls { (H.meaning hands.new.sum).calls
+        ≡ calls_below (halt_tree limits.now) state.new.acts.items }
+    ensures halt_calls { (M.meaning hands.new.halt).calls
+        ≡ calls_at (halt_tree limits.now) state.new.acts.items }
+    ensures sum_origin { H.SameOrigin hands.old.sum hands.new.sum }
+    ensures halt_origin { M.SameOrigin hands.old.halt hands.new.halt }
     ensures room { vec_len state.new.acts < vec_capacity state.new.acts }
-    ensures follows { IsByInput result → FollowsSource (limits_value limits.now) (S.left source.old)
+    ensures follows { IsByInput result → FollowsSource limits.now (S.left source.old)
         (state.new.acts.items ++ Act.Ended result ∷ []) result
         (V.held sinks.old.venue) (V.held sinks.new.venue)
         (C.held sinks.old.client) (C.held sinks.new.client) }
@@ -220,12 +240,16 @@ fn run_frames<H: Hand, S: Source, V: Sink, C: Sink>(
     ensures client_name { C.name sinks.new.client ≡ C.name sinks.old.client }
 {
     frame_stays();
+    match zero_trees(alloc, limits) {
+        Ok(trees) => state.trees = trees,
+        Err(Memory) => return End::Memory,
+    }
     let fetched = fetch_up_to(alloc, source, INPUT_MOST + 1);
     if fetched.end == FetchEnd::Memory {
         return End::Memory;
     }
     let goes_on = fetched.bytes.len() > INPUT_MOST;
-    match take_frames(limits, hand, state, sinks, input_of(&fetched.bytes)) {
+    match take_frames(limits, hands, state, sinks, input_of(&fetched.bytes)) {
         Stop::Fault(end) => end,
         Stop::Found { place, next } => end_after(fetched.end, goes_on, place, next),
     }

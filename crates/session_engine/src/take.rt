@@ -5,39 +5,29 @@ ghost use Rattle.std.specs.Io.KnownBytes.{Appends};
 ghost use Rattle.fix_fields.specs.Fields.{FieldValue};
 ghost use Rattle.fix_fields.specs.Places.{HasFieldsIn, IsSoundIn};
 ghost use Rattle.gate_ports.specs.Faults.{Rose};
-ghost use Rattle.session_engine.specs.LimitsOf.{limits_value};
-ghost use Rattle.risk_board.specs.Hands.{KeepsOrigin};
+ghost use Rattle.limit_table.specs.Files.{IsHeldByFile};
 ghost use Rattle.session_engine.specs.Orders.{order_value};
 ghost use Rattle.session_engine.specs.Session.{order_of};
 ghost use Rattle.session_engine.specs.Stands.{InStep, Decides};
 ghost use Rattle.session_engine.specs.Slotted.{IsRead};
 ghost use Rattle.session_engine.specs.Taken.{IsOrderIn, IsSomeFrame, IsOtherIn, HasSmallCounts, IsAnswered, TakesAny, LeavesAny, CountsGrow};
 
-use crate::decide::decide;
+use crate::decide::{State, decide};
 use crate::forward::write_forward;
+use crate::hands::Hands;
 use crate::ids::has_id;
-use crate::limits::Limits;
 use crate::order::Order;
 use crate::read::read_order;
 use crate::refusal::Refusal;
 use crate::report::write_refusal;
 use crate::slots::{Slots, slots_of};
-use crate::totals::Totals;
-use fix_fields::{Frame, Id, Writer};
+use fix_fields::{Frame, Id};
 use fold_law::Memory;
 use gate_ports::{PortFault, Sink, give_all};
+use limit_table::Limits;
 use risk_board::Hand;
-use risk_journal::{Act, End};
+use risk_journal::End;
 use std::collections::BTreeSet;
-
-/// What a session keeps as it goes.
-#[derive(Drop)]
-pub(crate) struct State {
-    pub acts: Vec<Act>,
-    pub ids: BTreeSet<Id>,
-    pub totals: Totals,
-    pub writer: Writer,
-}
 
 /// Where the messages of a session go.
 #[derive(Drop)]
@@ -85,6 +75,7 @@ fn answer<V: Sink, C: Sink>(
 ) -> Step
     requires order { IsOrderIn bytes.now frame.now slots.now }
     ensures acts { state.new.acts ≡ state.old.acts }
+    ensures trees { state.new.trees ≡ state.old.trees }
     ensures ids { state.new.ids ≡ state.old.ids }
     ensures totals { state.new.totals ≡ state.old.totals }
     ensures taken { result ≡ Step.Taken → (fields : List FieldValue)
@@ -141,64 +132,65 @@ fn order_in(bytes: &[u8], frame: &Frame, ids: &BTreeSet<Id>) -> Option<(Slots, O
 }
 
 /// Takes room for what one frame does, and does it.
-fn take_order<H: Hand>(
+fn take_order<H: Hand, M: Hand>(
     limits: &Limits,
-    hand: &mut H,
+    hands: &mut Hands<H, M>,
     state: &mut State,
     order: &Order,
 ) -> Result<Option<Refusal>, Memory>
-    requires step { InStep (H.meaning hand.old) state.old.acts.items state.old.totals }
-    requires quota { (H.meaning hand.old).quota ≡ limits.now.quota }
+    requires held { IsHeldByFile limits.now }
+    requires step { InStep limits.now (H.meaning hands.old.sum) (M.meaning hands.old.halt)
+        state.old.acts.items state.old.trees.items }
     requires room { vec_len state.old.acts < vec_capacity state.old.acts }
-    requires counts { HasSmallCounts state.old.totals }
+    requires counts { HasSmallCounts state.old.trees.items state.old.totals }
     requires new { contains ⟦<Id as Ord>⟧.cmp state.old.ids order.now.id ≡ false }
-    ensures step { InStep (H.meaning hand.new) state.new.acts.items state.new.totals }
-    ensures bounds { KeepsOrigin (H.meaning hand.old) (H.meaning hand.new) }
-    ensures origin { H.SameOrigin hand.old hand.new }
+    ensures step { InStep limits.now (H.meaning hands.new.sum) (M.meaning hands.new.halt)
+        state.new.acts.items state.new.trees.items }
+    ensures sum_origin { H.SameOrigin hands.old.sum hands.new.sum }
+    ensures halt_origin { M.SameOrigin hands.old.halt hands.new.halt }
     ensures room { vec_len state.new.acts < vec_capacity state.new.acts }
-    ensures ok { IfOk result (λ refusal. Decides (limits_value limits.now) (order_value order.now)
+    ensures ok { IfOk result (λ refusal. Decides limits.now (order_value order.now)
         (contains ⟦<Id as Ord>⟧.cmp state.old.ids) (contains ⟦<Id as Ord>⟧.cmp state.new.ids)
-        state.old.acts.items state.new.acts.items state.old.totals state.new.totals refusal) }
+        state.old.acts.items state.new.acts.items state.old.trees.items state.new.trees.items
+        state.old.totals state.new.totals refusal) }
 {
-    if state.acts.reserve(5).is_err() {
+    if state.acts.reserve(12).is_err() {
         return Err(Memory);
     }
-    hand.reserve(3)?;
-    decide(
-        hand,
-        &mut state.acts,
-        &mut state.ids,
-        &mut state.totals,
-        limits,
-        order,
-    )
+    hands.sum.reserve(9)?;
+    hands.halt.reserve(2)?;
+    decide(hands, state, limits, order)
 }
 
 /// Takes a frame, where it is one of this stage.
-pub(crate) fn take_frame<H: Hand, V: Sink, C: Sink>(
+pub(crate) fn take_frame<H: Hand, M: Hand, V: Sink, C: Sink>(
     limits: &Limits,
-    hand: &mut H,
+    hands: &mut Hands<H, M>,
     state: &mut State,
     sinks: &mut Sinks<V, C>,
     bytes: &[u8],
     frame: &Frame,
 ) -> Step
     requires stands { IsSomeFrame bytes.now frame.now }
-    requires step { InStep (H.meaning hand.old) state.old.acts.items state.old.totals }
-    requires quota { (H.meaning hand.old).quota ≡ limits.now.quota }
+    requires held { IsHeldByFile limits.now }
+    requires step { InStep limits.now (H.meaning hands.old.sum) (M.meaning hands.old.halt)
+        state.old.acts.items state.old.trees.items }
     requires room { vec_len state.old.acts < vec_capacity state.old.acts }
-    requires counts { HasSmallCounts state.old.totals }
-    ensures step { InStep (H.meaning hand.new) state.new.acts.items state.new.totals }
-    ensures bounds { KeepsOrigin (H.meaning hand.old) (H.meaning hand.new) }
-    ensures origin { H.SameOrigin hand.old hand.new }
+    requires counts { HasSmallCounts state.old.trees.items state.old.totals }
+    ensures step { InStep limits.now (H.meaning hands.new.sum) (M.meaning hands.new.halt)
+        state.new.acts.items state.new.trees.items }
+    ensures sum_origin { H.SameOrigin hands.old.sum hands.new.sum }
+    ensures halt_origin { M.SameOrigin hands.old.halt hands.new.halt }
     ensures room { vec_len state.new.acts < vec_capacity state.new.acts }
-    ensures taken { result ≡ Step.Taken → TakesAny (limits_value limits.now) bytes.now frame.now
+    ensures taken { result ≡ Step.Taken → TakesAny limits.now bytes.now frame.now
         (contains ⟦<Id as Ord>⟧.cmp state.old.ids) (contains ⟦<Id as Ord>⟧.cmp state.new.ids)
-        state.old.acts.items state.new.acts.items state.old.totals state.new.totals
+        state.old.acts.items state.new.acts.items state.old.trees.items state.new.trees.items
+        state.old.totals state.new.totals
         (V.held sinks.old.venue) (V.held sinks.new.venue)
         (C.held sinks.old.client) (C.held sinks.new.client) }
     ensures sound { result ≡ Step.Taken → frame.now.sound ≡ true }
-    ensures counts { result ≡ Step.Taken → CountsGrow state.old.totals state.new.totals }
+    ensures counts { result ≡ Step.Taken → CountsGrow state.old.trees.items state.new.trees.items
+        state.old.totals state.new.totals }
     ensures other { result ≡ Step.Other → LeavesAny bytes.now frame.now
         (contains ⟦<Id as Ord>⟧.cmp state.old.ids) state.old.acts.items state.new.acts.items
         (V.held sinks.old.venue) (V.held sinks.new.venue)
@@ -216,7 +208,7 @@ pub(crate) fn take_frame<H: Hand, V: Sink, C: Sink>(
     let Some((slots, order)) = order_in(bytes, frame, &state.ids) else {
         return Step::Other;
     };
-    match take_order(limits, hand, state, &order) {
+    match take_order(limits, hands, state, &order) {
         Err(_) => Step::Fault(End::Memory),
         Ok(refusal) => answer(sinks, state, bytes, frame, &slots, refusal),
     }

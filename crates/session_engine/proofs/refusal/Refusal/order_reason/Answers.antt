@@ -11,11 +11,34 @@ none : codes "0" ≡ decimal 0
 unfolding digits
 none = refl
 
+one : codes "1" ≡ decimal 1
+unfolding digits
+one = refl
+
+other : codes "99" ≡ decimal 99
+unfolding digits
+other = refl
+
 pub returns-in-Firm : goal.returns-in-Firm
 returns-in-Firm c = rw c.in-Firm.is three
+
+pub returns-in-Account : goal.returns-in-Account
+returns-in-Account c = rw c.in-Account.is three
+
+pub returns-in-Symbol : goal.returns-in-Symbol
+returns-in-Symbol c = rw c.in-Symbol.is three
+
+pub returns-in-Halt : goal.returns-in-Halt
+returns-in-Halt c = rw c.in-Halt.is none
 
 pub returns-in-Quota : goal.returns-in-Quota
 returns-in-Quota c = rw c.in-Quota.is none
 
 pub returns-in-Cap : goal.returns-in-Cap
 returns-in-Cap c = rw c.in-Cap.is three
+
+pub returns-in-UnknownAccount : goal.returns-in-UnknownAccount
+returns-in-UnknownAccount c = rw c.in-UnknownAccount.is other
+
+pub returns-in-UnknownSymbol : goal.returns-in-UnknownSymbol
+returns-in-UnknownSymbol c = rw c.in-UnknownSymbol.is one
