@@ -1,0 +1,4 @@
+pub mod Lowering
+pub mod Sums
+pub mod Kept
+mod Rows
