@@ -1,7 +1,7 @@
 -- The running totals stay the sums from scratch, as orders are added or changed.
 use Rattle.std.proofs.Common.{◌≡◌, ◌≤◌, ◌<◌, ◌+◌, ◌-◌, ◌*◌, ◌++◌, ℕ, List, [], ◌∷◌, length, Option, Some, None, slice_get, refl, sym, ap, subst, ◌∙◌}
-use Rattle.std.proofs.Common.{arith, get_or, set, length-set, length-append, All, sum_by, IfSome, Bool, true, false, cond}
-use Rattle.std.proofs.lemmas.List.Sums.{sum_by_push}
+use Rattle.std.proofs.Common.{arith, get_or, get_or-set_same, set, length-set, length-append, zero, suc, All, sum_by, IfSome, Bool, true, false, cond}
+use Rattle.std.proofs.lemmas.List.Sums.{sum_by_push, get_or-le-sum_by}
 use Rattle.std.proofs.lemmas.List.Elements.{All-set, All-push, All-weaker, All-get_or, All-head, All-tail}
 use Rattle.std.proofs.lemmas.Option.{slice_get_within, slice_get-get_or}
 use Rattle.std.specs.Map.{lookup}
@@ -10,18 +10,45 @@ use Rattle.exposure_book.specs.declared.answer.Proposal.{Proposal}
 use Rattle.exposure_book.specs.declared.answer.Terms3.{Terms3}
 use Rattle.exposure_book.specs.Orders.{exposure_of}
 use Rattle.exposure_book.specs.Books.{BookValue, firm_sum, account_sum, symbol_sum, units_up, proposal_of, terms_of}
-use Rattle.exposure_book.specs.Totals.{AreKept, IsPlaced, IsPartOf, Replaces, most_exposure}
+use Rattle.exposure_book.specs.Totals.{AreKept, IsPlaced, IsPartOf, most_exposure}
+use Rattle.exposure_book.specs.Proposals.{capped}
 use Rattle.exposure_book.proofs.Sums.{item_at, part-le-sum, sum-set, part_by, part_by-own, tree-le-firm, HasTotals, totals-set, totals-push}
 
 -- the place that a look-up gives is that of an order
 pub lookup_within : (test : List ℕ → Bool) (n : ℕ) (ids : List (List ℕ × ℕ)) → All (λ entry. entry.1 < n) ids
     → IfSome (lookup test ids) (λ place. place < n)
 lookup_within test n [] all = tt
-lookup_within test n (entry ∷ ids) all = by (test entry.0)
+lookup_within test n (entry ∷ ids) all =
+    by (test entry.0) (lookup_within test n ids (All-tail (λ entry. entry.1 < n) entry ids all))
   where
-    by : (b : Bool) → IfSome (cond b (Some entry.1) (lookup test ids)) (λ place. place < n)
-    by true = All-head _ entry ids all
-    by false = lookup_within test n ids (All-tail _ entry ids all)
+    by : (b : Bool) → IfSome (lookup test ids) (λ place. place < n)
+        → IfSome (cond b (Some entry.1) (lookup test ids)) (λ place. place < n)
+    by true rest = All-head (λ entry. entry.1 < n) entry ids all
+    by false rest = rest
+
+-- among so many accounts and symbols, and among as many
+placed_along : (orders : List Order) (m m' n n' : ℕ) → m' ≡ m → n' ≡ n
+    → All (IsPlaced m n) orders → All (IsPlaced m' n') orders
+placed_along orders m m' n n' same_m same_n all =
+    subst (λ k. All (IsPlaced k n') orders) (sym same_m)
+    (subst (λ k. All (IsPlaced m k) orders) (sym same_n) all)
+
+-- a number that was read at a place, by any default
+pub index_is : (xs : List ℕ) (i r : ℕ) → i < length xs → r ≡ get_or xs i r → r ≡ get_or xs i 0
+index_is [] i r within is = absurd (omega arith)
+index_is (x ∷ xs) zero r within is = is
+index_is (x ∷ xs) (suc i) r within is = index_is xs i r (omega arith) is
+
+-- an order that is put at a place counts for no more than all
+pub changed_capped : (orders : List Order) (place : ℕ) (next : Order) → place < length orders
+    → firm_sum (set orders place next) ≤ most_exposure → exposure_of next ≤ most_exposure
+changed_capped orders place next within capped =
+    let there : place < length (set orders place next) = rw length-set within in
+    let below = get_or-le-sum_by exposure_of (set orders place next) place next there in
+    let at = get_or-set_same orders place next next within in
+    let part : exposure_of next ≤ firm_sum (set orders place next) =
+    subst (λ o. exposure_of o ≤ firm_sum (set orders place next)) at below in
+    omega arith
 
 -- three values
 abbrev proposal_with : ℕ → ℕ → ℕ → Proposal
@@ -40,7 +67,6 @@ order_found orders place o within is =
 
 module _ (orders : List Order) (ids : List (List ℕ × ℕ)) (total : ℕ) (by_account by_symbol : List ℕ)
     (kept : AreKept orders ids total by_account by_symbol) where
-
   account_totals : HasTotals (λ o. o.account) by_account orders
   account_totals = kept.accounts
 
@@ -77,7 +103,7 @@ module _ (orders : List Order) (ids : List (List ℕ × ℕ)) (total : ℕ) (by_
     pub order_placed : IsPlaced (length by_account) (length by_symbol) o
     order_placed =
         let all = All-get_or (IsPlaced (length by_account) (length by_symbol)) orders place o
-            (slice_get_within orders place o found) kept.placed in
+        (slice_get_within orders place o found) kept.placed in
         subst (IsPlaced (length by_account) (length by_symbol)) (item_at orders place o found) all
 
     pub order_capped : exposure_of o ≤ most_exposure
@@ -128,8 +154,8 @@ module _ (orders : List Order) (ids : List (List ℕ × ℕ)) (total : ℕ) (by_
 
       pub kept_set : firm_sum (set orders place next) ≤ most_exposure
           → AreKept (set orders place next) ids (total - exposure_of o + exposure_of next)
-              (set by_account next.account (get_or by_account next.account 0 - exposure_of o + exposure_of next))
-              (set by_symbol next.symbol (get_or by_symbol next.symbol 0 - exposure_of o + exposure_of next))
+          (set by_account next.account (get_or by_account next.account 0 - exposure_of o + exposure_of next))
+          (set by_symbol next.symbol (get_or by_symbol next.symbol 0 - exposure_of o + exposure_of next))
       kept_set capped = record {
         firm = ap (λ n. n - exposure_of o + exposure_of next) kept.firm
             ∙ sym (sum-set exposure_of orders place o found next);
@@ -138,8 +164,9 @@ module _ (orders : List Order) (ids : List (List ℕ × ℕ)) (total : ℕ) (by_
         capped = capped;
         placed =
             let now : IsPlaced (length by_account) (length by_symbol) next = record { account = next_account; symbol = next_symbol } in
-            rw (length-set, length-set)
-                (All-set (IsPlaced (length by_account) (length by_symbol)) orders place next now kept.placed);
+            placed_along (set orders place next) (length by_account) _ (length by_symbol) _
+            (length-set by_account next.account _) (length-set by_symbol next.symbol _)
+            (All-set (IsPlaced (length by_account) (length by_symbol)) orders place next now kept.placed);
         named = rw length-set kept.named;
       }
 
@@ -161,18 +188,33 @@ module _ (orders : List Order) (ids : List (List ℕ × ℕ)) (total : ℕ) (by_
           let a_had = account_totals next.account next_account in
           let s_had = symbol_totals next.symbol next_symbol in
           let firm_is : firm_sum (set orders place next) ≡ total - exposure_of o + exposure_of next =
-              firm ∙ ap (λ n. n - exposure_of o + exposure_of next) (sym kept.firm) in
+          firm ∙ ap (λ n. n - exposure_of o + exposure_of next) (sym kept.firm) in
           let account_is : account_sum next.account (set orders place next)
-              ≡ get_or by_account next.account 0 - exposure_of o + exposure_of next = rw (a_old, a_new, ← a_had) at account in
+          ≡ get_or by_account next.account 0 - exposure_of o + exposure_of next = rw (a_old, a_new, ← a_had) at account in
           let symbol_is : symbol_sum next.symbol (set orders place next)
-              ≡ get_or by_symbol next.symbol 0 - exposure_of o + exposure_of next = rw (s_old, s_new, ← s_had) at symbol in
+          ≡ get_or by_symbol next.symbol 0 - exposure_of o + exposure_of next = rw (s_old, s_new, ← s_had) at symbol in
           proposal_by firm_is account_is symbol_is
+
+      -- the values, by what the code has of each
+      pub values_by : (old new f a s had_a had_s : ℕ) → old ≡ exposure_of o → new ≡ exposure_of next
+          → f ≡ total - old + new → had_a ≡ get_or by_account next.account 0 → a ≡ had_a - old + new
+          → had_s ≡ get_or by_symbol next.symbol 0 → s ≡ had_s - old + new
+          → capped (proposal_with (units_up f) (units_up a) (units_up s))
+          ≡ capped (proposal_of (set orders place next) next.account next.symbol)
+      values_by old new f a s had_a had_s old_is new_is f_is had_a_is a_is had_s_is s_is =
+          let firm : f ≡ total - exposure_of o + exposure_of next =
+          f_is ∙ (λ i. total - old_is i + new_is i) in
+          let account : a ≡ get_or by_account next.account 0 - exposure_of o + exposure_of next =
+          a_is ∙ (λ i. had_a_is i - old_is i + new_is i) in
+          let symbol : s ≡ get_or by_symbol next.symbol 0 - exposure_of o + exposure_of next =
+          s_is ∙ (λ i. had_s_is i - old_is i + new_is i) in
+          ap capped (proposal_by firm account symbol ∙ sym values_set)
 
   module _ (next : Order) (placed : IsPlaced (length by_account) (length by_symbol) next) where
     pub kept_push : (id : List ℕ) → firm_sum (orders ++ next ∷ []) ≤ most_exposure
         → AreKept (orders ++ next ∷ []) (ids ++ (id, length orders) ∷ []) (total - 0 + exposure_of next)
-            (set by_account next.account (get_or by_account next.account 0 - 0 + exposure_of next))
-            (set by_symbol next.symbol (get_or by_symbol next.symbol 0 - 0 + exposure_of next))
+        (set by_account next.account (get_or by_account next.account 0 - 0 + exposure_of next))
+        (set by_symbol next.symbol (get_or by_symbol next.symbol 0 - 0 + exposure_of next))
     kept_push id capped = record {
       firm =
           let is = kept.firm in
@@ -181,54 +223,25 @@ module _ (orders : List Order) (ids : List (List ℕ × ℕ)) (total : ℕ) (by_
       accounts = totals-push (λ x. x.account) by_account orders account_totals next placed.account;
       symbols = totals-push (λ x. x.symbol) by_symbol orders symbol_totals next placed.symbol;
       capped = capped;
-      placed = rw (length-set, length-set)
+      placed = placed_along (orders ++ next ∷ []) (length by_account) _ (length by_symbol) _
+          (length-set by_account next.account _) (length-set by_symbol next.symbol _)
           (All-push (IsPlaced (length by_account) (length by_symbol)) orders next kept.placed placed);
       named =
           let more : length (orders ++ next ∷ []) ≡ length orders + 1 = length-append orders (next ∷ []) in
           All-push (λ entry. entry.1 < length (orders ++ next ∷ [])) ids (id, length orders)
-              (All-weaker (λ entry. entry.1 < length orders) (λ entry. entry.1 < length (orders ++ next ∷ []))
-                  (λ entry below. omega arith) ids kept.named)
-              (omega arith);
+          (All-weaker (λ entry. entry.1 < length orders) (λ entry. entry.1 < length (orders ++ next ∷ []))
+          (λ entry below. omega arith) ids kept.named)
+          (omega arith);
     }
-
-    -- the sums of the three trees with the order as well
-    pub values_push : proposal_of (orders ++ next ∷ []) next.account next.symbol
-        ≡ record {
-          firm = units_up (total - 0 + exposure_of next);
-          account = units_up (get_or by_account next.account 0 - 0 + exposure_of next);
-          symbol = units_up (get_or by_symbol next.symbol 0 - 0 + exposure_of next);
-        }
-    values_push =
-        let firm = sum_by_push exposure_of orders next in
-        let account = sum_by_push (part_by (λ x. x.account) next.account) orders next in
-        let symbol = sum_by_push (part_by (λ x. x.symbol) next.symbol) orders next in
-        let a_new = part_by-own (λ x. x.account) next.account next refl in
-        let s_new = part_by-own (λ x. x.symbol) next.symbol next refl in
-        let a_had = account_totals next.account placed.account in
-        let s_had = symbol_totals next.symbol placed.symbol in
-        let is = kept.firm in
-        let firm_is : firm_sum (orders ++ next ∷ []) ≡ total - 0 + exposure_of next = omega arith in
-        let account_is : account_sum next.account (orders ++ next ∷ [])
-            ≡ get_or by_account next.account 0 - 0 + exposure_of next = omega arith in
-        let symbol_is : symbol_sum next.symbol (orders ++ next ∷ [])
-            ≡ get_or by_symbol next.symbol 0 - 0 + exposure_of next = omega arith in
-        proposal_by firm_is account_is symbol_is
 
   -- one more id of an order
   pub kept_named : (id : List ℕ) (place : ℕ) → place < length orders
       → AreKept orders (ids ++ (id, place) ∷ []) total by_account by_symbol
-  kept_named id place within = record kept {
+  kept_named id place within = record {
+    firm = kept.firm;
+    accounts = kept.accounts;
+    symbols = kept.symbols;
+    capped = kept.capped;
+    placed = kept.placed;
     named = All-push (λ entry. entry.1 < length orders) ids (id, place) kept.named within;
   }
-
-  -- the values of the three trees of an order
-  pub terms_kept : (o : Order) → IsPlaced (length by_account) (length by_symbol) o
-      → terms_of orders o ≡ record {
-        account = o.account;
-        symbol = o.symbol;
-        firm_value = units_up total;
-        account_value = units_up (get_or by_account o.account 0);
-        symbol_value = units_up (get_or by_symbol o.symbol 0);
-      }
-  terms_kept o placed =
-      rw (kept.firm, account_totals o.account placed.account, symbol_totals o.symbol placed.symbol) refl

@@ -1,4 +1,6 @@
 pub mod Lowering
 pub mod Sums
 pub mod Kept
+pub mod Inserted
+pub mod Lowered
 mod Rows

@@ -51,14 +51,14 @@ replaced_counts_less : (o : Order) (total price : ℕ) → pending_total o.pendi
     → o.notional + leaves_by o.ended (max total 0) o.filled * max price 0 ≤ exposure_of o
 replaced_counts_less o total price of_total of_price =
     counts_less o.notional (leaves_by o.ended (max total 0) o.filled) (leaves_of o)
-        (max price 0) (reserve_of o)
-        (leaves_by-le o.ended (max total 0) (open_total o) o.filled (omega arith)) (omega arith)
+    (max price 0) (reserve_of o)
+    (leaves_by-le o.ended (max total 0) (open_total o) o.filled (omega arith)) (omega arith)
 
 replaced_if : (o : Order) (own : List ℕ) (total price : ℕ) → pending_total o.pending ≡ total
     → pending_price o.pending ≡ price → (same : Bool)
     → Lowers o (if same
-        then record o { total = total; price = price; current = own; pending = pending.Nothing }
-        else o)
+    then record o { total = total; price = price; current = own; pending = pending.Nothing }
+    else o)
 replaced_if o own total price of_total of_price true = record {
   account = refl;
   symbol = refl;
@@ -104,9 +104,9 @@ fill_counts_less : (notional quantity price left leaves reserve : ℕ) → left 
 fill_counts_less notional quantity price left leaves reserve whole cheap =
     let filled : quantity * price ≤ quantity * reserve = mul-le-mul_left quantity cheap in
     let split : (left + quantity) * reserve ≡ left * reserve + quantity * reserve =
-        add-mul left quantity reserve in
+    add-mul left quantity reserve in
     let all : leaves * reserve ≡ left * reserve + quantity * reserve =
-        ap (λ n. n * reserve) (sym whole) ∙ split in
+    ap (λ n. n * reserve) (sym whole) ∙ split in
     omega arith
 
 lowers_traded : (o : Order) (quantity price : ℕ) → quantity ≤ leaves_of o → price ≤ reserve_of o
@@ -138,3 +138,13 @@ order_after_lowers o id Expired = lowers_ended o
 order_after_lowers o id (Trade quantity price) =
     lowers_if_covered o quantity price (is_covered quantity price o) refl
 order_after_lowers o id Else = lowers_itself o
+
+-- a cancel that is pending adds nothing
+pub lowers_with_cancel : (o : Order) (id : List ℕ) → Lowers o (record o { pending = pending.Cancel id })
+lowers_with_cancel o id = record {
+  account = refl;
+  symbol = refl;
+  exposure = counts_less o.notional (leaves_by o.ended (max o.total 0) o.filled) (leaves_of o)
+      (max o.price 0) (reserve_of o)
+      (leaves_by-le o.ended (max o.total 0) (open_total o) o.filled (omega arith)) (omega arith);
+}

@@ -63,10 +63,13 @@ module _ (key : Order → ℕ) where
       where
         v : ℕ
         v = get_or totals (key y) 0 - exposure_of x + exposure_of y
+
         changed : sum_by (part_by key a) (set xs i y) ≡ sum_by (part_by key a) xs - part_by key a x + part_by key a y
         changed = sum-set (part_by key a) xs i x found y
+
         there : a < length totals
         there = subst (λ n. a < n) (length-set totals (key y) v) below
+
         by : (b : Bool) → eqb (key y) a ≡ b → get_or (set totals (key y) v) a 0 ≡ sum_by (part_by key a) (set xs i y)
         by true is =
             let own : key y ≡ a = eqb-true (key y) a is in
@@ -97,10 +100,13 @@ module _ (key : Order → ℕ) where
       where
         v : ℕ
         v = get_or totals (key y) 0 - 0 + exposure_of y
+
         changed : sum_by (part_by key a) (xs ++ y ∷ []) ≡ sum_by (part_by key a) xs + part_by key a y
         changed = sum_by_push (part_by key a) xs y
+
         there : a < length totals
         there = subst (λ n. a < n) (length-set totals (key y) v) below
+
         by : (b : Bool) → eqb (key y) a ≡ b → get_or (set totals (key y) v) a 0 ≡ sum_by (part_by key a) (xs ++ y ∷ [])
         by true is =
             let own : key y ≡ a = eqb-true (key y) a is in

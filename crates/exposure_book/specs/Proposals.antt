@@ -122,7 +122,7 @@ replace_of book request limits place (Some order) =
     if not (is_of_order request limits order) then Err fault.Mismatch
     else (if nat_le request.quantity order.filled then Err fault.Quantity
     else capped (proposal_of (slice_set book.orders place (with_replace request limits order))
-        order.account order.symbol))
+    order.account order.symbol))
 
 -- the faults that a replace shares with a cancel come first
 abbrev pub replace_at : BookValue → Replace → Limits → Result ℕ BookFault → Result Proposal BookFault

@@ -1,5 +1,5 @@
 -- What a report makes of the order that it names, and what it is answered.
-use Rattle.std.specs.Prelude.{ℕ, ◌+◌, ◌*◌, List, Option, Some, None, Bool, true, ◌&&◌, nat_le}
+use Rattle.std.specs.Prelude.{ℕ, ◌+◌, ◌*◌, ◌≤◌, List, Option, Some, None, Bool, true, ◌&&◌, nat_le}
 use Rattle.std.specs.Prelude.{slice_get, slice_set, if◌then◌else◌}
 use Rattle.fix_orders.specs.declared.message.Exec.{Exec}
 use Rattle.fix_orders.specs.declared.message.Exec.TheVariants.{New, Canceled, Replaced, Rejected, Expired, Trade, Else}
@@ -12,7 +12,7 @@ use Rattle.exposure_book.specs.declared.pending.Pending.{Pending}
 use Rattle.exposure_book.specs.declared.pending.Pending.TheVariants as pending
 use Rattle.exposure_book.specs.Pendings.{is_same_id, has_id_pending}
 use Rattle.exposure_book.specs.Orders.{leaves_of, reserve_of}
-use Rattle.exposure_book.specs.Books.{BookValue, place_of, terms_of}
+use Rattle.exposure_book.specs.Books.{BookValue, place_of, terms_of, units_up, firm_sum, account_sum, symbol_sum}
 
 -- the order has ended: nothing of it is left, and no request is pending
 abbrev pub ended_order : Order → Order
@@ -116,3 +116,9 @@ outcome_of_reject_by book id (Some place) =
 abbrev pub outcome_of_reject : BookValue → CancelReject → Outcome
 outcome_of_reject book reject =
     outcome_of_reject_by book reject.id (place_of reject.id book.ids)
+
+-- the value of no tree is larger
+pub record RaisesNothing (old new : List Order) : Type 0 where
+  pub firm : units_up (firm_sum new) ≤ units_up (firm_sum old)
+  pub accounts : (a : ℕ) → units_up (account_sum a new) ≤ units_up (account_sum a old)
+  pub symbols : (s : ℕ) → units_up (symbol_sum s new) ≤ units_up (symbol_sum s old)

@@ -42,11 +42,11 @@ impl Model for Book {
     ghost Value = { BookValue };
 
     ghost view = { λ b. record {
-        accounts = length b.accounts.items;
-        symbols = length b.symbols.items;
-        orders = b.orders.items;
-        ids = b.ids.entries;
-        room = min (vec_capacity b.orders - vec_len b.orders) (spare b.ids);
+      accounts = length b.accounts.items;
+      symbols = length b.symbols.items;
+      orders = b.orders.items;
+      ids = b.ids.entries;
+      room = min (vec_capacity b.orders - vec_len b.orders) (spare b.ids);
     } };
 
     ghost invariant = { λ b.
@@ -79,9 +79,9 @@ fn capped(firm: u128, account: u128, symbol: u128) -> Result<Proposal, BookFault
     requires account { account + UNIT < 2 ^ 128 }
     requires symbol { symbol + UNIT < 2 ^ 128 }
     ensures { result ≡ capped (record {
-        firm = units_up firm;
-        account = units_up account;
-        symbol = units_up symbol;
+      firm = units_up firm;
+      account = units_up account;
+      symbol = units_up symbol;
     }) }
 {
     let most = u128::from(LEAF);
@@ -225,7 +225,9 @@ impl Book {
         self.firm = moved(self.firm, 0, new);
         self.accounts[account] = moved(self.accounts[account], 0, new);
         self.symbols[symbol] = moved(self.symbols[symbol], 0, new);
-        let _known = self.ids.insert(IdKey::new(&next.current), self.orders.len());
+        let _known = self
+            .ids
+            .insert(IdKey::new(&next.current), self.orders.len());
         self.orders.push_reserved(*next);
     }
 

@@ -11,12 +11,17 @@
 
 mod answer;
 mod book;
+mod committing;
 mod id_key;
+mod laws;
 mod order;
 mod pending;
 mod price;
+mod proposing;
+mod reporting;
 
 pub use answer::{Applied, BookFault, Proposal, Terms3};
 pub use book::Book;
+pub use laws::no_report_raises_a_value;
 pub use order::Order;
 pub use pending::Pending;

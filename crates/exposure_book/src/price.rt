@@ -17,13 +17,7 @@ pub(crate) fn reserve_price(side: u8, kind: OrderKind, price: u64, high: u64) ->
     ensures { result ≡ reserve_price side kind price high }
 {
     match kind {
-        OrderKind::Limit => {
-            if side == BUY {
-                price
-            } else {
-                high
-            }
-        }
+        OrderKind::Limit => { if side == BUY { price } else { high } }
         OrderKind::Market => high,
     }
 }

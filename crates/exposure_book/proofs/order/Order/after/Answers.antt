@@ -16,4 +16,4 @@ returns-in-Rejected-clause-lowers c =
 pub returns-in-Trade-clause-lowers : goal.returns-in-Trade-clause-lowers
 returns-in-Trade-clause-lowers c =
     rw c.traded.ensures
-        (order_after_lowers c.args.self.now c.args.id.now (Trade c.in-Trade.quantity c.in-Trade.price))
+    (order_after_lowers c.args.self.now c.args.id.now (Trade c.in-Trade.quantity c.in-Trade.price))
