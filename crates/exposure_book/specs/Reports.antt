@@ -1,5 +1,5 @@
 -- What a report makes of the order that it names, and what it is answered.
-use Rattle.std.specs.Prelude.{ℕ, ◌+◌, ◌*◌, ◌≤◌, List, Option, Some, None, Bool, true, ◌&&◌, nat_le}
+use Rattle.std.specs.Prelude.{ℕ, ◌+◌, ◌*◌, ◌≤◌, ◌<◌, ◌⊎◌, List, Option, Some, None, Bool, true, ◌&&◌, nat_le}
 use Rattle.std.specs.Prelude.{slice_get, slice_set, if◌then◌else◌}
 use Rattle.fix_orders.specs.declared.message.Exec.{Exec}
 use Rattle.fix_orders.specs.declared.message.Exec.TheVariants.{New, Canceled, Replaced, Rejected, Expired, Trade, Else}
@@ -12,7 +12,7 @@ use Rattle.exposure_book.specs.declared.pending.Pending.{Pending}
 use Rattle.exposure_book.specs.declared.pending.Pending.TheVariants as pending
 use Rattle.exposure_book.specs.Pendings.{is_same_id, has_id_pending}
 use Rattle.exposure_book.specs.Orders.{leaves_of, reserve_of}
-use Rattle.exposure_book.specs.Books.{BookValue, place_of, terms_of, units_up, firm_sum, account_sum, symbol_sum}
+use Rattle.exposure_book.specs.Books.{BookValue, place_of, order_with, terms_of, units_up, firm_sum, account_sum, symbol_sum}
 
 -- the order has ended: nothing of it is left, and no request is pending
 abbrev pub ended_order : Order → Order
@@ -122,3 +122,18 @@ pub record RaisesNothing (old new : List Order) : Type 0 where
   pub firm : units_up (firm_sum new) ≤ units_up (firm_sum old)
   pub accounts : (a : ℕ) → units_up (account_sum a new) ≤ units_up (account_sum a old)
   pub symbols : (s : ℕ) → units_up (symbol_sum s new) ≤ units_up (symbol_sum s old)
+
+-- the order that has the id of a report
+abbrev pub reported_order : BookValue → Option (List ℕ) → Option Order
+reported_order book None = None
+reported_order book (Some id) = order_with book id
+
+-- a trade of more than is left, or above the reserve price
+abbrev pub IsBeyond : Exec → Order → Type 0
+IsBeyond New order = ⊥
+IsBeyond Canceled order = ⊥
+IsBeyond Replaced order = ⊥
+IsBeyond Rejected order = ⊥
+IsBeyond Expired order = ⊥
+IsBeyond (Trade quantity price) order = (leaves_of order < quantity) ⊎ (reserve_of order < price)
+IsBeyond Else order = ⊥

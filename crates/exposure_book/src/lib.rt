@@ -25,3 +25,10 @@ pub use book::Book;
 pub use laws::no_report_raises_a_value;
 pub use order::Order;
 pub use pending::Pending;
+
+#[cfg(test)]
+mod plain_book;
+#[cfg(test)]
+mod sequences;
+#[cfg(test)]
+mod tests;

@@ -1,0 +1,284 @@
+//! What no clause says: that each call answers with ample memory, and the values of whole sequences of
+//! messages, worked by hand, and summed from scratch by a plain book.
+ghost use Rattle.std.specs.Prelude.{◌≡◌, ◌<◌, length};
+
+use crate::plain_book::PlainBook;
+use crate::proposing::{new_order, with_replace};
+use crate::sequences::{SEQUENCES, Step, Want};
+use crate::{Applied, Book, Pending, Terms3};
+use fix_orders::{Cancel, CancelReject, Head, Id, NewOrder, OrderKind, Replace, Report};
+use limit_table::{Limits, read_limits};
+use std::alloc::Global;
+use std::process::Abort;
+use std::test::*;
+
+/// Two accounts; a symbol up to 12.0000 and one up to 20.0000.
+const LIMITS: &[u8] = b"firm,,1000000,,,
+account,ACC,1000000,,,
+account,OTHER,1000000,,,
+symbol,XYZ,1000000,1,12,100000
+symbol,ABC,1000000,1,20,100000
+";
+
+/// The id of this text.
+fn id(text: &[u8]) -> Result<Id, Fail> {
+    match Id::read(text) {
+        Ok(id) => Ok(id),
+        Err(_) => Err("no id")?,
+    }
+}
+
+/// A head that no book looks at.
+fn head() -> Result<Head, Fail> {
+    Ok(Head {
+        sender: id(b"C1")?,
+        target: id(b"GATE")?,
+        seq: 1,
+        time: id(b"20240102-10:00:00")?,
+    })
+}
+
+/// A market order where the price is 0.
+fn kind(price: u64) -> OrderKind {
+    if price == 0 {
+        OrderKind::Market
+    } else {
+        OrderKind::Limit
+    }
+}
+
+/// The upper collar price of this symbol.
+fn high(symbol: u32) -> u64 {
+    if symbol == 0 { 120_000 } else { 200_000 }
+}
+
+/// The values of an order that was applied, as they are wanted.
+fn values(terms: &Terms3) -> Want {
+    Want::Values([terms.firm_value, terms.account_value, terms.symbol_value])
+}
+
+fn reported(applied: Applied) -> Want {
+    match applied {
+        Applied::Applied(terms) => values(&terms),
+        Applied::Stray => Want::Stray,
+        Applied::Over => Want::Over,
+    }
+}
+
+/// Proposes this order and commits it where it is taken.
+fn take_new(
+    rt: &impl Abort,
+    book: &mut Book,
+    plain: &mut PlainBook,
+    asked: &NewOrder,
+    account: u32,
+    symbol: u32,
+) -> Result<Want, Fail>
+    requires accounts { book.old.accounts ≡ 2 }
+    requires symbols { book.old.symbols ≡ 2 }
+    ensures accounts { book.new.accounts ≡ 2 }
+    ensures symbols { book.new.symbols ≡ 2 }
+{
+    assert!(rt; account < 2 && symbol < 2, "in range");
+    book.reserve_one()?;
+    match book.propose_new(asked, account, symbol, high(symbol)) {
+        Ok(values) => {
+            book.commit_new(asked, account, symbol, high(symbol));
+            plain.add(new_order(asked, account, symbol, high(symbol)))?;
+            Ok(Want::Values([values.firm, values.account, values.symbol]))
+        }
+        Err(fault) => Ok(Want::Fault(fault)),
+    }
+}
+
+/// Proposes this cancel and commits it where it is taken.
+fn take_cancel(book: &mut Book, plain: &mut PlainBook, request: &Cancel) -> Result<Want, Fail>
+    requires accounts { book.old.accounts ≡ 2 }
+    requires symbols { book.old.symbols ≡ 2 }
+    ensures accounts { book.new.accounts ≡ 2 }
+    ensures symbols { book.new.symbols ≡ 2 }
+{
+    book.reserve_one()?;
+    match book.propose_cancel(request) {
+        Ok(()) => {
+            book.commit_cancel(request);
+            let pending = Pending::Cancel { id: request.id };
+            plain.ask(&request.id, &request.orig, pending)?;
+            Ok(Want::Taken)
+        }
+        Err(fault) => Ok(Want::Fault(fault)),
+    }
+}
+
+/// Proposes this replace and commits it where it is taken.
+fn take_replace(
+    book: &mut Book,
+    plain: &mut PlainBook,
+    request: &Replace,
+    limits: &Limits,
+) -> Result<Want, Fail>
+    requires accounts { book.old.accounts ≡ 2 }
+    requires symbols { book.old.symbols ≡ 2 }
+    requires account_rows { length limits.now.accounts ≡ 2 }
+    requires symbol_rows { length limits.now.symbols ≡ 2 }
+    ensures accounts { book.new.accounts ≡ 2 }
+    ensures symbols { book.new.symbols ≡ 2 }
+{
+    book.reserve_one()?;
+    match book.propose_replace(request, limits) {
+        Ok(values) => {
+            book.commit_replace(request, limits);
+            let order = plain.order(&request.orig).ok_or("an order")?;
+            if order.account < 2 && order.symbol < 2 {
+                let pending = with_replace(request, limits, &order).pending;
+                plain.ask(&request.id, &request.orig, pending)?;
+            }
+            Ok(Want::Values([values.firm, values.account, values.symbol]))
+        }
+        Err(fault) => Ok(Want::Fault(fault)),
+    }
+}
+
+/// Gives the book one message, and the plain book the same.
+fn take(
+    rt: &impl Abort,
+    book: &mut Book,
+    plain: &mut PlainBook,
+    limits: &Limits,
+    step: &Step,
+) -> Result<Want, Fail>
+    requires accounts { book.old.accounts ≡ 2 }
+    requires symbols { book.old.symbols ≡ 2 }
+    requires account_rows { length limits.now.accounts ≡ 2 }
+    requires symbol_rows { length limits.now.symbols ≡ 2 }
+    ensures accounts { book.new.accounts ≡ 2 }
+    ensures symbols { book.new.symbols ≡ 2 }
+{
+    match *step {
+        Step::New {
+            id: text,
+            account,
+            symbol,
+            side,
+            quantity,
+            price,
+        } => {
+            let asked = NewOrder {
+                head: head()?,
+                id: id(text)?,
+                account: id(b"ACC")?,
+                symbol: id(b"XYZ")?,
+                side,
+                quantity,
+                kind: kind(price),
+                price,
+            };
+            take_new(rt, book, plain, &asked, account, symbol)
+        }
+        Step::Cancel { id: text, orig } => {
+            let request = Cancel {
+                head: head()?,
+                id: id(text)?,
+                orig: id(orig)?,
+            };
+            take_cancel(book, plain, &request)
+        }
+        Step::Replace {
+            id: text,
+            orig,
+            account,
+            symbol,
+            side,
+            quantity,
+            price,
+        } => {
+            let request = Replace {
+                head: head()?,
+                id: id(text)?,
+                orig: id(orig)?,
+                account: Id::read(account).ok(),
+                symbol: id(symbol)?,
+                side,
+                quantity,
+                kind: kind(price),
+                price,
+            };
+            take_replace(book, plain, &request, limits)
+        }
+        Step::Report { id: text, exec } => {
+            let own = Id::read(text).ok();
+            let report = Report {
+                head: head()?,
+                id: own,
+                exec,
+            };
+            let applied = book.apply(&report);
+            if let (Some(own), Applied::Applied(_)) = (own, applied) {
+                plain.report(&own, exec);
+            }
+            Ok(reported(applied))
+        }
+        Step::Reject { id: text } => {
+            let reject = CancelReject {
+                head: head()?,
+                id: id(text)?,
+            };
+            plain.reject(&reject.id);
+            Ok(reported(book.apply_reject(&reject)))
+        }
+    }
+}
+
+/// The id by which a step names its order once it is taken.
+fn named(step: &Step) -> &'static [u8] {
+    match *step {
+        Step::New { id, .. }
+        | Step::Cancel { id, .. }
+        | Step::Replace { id, .. }
+        | Step::Report { id, .. }
+        | Step::Reject { id } => id,
+    }
+}
+
+/// Compares the values with those that the plain book sums from scratch.
+fn compare(
+    rt: &impl Abort,
+    book: &Book,
+    plain: &PlainBook,
+    step: &Step,
+    got: &Want,
+) -> Result<(), Fail> {
+    let Want::Values([firm, account, symbol]) = *got else {
+        return Ok(());
+    };
+    let own = id(named(step))?;
+    let pair = book.pair_of(&own).ok_or("a pair")?;
+    let sums = plain.values(pair.0, pair.1);
+    assert_eq!(rt;
+        sums,
+        [u128::from(firm), u128::from(account), u128::from(symbol)],
+        "from scratch"
+    );
+    Ok(())
+}
+
+#[test]
+fn values_follow_each_message(rt: HostRuntime) -> Result<(), Fail> {
+    let Ok(limits) = read_limits(rt.alloc(), LIMITS) else {
+        return Err("limits")?;
+    };
+    assert!(&rt;
+        limits.accounts.rows().len() == 2 && limits.symbols.rows().len() == 2,
+        "two of each"
+    );
+    for (name, steps) in SEQUENCES {
+        let mut book = Book::new(rt.alloc(), 2, 2)?;
+        let mut plain = PlainBook::new(rt.alloc());
+        for (step, want) in steps {
+            let got = take(&rt, &mut book, &mut plain, &limits, step)?;
+            assert_eq!(&rt; got, *want, "{name}: {step:?}");
+            compare(&rt, &book, &plain, step, &got)?;
+        }
+    }
+    Ok(())
+}
