@@ -5,8 +5,8 @@ ghost use Rattle.std.specs.Prelude.{◌≡◌, ◌<◌, length};
 use crate::plain_book::PlainBook;
 use crate::proposing::{new_order, with_replace};
 use crate::sequences::{SEQUENCES, Step, Want};
-use crate::{Applied, Book, Pending, Terms3};
-use fix_orders::{Cancel, CancelReject, Head, Id, NewOrder, OrderKind, Replace, Report};
+use crate::{Applied, Book, Pending};
+use fix_orders::{Cancel, CancelReject, Exec, Head, Id, NewOrder, OrderKind, Replace, Report};
 use limit_table::{Limits, read_limits};
 use std::alloc::Global;
 use std::process::Abort;
@@ -52,14 +52,20 @@ fn high(symbol: u32) -> u64 {
     if symbol == 0 { 120_000 } else { 200_000 }
 }
 
-/// The values of an order that was applied, as they are wanted.
-fn values(terms: &Terms3) -> Want {
-    Want::Values([terms.firm_value, terms.account_value, terms.symbol_value])
+/// These values, as they are wanted.
+fn wanted(firm: u64, account: u64, symbol: u64) -> Want {
+    if firm == account && firm == symbol {
+        Want::All(firm)
+    } else {
+        Want::Values(firm, account, symbol)
+    }
 }
 
 fn reported(applied: Applied) -> Want {
     match applied {
-        Applied::Applied(terms) => values(&terms),
+        Applied::Applied(terms) => {
+            wanted(terms.firm_value, terms.account_value, terms.symbol_value)
+        }
         Applied::Stray => Want::Stray,
         Applied::Over => Want::Over,
     }
@@ -85,9 +91,9 @@ fn take_new(
         Ok(values) => {
             book.commit_new(asked, account, symbol, high(symbol));
             plain.add(new_order(asked, account, symbol, high(symbol)))?;
-            Ok(Want::Values([values.firm, values.account, values.symbol]))
+            Ok(wanted(values.firm, values.account, values.symbol))
         }
-        Err(fault) => Ok(Want::Fault(fault)),
+        Err(fault) => Ok(Want::Refused(fault)),
     }
 }
 
@@ -106,7 +112,7 @@ fn take_cancel(book: &mut Book, plain: &mut PlainBook, request: &Cancel) -> Resu
             plain.ask(&request.id, &request.orig, pending)?;
             Ok(Want::Taken)
         }
-        Err(fault) => Ok(Want::Fault(fault)),
+        Err(fault) => Ok(Want::Refused(fault)),
     }
 }
 
@@ -133,10 +139,79 @@ fn take_replace(
                 let pending = with_replace(request, limits, &order).pending;
                 plain.ask(&request.id, &request.orig, pending)?;
             }
-            Ok(Want::Values([values.firm, values.account, values.symbol]))
+            Ok(wanted(values.firm, values.account, values.symbol))
         }
-        Err(fault) => Ok(Want::Fault(fault)),
+        Err(fault) => Ok(Want::Refused(fault)),
     }
+}
+
+/// A D with this ClOrdID.
+fn order(text: &[u8], side: u8, quantity: u64, price: u64) -> Result<NewOrder, Fail> {
+    Ok(NewOrder {
+        head: head()?,
+        id: id(text)?,
+        account: id(b"ACC")?,
+        symbol: id(b"XYZ")?,
+        side,
+        quantity,
+        kind: kind(price),
+        price,
+    })
+}
+
+/// A G of these ids, account and symbol.
+fn replace(names: [&[u8]; 4], side: u8, quantity: u64, price: u64) -> Result<Replace, Fail> {
+    let [own, orig, account, symbol] = names;
+    Ok(Replace {
+        head: head()?,
+        id: id(own)?,
+        orig: id(orig)?,
+        account: Id::read(account).ok(),
+        symbol: id(symbol)?,
+        side,
+        quantity,
+        kind: kind(price),
+        price,
+    })
+}
+
+/// Applies a report, and has the plain book do the same.
+fn take_report(
+    book: &mut Book,
+    plain: &mut PlainBook,
+    text: &[u8],
+    exec: Exec,
+) -> Result<Want, Fail>
+    requires accounts { book.old.accounts ≡ 2 }
+    requires symbols { book.old.symbols ≡ 2 }
+    ensures accounts { book.new.accounts ≡ 2 }
+    ensures symbols { book.new.symbols ≡ 2 }
+{
+    let own = Id::read(text).ok();
+    let applied = book.apply(&Report {
+        head: head()?,
+        id: own,
+        exec,
+    });
+    if let (Some(own), Applied::Applied(_)) = (own, applied) {
+        plain.report(&own, exec);
+    }
+    Ok(reported(applied))
+}
+
+/// Applies a cancel reject, and has the plain book do the same.
+fn take_reject(book: &mut Book, plain: &mut PlainBook, text: &[u8]) -> Result<Want, Fail>
+    requires accounts { book.old.accounts ≡ 2 }
+    requires symbols { book.old.symbols ≡ 2 }
+    ensures accounts { book.new.accounts ≡ 2 }
+    ensures symbols { book.new.symbols ≡ 2 }
+{
+    let reject = CancelReject {
+        head: head()?,
+        id: id(text)?,
+    };
+    plain.reject(&reject.id);
+    Ok(reported(book.apply_reject(&reject)))
 }
 
 /// Gives the book one message, and the plain book the same.
@@ -145,7 +220,7 @@ fn take(
     book: &mut Book,
     plain: &mut PlainBook,
     limits: &Limits,
-    step: &Step,
+    step: Step,
 ) -> Result<Want, Fail>
     requires accounts { book.old.accounts ≡ 2 }
     requires symbols { book.old.symbols ≡ 2 }
@@ -154,89 +229,55 @@ fn take(
     ensures accounts { book.new.accounts ≡ 2 }
     ensures symbols { book.new.symbols ≡ 2 }
 {
-    match *step {
-        Step::New {
-            id: text,
-            account,
-            symbol,
-            side,
-            quantity,
-            price,
-        } => {
-            let asked = NewOrder {
-                head: head()?,
-                id: id(text)?,
-                account: id(b"ACC")?,
-                symbol: id(b"XYZ")?,
-                side,
-                quantity,
-                kind: kind(price),
-                price,
-            };
-            take_new(rt, book, plain, &asked, account, symbol)
+    match step {
+        Step::Buy(own, quantity, price) => {
+            take_new(rt, book, plain, &order(own, b'1', quantity, price)?, 0, 0)
         }
-        Step::Cancel { id: text, orig } => {
+        Step::New(own, account, symbol, side, quantity, price) => {
+            take_new(
+                rt,
+                book,
+                plain,
+                &order(own, side, quantity, price)?,
+                account,
+                symbol,
+            )
+        }
+        Step::Cancel(own, orig) => {
             let request = Cancel {
                 head: head()?,
-                id: id(text)?,
+                id: id(own)?,
                 orig: id(orig)?,
             };
             take_cancel(book, plain, &request)
         }
-        Step::Replace {
-            id: text,
-            orig,
-            account,
-            symbol,
-            side,
-            quantity,
-            price,
-        } => {
-            let request = Replace {
-                head: head()?,
-                id: id(text)?,
-                orig: id(orig)?,
-                account: Id::read(account).ok(),
-                symbol: id(symbol)?,
-                side,
-                quantity,
-                kind: kind(price),
-                price,
-            };
+        Step::Replace(own, orig, quantity, price) => {
+            let request = replace([own, orig, b"", b"XYZ"], b'1', quantity, price)?;
             take_replace(book, plain, &request, limits)
         }
-        Step::Report { id: text, exec } => {
-            let own = Id::read(text).ok();
-            let report = Report {
-                head: head()?,
-                id: own,
-                exec,
-            };
-            let applied = book.apply(&report);
-            if let (Some(own), Applied::Applied(_)) = (own, applied) {
-                plain.report(&own, exec);
-            }
-            Ok(reported(applied))
+        Step::ReplaceOf(own, orig, account, symbol, side, quantity, price) => {
+            let request = replace([own, orig, account, symbol], side, quantity, price)?;
+            take_replace(book, plain, &request, limits)
         }
-        Step::Reject { id: text } => {
-            let reject = CancelReject {
-                head: head()?,
-                id: id(text)?,
-            };
-            plain.reject(&reject.id);
-            Ok(reported(book.apply_reject(&reject)))
+        Step::Trade(own, quantity, price) => {
+            take_report(book, plain, own, Exec::Trade { quantity, price })
         }
+        Step::Report(own, exec) => take_report(book, plain, own, exec),
+        Step::Reject(own) => take_reject(book, plain, own),
     }
 }
 
 /// The id by which a step names its order once it is taken.
-fn named(step: &Step) -> &'static [u8] {
-    match *step {
-        Step::New { id, .. }
-        | Step::Cancel { id, .. }
-        | Step::Replace { id, .. }
-        | Step::Report { id, .. }
-        | Step::Reject { id } => id,
+fn named(step: Step) -> &'static [u8] {
+    match step {
+        Step::Buy(own, ..)
+        | Step::New(own, ..)
+        | Step::Cancel(own, ..)
+        | Step::Replace(own, ..)
+        | Step::ReplaceOf(own, ..)
+        | Step::Trade(own, ..)
+        | Step::Report(own, ..)
+        | Step::Reject(own) => own,
     }
 }
 
@@ -245,17 +286,18 @@ fn compare(
     rt: &impl Abort,
     book: &Book,
     plain: &PlainBook,
-    step: &Step,
-    got: &Want,
+    step: Step,
+    got: Want,
 ) -> Result<(), Fail> {
-    let Want::Values([firm, account, symbol]) = *got else {
-        return Ok(());
+    let [firm, account, symbol] = match got {
+        Want::All(value) => [value, value, value],
+        Want::Values(firm, account, symbol) => [firm, account, symbol],
+        Want::Taken | Want::Refused(_) | Want::Stray | Want::Over => return Ok(()),
     };
     let own = id(named(step))?;
-    let pair = book.pair_of(&own).ok_or("a pair")?;
-    let sums = plain.values(pair.0, pair.1);
+    let (own_account, own_symbol) = book.pair_of(&own).ok_or("a pair")?;
     assert_eq!(rt;
-        sums,
+        plain.values(own_account, own_symbol),
         [u128::from(firm), u128::from(account), u128::from(symbol)],
         "from scratch"
     );
@@ -275,9 +317,9 @@ fn values_follow_each_message(rt: HostRuntime) -> Result<(), Fail> {
         let mut book = Book::new(rt.alloc(), 2, 2)?;
         let mut plain = PlainBook::new(rt.alloc());
         for (step, want) in steps {
-            let got = take(&rt, &mut book, &mut plain, &limits, step)?;
+            let got = take(&rt, &mut book, &mut plain, &limits, *step)?;
             assert_eq!(&rt; got, *want, "{name}: {step:?}");
-            compare(&rt, &book, &plain, step, &got)?;
+            compare(&rt, &book, &plain, *step, got)?;
         }
     }
     Ok(())
