@@ -118,14 +118,26 @@ impl Order {
                 id: own,
                 total,
                 price,
-            } if own == *id => Order {
-                total,
-                price,
-                current: own,
-                pending: Pending::Nothing,
-                ..*self
-            },
+            } if own == *id => self.with_terms(own, total, price),
             Pending::Nothing | Pending::Cancel { .. } | Pending::Replace { .. } => *self,
+        }
+    }
+
+    /// The order with this id, total and reserve price, and no request pending.
+    fn with_terms(&self, id: Id, total: u64, reserve: u64) -> Order
+        ensures { result ≡ record self.now {
+          total = total;
+          price = reserve;
+          current = id;
+          pending = Pending.Nothing;
+        } }
+    {
+        Order {
+            total,
+            price: reserve,
+            current: id,
+            pending: Pending::Nothing,
+            ..*self
         }
     }
 

@@ -103,10 +103,13 @@ impl PlainBook {
         }
     }
 
-    /// Adds an order.
-    pub fn add(&mut self, order: Order) -> Result<(), AllocError> {
+    /// Adds an order with this request pending on it.
+    pub fn add(&mut self, order: &Order, request: Pending) -> Result<(), AllocError> {
         self.ids.push((order.current, self.orders.len()))?;
-        self.orders.push(order)?;
+        self.orders.push(Order {
+            pending: request,
+            ..*order
+        })?;
         Ok(())
     }
 

@@ -17,8 +17,8 @@ pub(crate) fn reserve_price(side: u8, kind: OrderKind, price: u64, high: u64) ->
     ensures { result ≡ reserve_price side kind price high }
 {
     match kind {
-        OrderKind::Limit => { if side == BUY { price } else { high } }
-        OrderKind::Market => high,
+        OrderKind::Limit if side == BUY => price,
+        OrderKind::Limit | OrderKind::Market => high,
     }
 }
 

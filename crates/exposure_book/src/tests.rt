@@ -48,7 +48,7 @@ fn kind(price: u64) -> OrderKind {
 }
 
 /// The upper collar price of this symbol.
-fn high(symbol: u32) -> u64 {
+fn high_of(symbol: u32) -> u64 {
     if symbol == 0 { 120_000 } else { 200_000 }
 }
 
@@ -87,10 +87,11 @@ fn take_new(
 {
     assert!(rt; account < 2 && symbol < 2, "in range");
     book.reserve_one()?;
-    match book.propose_new(asked, account, symbol, high(symbol)) {
+    let high = high_of(symbol);
+    match book.propose_new(asked, account, symbol, high) {
         Ok(values) => {
-            book.commit_new(asked, account, symbol, high(symbol));
-            plain.add(new_order(asked, account, symbol, high(symbol)))?;
+            book.commit_new(asked, account, symbol, high);
+            plain.add(&new_order(asked, account, symbol, high), Pending::Nothing)?;
             Ok(wanted(values.firm, values.account, values.symbol))
         }
         Err(fault) => Ok(Want::Refused(fault)),
@@ -304,6 +305,27 @@ fn compare(
     Ok(())
 }
 
+/// Gives a new book the messages in turn, and compares each answer.
+fn follow(
+    rt: &impl Abort,
+    alloc: Global,
+    limits: &Limits,
+    name: &str,
+    steps: &[(Step, Want)],
+) -> Result<(), Fail>
+    requires account_rows { length limits.now.accounts ≡ 2 }
+    requires symbol_rows { length limits.now.symbols ≡ 2 }
+{
+    let mut book = Book::new(alloc, 2, 2)?;
+    let mut plain = PlainBook::new(alloc);
+    for (step, want) in steps {
+        let got = take(rt, &mut book, &mut plain, limits, *step)?;
+        assert_eq!(rt; got, *want, "{name}: {step:?}");
+        compare(rt, &book, &plain, *step, got)?;
+    }
+    Ok(())
+}
+
 #[test]
 fn values_follow_each_message(rt: HostRuntime) -> Result<(), Fail> {
     let Ok(limits) = read_limits(rt.alloc(), LIMITS) else {
@@ -314,13 +336,7 @@ fn values_follow_each_message(rt: HostRuntime) -> Result<(), Fail> {
         "two of each"
     );
     for (name, steps) in SEQUENCES {
-        let mut book = Book::new(rt.alloc(), 2, 2)?;
-        let mut plain = PlainBook::new(rt.alloc());
-        for (step, want) in steps {
-            let got = take(&rt, &mut book, &mut plain, &limits, *step)?;
-            assert_eq!(&rt; got, *want, "{name}: {step:?}");
-            compare(&rt, &book, &plain, *step, got)?;
-        }
+        follow(&rt, rt.alloc(), &limits, name, steps)?;
     }
     Ok(())
 }
