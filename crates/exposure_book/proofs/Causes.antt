@@ -1,8 +1,11 @@
 -- When a report is Stray, and when it is Over.
-use Rattle.std.proofs.Common.{◌≡◌, ◌≢◌, ◌≤◌, ◌<◌, ◌↔◌, ◌⊎◌, ℕ, Bool, true, false, ◌&&◌, leb, leb-true, leb-false, List, Option, Some, None, IsSomeAnd, slice_get, refl, inl, inr}
+use Rattle.std.proofs.Common.{◌≡◌, ◌≢◌, ◌≤◌, ◌<◌, ◌↔◌, ◌⊎◌, ℕ, Bool, true, false, ◌&&◌, leb}
+use Rattle.std.proofs.Common.{leb-true, leb-false, List, Option, Some, None, IsSomeAnd, slice_get}
+use Rattle.std.proofs.Common.{refl, inl, inr}
 use Rattle.std.proofs.Common.{arith, if◌then◌else◌}
 use Rattle.fix_orders.specs.declared.message.Exec.{Exec}
-use Rattle.fix_orders.specs.declared.message.Exec.TheVariants.{New, Canceled, Replaced, Rejected, Expired, Trade, Else}
+use Rattle.fix_orders.specs.declared.message.Exec.TheVariants.{New, Canceled, Replaced, Rejected}
+use Rattle.fix_orders.specs.declared.message.Exec.TheVariants.{Expired, Trade, Else}
 use Rattle.fix_orders.specs.declared.message.Report.{Report}
 use Rattle.fix_orders.specs.declared.message.CancelReject.{CancelReject}
 use Rattle.exposure_book.specs.declared.answer.Applied.{Applied}
@@ -10,7 +13,11 @@ use Rattle.exposure_book.specs.declared.answer.Applied.TheVariants as applied
 use Rattle.exposure_book.specs.declared.order.Order.{Order}
 use Rattle.exposure_book.specs.Orders.{leaves_of, reserve_of}
 use Rattle.exposure_book.specs.Books.{BookValue, place_of, order_at, order_with, terms_of}
-use Rattle.exposure_book.specs.Reports.{Outcome, outcome_with, outcome_at, outcome_of, outcome_by, outcome_of_report, outcome_of_reject_at, outcome_of_reject_by, outcome_of_reject, order_after, is_covered, traded_order, without_request, reported_order, IsBeyond}
+use Rattle.exposure_book.specs.Reports.{Outcome, outcome_with, outcome_at, outcome_of, outcome_by}
+use Rattle.exposure_book.specs.Reports.{outcome_of_report, outcome_of_reject_at}
+use Rattle.exposure_book.specs.Reports.{outcome_of_reject_by, outcome_of_reject, order_after}
+use Rattle.exposure_book.specs.Reports.{is_covered, traded_order, without_request, reported_order}
+use Rattle.exposure_book.specs.Reports.{IsBeyond}
 
 with_not_stray : (book : BookValue) (place : ℕ) (next : Option Order)
     → (outcome_with book place next).answer ≢ applied.Stray
@@ -34,14 +41,17 @@ by_stray book exec None = (λ _. refl, λ _. refl)
 by_stray book exec (Some id) = of_stray book id exec (place_of id book.ids)
 
 pub report_stray : (book : BookValue) (report : Report)
-    → ((outcome_of_report book report).answer ≡ applied.Stray) ↔ (reported_order book report.id ≡ None)
+    → ((outcome_of_report book report).answer ≡ applied.Stray)
+    ↔ (reported_order book report.id ≡ None)
 report_stray book report = by_stray book report.exec report.id
 
 reject_at_stray : (book : BookValue) (id : List ℕ) (place : ℕ) (o : Option Order)
     → ((outcome_of_reject_at book id place o).answer ≡ applied.Stray) ↔ (o ≡ None)
 reject_at_stray book id place None = (λ _. refl, λ _. refl)
-reject_at_stray book id place (Some o) =
-    (λ h. absurd (with_not_stray book place (Some (without_request id o)) h), λ (h : Some o ≡ None). cc)
+reject_at_stray book id place (Some o) = (
+  λ h. absurd (with_not_stray book place (Some (without_request id o)) h),
+  λ (h : Some o ≡ None). cc,
+)
 
 reject_by_stray : (book : BookValue) (id : List ℕ) (place : Option ℕ)
     → ((outcome_of_reject_by book id place).answer ≡ applied.Stray) ↔ (order_at book place ≡ None)
@@ -60,7 +70,8 @@ reject_at_not_over book id place (Some o) h = cc
 reject_by_not_over : (book : BookValue) (id : List ℕ) (place : Option ℕ)
     → (outcome_of_reject_by book id place).answer ≢ applied.Over
 reject_by_not_over book id None h = cc
-reject_by_not_over book id (Some place) h = reject_at_not_over book id place (slice_get book.orders place) h
+reject_by_not_over book id (Some place) h =
+    reject_at_not_over book id place (slice_get book.orders place) h
 
 pub reject_not_over : (book : BookValue) (reject : CancelReject)
     → (outcome_of_reject book reject).answer ≢ applied.Over
@@ -69,8 +80,10 @@ reject_not_over book reject h = reject_by_not_over book reject.id (place_of reje
 uncovered : (few cheap : Bool) (quantity leaves price reserve : ℕ)
     → leb quantity leaves ≡ few → leb price reserve ≡ cheap → (few && cheap) ≡ false
     → (leaves < quantity) ⊎ (reserve < price)
-uncovered false cheap quantity leaves price reserve is_few is_cheap h = inl (leb-false quantity leaves is_few)
-uncovered true false quantity leaves price reserve is_few is_cheap h = inr (leb-false price reserve is_cheap)
+uncovered false cheap quantity leaves price reserve is_few is_cheap h =
+    inl (leb-false quantity leaves is_few)
+uncovered true false quantity leaves price reserve is_few is_cheap h =
+    inr (leb-false price reserve is_cheap)
 uncovered true true quantity leaves price reserve is_few is_cheap h = cc
 
 covered : (few cheap : Bool) (quantity leaves price reserve : ℕ)
@@ -85,7 +98,8 @@ covered false cheap quantity leaves price reserve is_few is_cheap h beyond = cc
 
 trade_over : (book : BookValue) (place quantity price : ℕ) (o : Order) (b : Bool)
     → is_covered quantity price o ≡ b
-    → ((outcome_with book place (if b then Some (traded_order quantity price o) else None)).answer ≡ applied.Over)
+    → ((outcome_with book place (if b then Some (traded_order quantity price o) else None)).answer
+    ≡ applied.Over)
     ↔ ((leaves_of o < quantity) ⊎ (reserve_of o < price))
 trade_over book place quantity price o true is = (
   λ (h : applied.Applied _ ≡ applied.Over). cc,
@@ -124,12 +138,14 @@ at_over book id exec place None = stray_not_over
 at_over book id exec place (Some o) = exec_over book id exec place o
 
 of_over : (book : BookValue) (id : List ℕ) (exec : Exec) (place : Option ℕ)
-    → ((outcome_of book id exec place).answer ≡ applied.Over) ↔ IsSomeAnd (order_at book place) (IsBeyond exec)
+    → ((outcome_of book id exec place).answer ≡ applied.Over)
+    ↔ IsSomeAnd (order_at book place) (IsBeyond exec)
 of_over book id exec None = stray_not_over
 of_over book id exec (Some place) = at_over book id exec place (slice_get book.orders place)
 
 by_over : (book : BookValue) (exec : Exec) (id : Option (List ℕ))
-    → ((outcome_by book exec id).answer ≡ applied.Over) ↔ IsSomeAnd (reported_order book id) (IsBeyond exec)
+    → ((outcome_by book exec id).answer ≡ applied.Over)
+    ↔ IsSomeAnd (reported_order book id) (IsBeyond exec)
 by_over book exec None = stray_not_over
 by_over book exec (Some id) = of_over book id exec (place_of id book.ids)
 

@@ -1,5 +1,6 @@
 -- An id that is new goes last in the map of ids.
-use Rattle.std.proofs.Common.{◌≡◌, ◌<◌, ◌++◌, ℕ, List, [], ◌∷◌, Option, None, Result, Ok, Err, IsOk, OnOk, nat_eq, refl, ◌∙◌}
+use Rattle.std.proofs.Common.{◌≡◌, ◌<◌, ◌++◌, ℕ, List, [], ◌∷◌, Option, None, Result, Ok, Err, IsOk}
+use Rattle.std.proofs.Common.{OnOk, nat_eq, refl, ◌∙◌}
 use Rattle.std.specs.Cmp.Lexicographic.{pointwise}
 use Rattle.indexmap.specs.IndexMap.{IndexMap, get, insert_entry}
 use Rattle.indexmap.proofs.CallerLemmas.{insert_entry-new}
@@ -9,7 +10,8 @@ on_ok (Ok x) P ok holds = holds
 on_ok (Err e) P ok holds = cc
 
 -- the entries after an id that no entry has
-module _ {S X Y : Type 0} (ids ids' : IndexMap (List ℕ) ℕ S) (id : List ℕ) (place : ℕ) (r : Result X Y) where
+module _ {S X Y : Type 0} (ids ids' : IndexMap (List ℕ) ℕ S) (id : List ℕ) (place : ℕ)
+    (r : Result X Y) where
   pub entries-insert : IsOk r → get (pointwise nat_eq) ids id ≡ None
       → OnOk r (ids'.entries ≡ insert_entry (pointwise nat_eq) ids.entries id place)
       → ids'.entries ≡ ids.entries ++ (id, place) ∷ []

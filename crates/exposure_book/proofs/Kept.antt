@@ -1,21 +1,27 @@
 -- The running totals stay the sums from scratch, as orders are added or changed.
-use Rattle.std.proofs.Common.{◌≡◌, ◌≤◌, ◌<◌, ◌+◌, ◌-◌, ◌*◌, ◌++◌, ℕ, List, [], ◌∷◌, length, Option, Some, None, slice_get, refl, sym, ap, subst, ◌∙◌}
-use Rattle.std.proofs.Common.{arith, get_or, get_or-set_same, set, length-set, length-append, zero, suc, All, sum_by, IfSome, Bool, true, false, cond}
+use Rattle.std.proofs.Common.{◌≡◌, ◌≤◌, ◌<◌, ◌+◌, ◌-◌, ◌*◌, ◌++◌, ℕ, List, [], ◌∷◌, length, Option}
+use Rattle.std.proofs.Common.{Some, None, slice_get, refl, sym, ap, subst, ◌∙◌}
+use Rattle.std.proofs.Common.{arith, get_or, get_or-set_same, set, length-set, length-append, zero}
+use Rattle.std.proofs.Common.{suc, All, sum_by, IfSome, Bool, true, false, cond}
 use Rattle.std.proofs.lemmas.List.Sums.{sum_by_push, get_or-le-sum_by}
-use Rattle.std.proofs.lemmas.List.Elements.{All-set, All-push, All-weaker, All-get_or, All-head, All-tail}
+use Rattle.std.proofs.lemmas.List.Elements.{All-set, All-push, All-weaker, All-get_or, All-head}
+use Rattle.std.proofs.lemmas.List.Elements.{All-tail}
 use Rattle.std.proofs.lemmas.Option.{slice_get_within, slice_get-get_or}
 use Rattle.std.specs.Map.{lookup}
 use Rattle.exposure_book.specs.declared.order.Order.{Order}
 use Rattle.exposure_book.specs.declared.answer.Proposal.{Proposal}
 use Rattle.exposure_book.specs.declared.answer.Terms3.{Terms3}
 use Rattle.exposure_book.specs.Orders.{exposure_of}
-use Rattle.exposure_book.specs.Books.{BookValue, firm_sum, account_sum, symbol_sum, units_up, proposal_of, terms_of}
+use Rattle.exposure_book.specs.Books.{BookValue, firm_sum, account_sum, symbol_sum, units_up}
+use Rattle.exposure_book.specs.Books.{proposal_of, terms_of}
 use Rattle.exposure_book.specs.Totals.{AreKept, IsPlaced, IsPartOf, most_exposure}
 use Rattle.exposure_book.specs.Proposals.{capped}
-use Rattle.exposure_book.proofs.Sums.{item_at, part-le-sum, sum-set, part_by, part_by-own, tree-le-firm, HasTotals, totals-set, totals-push}
+use Rattle.exposure_book.proofs.Sums.{item_at, part-le-sum, sum-set, part_by, part_by-own}
+use Rattle.exposure_book.proofs.Sums.{tree-le-firm, HasTotals, totals-set, totals-push}
 
 -- the place that a look-up gives is that of an order
-pub lookup_within : (test : List ℕ → Bool) (n : ℕ) (ids : List (List ℕ × ℕ)) → All (λ entry. entry.1 < n) ids
+pub lookup_within : (test : List ℕ → Bool) (n : ℕ) (ids : List (List ℕ × ℕ))
+    → All (λ entry. entry.1 < n) ids
     → IfSome (lookup test ids) (λ place. place < n)
 lookup_within test n [] all = tt
 lookup_within test n (entry ∷ ids) all =
@@ -56,8 +62,10 @@ proposal_with firm account symbol = record { firm = firm; account = account; sym
 
 -- three values by the sums that they are of
 proposal_by : {f f' a a' s s' : ℕ} → f ≡ f' → a ≡ a' → s ≡ s'
-    → proposal_with (units_up f) (units_up a) (units_up s) ≡ proposal_with (units_up f') (units_up a') (units_up s')
-proposal_by firm account symbol i = proposal_with (units_up (firm i)) (units_up (account i)) (units_up (symbol i))
+    → proposal_with (units_up f) (units_up a) (units_up s)
+    ≡ proposal_with (units_up f') (units_up a') (units_up s')
+proposal_by firm account symbol i =
+    proposal_with (units_up (firm i)) (units_up (account i)) (units_up (symbol i))
 
 -- the order that stands at a place
 pub order_found : (orders : List Order) (place : ℕ) (o : Order) → place < length orders
@@ -121,9 +129,11 @@ module _ (orders : List Order) (ids : List (List ℕ × ℕ)) (total : ℕ) (by_
       capped = let is = kept.firm in let most = kept.capped in omega arith;
     }
 
-    pub account_has_order : (a : ℕ) → a ≡ o.account → IsPartOf (get_or by_account a 0) (exposure_of o)
+    pub account_has_order : (a : ℕ) → a ≡ o.account
+        → IsPartOf (get_or by_account a 0) (exposure_of o)
     account_has_order a own =
-        let below : a < length by_account = subst (λ n. n < length by_account) (sym own) order_placed.account in
+        let below : a < length by_account =
+        subst (λ n. n < length by_account) (sym own) order_placed.account in
         record {
           within =
               let part = part-le-sum (part_by (λ x. x.account) a) orders place o found in
@@ -135,7 +145,8 @@ module _ (orders : List Order) (ids : List (List ℕ × ℕ)) (total : ℕ) (by_
 
     pub symbol_has_order : (s : ℕ) → s ≡ o.symbol → IsPartOf (get_or by_symbol s 0) (exposure_of o)
     symbol_has_order s own =
-        let below : s < length by_symbol = subst (λ n. n < length by_symbol) (sym own) order_placed.symbol in
+        let below : s < length by_symbol =
+        subst (λ n. n < length by_symbol) (sym own) order_placed.symbol in
         record {
           within =
               let part = part-le-sum (part_by (λ x. x.symbol) s) orders place o found in
@@ -145,7 +156,8 @@ module _ (orders : List Order) (ids : List (List ℕ × ℕ)) (total : ℕ) (by_
           capped = symbol-le s below;
         }
 
-    module _ (next : Order) (same_account : next.account ≡ o.account) (same_symbol : next.symbol ≡ o.symbol) where
+    module _ (next : Order) (same_account : next.account ≡ o.account)
+        (same_symbol : next.symbol ≡ o.symbol) where
       pub next_account : next.account < length by_account
       next_account = subst (λ n. n < length by_account) (sym same_account) order_placed.account
 
@@ -154,19 +166,25 @@ module _ (orders : List Order) (ids : List (List ℕ × ℕ)) (total : ℕ) (by_
 
       pub kept_set : firm_sum (set orders place next) ≤ most_exposure
           → AreKept (set orders place next) ids (total - exposure_of o + exposure_of next)
-          (set by_account next.account (get_or by_account next.account 0 - exposure_of o + exposure_of next))
-          (set by_symbol next.symbol (get_or by_symbol next.symbol 0 - exposure_of o + exposure_of next))
+          (set by_account next.account
+          (get_or by_account next.account 0 - exposure_of o + exposure_of next))
+          (set by_symbol next.symbol
+          (get_or by_symbol next.symbol 0 - exposure_of o + exposure_of next))
       kept_set capped = record {
         firm = ap (λ n. n - exposure_of o + exposure_of next) kept.firm
             ∙ sym (sum-set exposure_of orders place o found next);
-        accounts = totals-set (λ x. x.account) by_account orders account_totals place o next found same_account next_account;
-        symbols = totals-set (λ x. x.symbol) by_symbol orders symbol_totals place o next found same_symbol next_symbol;
+        accounts = totals-set (λ x. x.account) by_account orders account_totals place o next found
+            same_account next_account;
+        symbols = totals-set (λ x. x.symbol) by_symbol orders symbol_totals place o next found
+            same_symbol next_symbol;
         capped = capped;
         placed =
-            let now : IsPlaced (length by_account) (length by_symbol) next = record { account = next_account; symbol = next_symbol } in
+            let now : IsPlaced (length by_account) (length by_symbol) next =
+            record { account = next_account; symbol = next_symbol } in
             placed_along (set orders place next) (length by_account) _ (length by_symbol) _
             (length-set by_account next.account _) (length-set by_symbol next.symbol _)
-            (All-set (IsPlaced (length by_account) (length by_symbol)) orders place next now kept.placed);
+            (All-set (IsPlaced (length by_account) (length by_symbol)) orders place next now
+            kept.placed);
         named = rw length-set kept.named;
       }
 
@@ -174,7 +192,8 @@ module _ (orders : List Order) (ids : List (List ℕ × ℕ)) (total : ℕ) (by_
       pub values_set : proposal_of (set orders place next) next.account next.symbol
           ≡ record {
             firm = units_up (total - exposure_of o + exposure_of next);
-            account = units_up (get_or by_account next.account 0 - exposure_of o + exposure_of next);
+            account = units_up
+                (get_or by_account next.account 0 - exposure_of o + exposure_of next);
             symbol = units_up (get_or by_symbol next.symbol 0 - exposure_of o + exposure_of next);
           }
       values_set =
@@ -187,12 +206,15 @@ module _ (orders : List Order) (ids : List (List ℕ × ℕ)) (total : ℕ) (by_
           let s_new = part_by-own (λ x. x.symbol) next.symbol next refl in
           let a_had = account_totals next.account next_account in
           let s_had = symbol_totals next.symbol next_symbol in
-          let firm_is : firm_sum (set orders place next) ≡ total - exposure_of o + exposure_of next =
+          let firm_is : firm_sum (set orders place next)
+          ≡ total - exposure_of o + exposure_of next =
           firm ∙ ap (λ n. n - exposure_of o + exposure_of next) (sym kept.firm) in
           let account_is : account_sum next.account (set orders place next)
-          ≡ get_or by_account next.account 0 - exposure_of o + exposure_of next = rw (a_old, a_new, ← a_had) at account in
+          ≡ get_or by_account next.account 0 - exposure_of o + exposure_of next =
+          rw (a_old, a_new, ← a_had) at account in
           let symbol_is : symbol_sum next.symbol (set orders place next)
-          ≡ get_or by_symbol next.symbol 0 - exposure_of o + exposure_of next = rw (s_old, s_new, ← s_had) at symbol in
+          ≡ get_or by_symbol next.symbol 0 - exposure_of o + exposure_of next =
+          rw (s_old, s_new, ← s_had) at symbol in
           proposal_by firm_is account_is symbol_is
 
       -- the values, by what the code has of each
@@ -212,7 +234,8 @@ module _ (orders : List Order) (ids : List (List ℕ × ℕ)) (total : ℕ) (by_
 
   module _ (next : Order) (placed : IsPlaced (length by_account) (length by_symbol) next) where
     pub kept_push : (id : List ℕ) → firm_sum (orders ++ next ∷ []) ≤ most_exposure
-        → AreKept (orders ++ next ∷ []) (ids ++ (id, length orders) ∷ []) (total - 0 + exposure_of next)
+        → AreKept (orders ++ next ∷ []) (ids ++ (id, length orders) ∷ [])
+        (total - 0 + exposure_of next)
         (set by_account next.account (get_or by_account next.account 0 - 0 + exposure_of next))
         (set by_symbol next.symbol (get_or by_symbol next.symbol 0 - 0 + exposure_of next))
     kept_push id capped = record {
@@ -225,11 +248,14 @@ module _ (orders : List Order) (ids : List (List ℕ × ℕ)) (total : ℕ) (by_
       capped = capped;
       placed = placed_along (orders ++ next ∷ []) (length by_account) _ (length by_symbol) _
           (length-set by_account next.account _) (length-set by_symbol next.symbol _)
-          (All-push (IsPlaced (length by_account) (length by_symbol)) orders next kept.placed placed);
+          (All-push (IsPlaced (length by_account) (length by_symbol)) orders next kept.placed
+          placed);
       named =
-          let more : length (orders ++ next ∷ []) ≡ length orders + 1 = length-append orders (next ∷ []) in
+          let more : length (orders ++ next ∷ []) ≡ length orders + 1 =
+          length-append orders (next ∷ []) in
           All-push (λ entry. entry.1 < length (orders ++ next ∷ [])) ids (id, length orders)
-          (All-weaker (λ entry. entry.1 < length orders) (λ entry. entry.1 < length (orders ++ next ∷ []))
+          (All-weaker (λ entry. entry.1 < length orders)
+          (λ entry. entry.1 < length (orders ++ next ∷ []))
           (λ entry below. omega arith) ids kept.named)
           (omega arith);
     }

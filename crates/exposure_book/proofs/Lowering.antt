@@ -1,15 +1,19 @@
 -- No report makes an order count for more.
-use Rattle.std.proofs.Common.{◌≡◌, ◌≤◌, ◌+◌, ◌-◌, ◌*◌, ℕ, Bool, true, false, List, max, Option, Some, None, IfSome, refl, sym, ap, ◌∙◌}
+use Rattle.std.proofs.Common.{◌≡◌, ◌≤◌, ◌+◌, ◌-◌, ◌*◌, ℕ, Bool, true, false, List, max, Option}
+use Rattle.std.proofs.Common.{Some, None, IfSome, refl, sym, ap, ◌∙◌}
 use Rattle.std.proofs.Common.{arith, leb, leb-true, ◌&&◌, if◌then◌else◌}
 use Rattle.std.proofs.Math.Nat.{mul-le-mul, mul-le-mul_left, add-mul}
 use Rattle.fix_orders.specs.declared.message.Exec.{Exec}
-use Rattle.fix_orders.specs.declared.message.Exec.TheVariants.{New, Canceled, Replaced, Rejected, Expired, Trade, Else}
+use Rattle.fix_orders.specs.declared.message.Exec.TheVariants.{New, Canceled, Replaced, Rejected}
+use Rattle.fix_orders.specs.declared.message.Exec.TheVariants.{Expired, Trade, Else}
 use Rattle.exposure_book.specs.declared.order.Order.{Order}
 use Rattle.exposure_book.specs.declared.pending.Pending.{Pending}
 use Rattle.exposure_book.specs.declared.pending.Pending.TheVariants as pending
 use Rattle.exposure_book.specs.Pendings.{is_same_id, pending_total, pending_price, has_id_pending}
 use Rattle.exposure_book.specs.Orders.{Lowers, open_total, leaves_of, reserve_of, exposure_of}
-use Rattle.exposure_book.specs.Reports.{ended_order, without_pending, without_request, rejected_order, replaced_by, traded_order, is_covered, order_after}
+use Rattle.exposure_book.specs.Reports.{ended_order, without_pending, without_request}
+use Rattle.exposure_book.specs.Reports.{rejected_order, replaced_by, traded_order, is_covered}
+use Rattle.exposure_book.specs.Reports.{order_after}
 
 pub lowers_itself : (o : Order) → Lowers o o
 lowers_itself o = record { account = refl; symbol = refl; exposure = omega arith }
@@ -33,7 +37,8 @@ pub lowers_ended : (o : Order) → Lowers o (ended_order o)
 lowers_ended o = record {
   account = refl;
   symbol = refl;
-  exposure = counts_less o.notional 0 (leaves_of o) (max o.price 0) (reserve_of o) (omega arith) (omega arith);
+  exposure = counts_less o.notional 0 (leaves_of o) (max o.price 0) (reserve_of o) (omega arith)
+      (omega arith);
 }
 
 pub lowers_without_pending : (o : Order) → Lowers o (without_pending o)
@@ -66,7 +71,8 @@ replaced_if o own total price of_total of_price true = record {
 }
 replaced_if o own total price of_total of_price false = lowers_itself o
 
-lowers_replaced_by : (o : Order) (id : List ℕ) (p : Pending) → o.pending ≡ p → Lowers o (replaced_by p id o)
+lowers_replaced_by : (o : Order) (id : List ℕ) (p : Pending) → o.pending ≡ p
+    → Lowers o (replaced_by p id o)
 lowers_replaced_by o id pending.Nothing is = lowers_itself o
 lowers_replaced_by o id (pending.Cancel own) is = lowers_itself o
 lowers_replaced_by o id (pending.Replace own total price) is =
@@ -92,7 +98,8 @@ both_true true false h = cc
 both_true false b h = cc
 
 -- a fill takes its quantity from the leaves
-leaves_by-fill : (ended : Bool) (total filled quantity : ℕ) → quantity ≤ leaves_by ended total filled
+leaves_by-fill : (ended : Bool) (total filled quantity : ℕ)
+    → quantity ≤ leaves_by ended total filled
     → leaves_by ended total (filled + quantity) + quantity ≡ leaves_by ended total filled
 leaves_by-fill true total filled quantity h = omega arith
 leaves_by-fill false total filled quantity h = omega arith
@@ -140,7 +147,8 @@ order_after_lowers o id (Trade quantity price) =
 order_after_lowers o id Else = lowers_itself o
 
 -- a cancel that is pending adds nothing
-pub lowers_with_cancel : (o : Order) (id : List ℕ) → Lowers o (record o { pending = pending.Cancel id })
+pub lowers_with_cancel : (o : Order) (id : List ℕ)
+    → Lowers o (record o { pending = pending.Cancel id })
 lowers_with_cancel o id = record {
   account = refl;
   symbol = refl;

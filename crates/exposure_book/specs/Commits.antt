@@ -1,5 +1,6 @@
 -- A book after what was proposed is committed.
-use Rattle.std.specs.Prelude.{◌≡◌, ℕ, List, [], ◌∷◌, ◌++◌, length, Option, Some, None, slice_get, slice_set}
+use Rattle.std.specs.Prelude.{◌≡◌, ℕ, List, [], ◌∷◌, ◌++◌, length, Option, Some, None, slice_get}
+use Rattle.std.specs.Prelude.{slice_set}
 use Rattle.fix_orders.specs.declared.message.NewOrder.{NewOrder}
 use Rattle.fix_orders.specs.declared.message.Cancel.{Cancel}
 use Rattle.fix_orders.specs.declared.message.Replace.{Replace}
@@ -50,7 +51,8 @@ cancel_at request book (Some place) =
 abbrev pub replaced_at : Replace → Limits → BookValue → Option ℕ → BookValue
 replaced_at request limits book None = book
 replaced_at request limits book (Some place) =
-    with_request request.id place (with_replace_in request limits (slice_get book.orders place)) book
+    with_request request.id place
+    (with_replace_in request limits (slice_get book.orders place)) book
 
 -- the book with the cancel pending on the order that it names
 abbrev pub with_cancel_pending : Cancel → BookValue → BookValue

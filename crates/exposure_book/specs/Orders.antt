@@ -6,8 +6,8 @@ use Rattle.exposure_book.specs.declared.order.Order.{Order}
 use Rattle.exposure_book.specs.declared.price.TheConstants.{BUY}
 use Rattle.exposure_book.specs.Pendings.{pending_total, pending_price}
 
--- the dearest price that an order counts for: of a buy with a limit its price, of every sell and every
--- market order the upper collar price of its symbol
+-- the dearest price that an order counts for: of a buy with a limit its price, of every sell and
+-- every market order the upper collar price of its symbol
 abbrev pub reserve_price : ℕ → OrderKind → ℕ → ℕ → ℕ
 reserve_price side Limit price high = if side == BUY then price else high
 reserve_price side Market price high = high

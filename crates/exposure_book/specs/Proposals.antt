@@ -1,6 +1,7 @@
--- What a book answers to an order or a request that is proposed: the first fault in the order of the
--- table, else the values as they would be.
-use Rattle.std.specs.Prelude.{ℕ, List, [], ◌∷◌, ◌++◌, Option, Some, None, Result, Ok, Err, Bool, true, false}
+-- What a book answers to an order or a request that is proposed: the first fault in the order of
+-- the table, else the values as they would be.
+use Rattle.std.specs.Prelude.{ℕ, List, [], ◌∷◌, ◌++◌, Option, Some, None, Result, Ok, Err, Bool}
+use Rattle.std.specs.Prelude.{true, false}
 use Rattle.std.specs.Prelude.{◌==◌, ◌&&◌, ◌||◌, not, nat_le, is_some, slice_get, slice_set}
 use Rattle.std.specs.Prelude.{if◌then◌else◌}
 use Rattle.fold_law.specs.declared.limits.TheConstants.{LEAF}
@@ -21,7 +22,8 @@ use Rattle.exposure_book.specs.Books.{BookValue, place_of, proposal_of}
 
 -- each value is at most what a leaf may hold
 abbrev pub is_within_cap : Proposal → Bool
-is_within_cap values = nat_le values.firm LEAF && nat_le values.account LEAF && nat_le values.symbol LEAF
+is_within_cap values =
+    nat_le values.firm LEAF && nat_le values.account LEAF && nat_le values.symbol LEAF
 
 -- the values, or Cap
 abbrev pub capped : Proposal → Result Proposal BookFault
@@ -50,7 +52,8 @@ is_known book id = is_some (place_of id book.ids)
 abbrev pub proposal_of_new : BookValue → NewOrder → ℕ → ℕ → ℕ → Result Proposal BookFault
 proposal_of_new book asked account symbol high =
     if is_known book asked.id then Err fault.Duplicate
-    else capped (proposal_of (book.orders ++ new_order asked account symbol high ∷ []) account symbol)
+    else capped
+    (proposal_of (book.orders ++ new_order asked account symbol high ∷ []) account symbol)
 
 -- what stands against a request on this order: Closed, Pending, or Unknown where the id isn't its
 -- current one; else the order's place
@@ -70,7 +73,8 @@ requested_at book orig (Some place) = open_for_request orig place (slice_get boo
 -- Pending, Unknown; else the place of the order that it names
 abbrev pub requested : BookValue → List ℕ → List ℕ → Result ℕ BookFault
 requested book id orig =
-    if is_known book id then Err fault.Duplicate else requested_at book orig (place_of orig book.ids)
+    if is_known book id then Err fault.Duplicate
+    else requested_at book orig (place_of orig book.ids)
 
 -- nothing, or the fault
 abbrev pub fault_alone : Result ℕ BookFault → Result (Unit {0}) BookFault
@@ -125,7 +129,8 @@ replace_of book request limits place (Some order) =
     order.account order.symbol))
 
 -- the faults that a replace shares with a cancel come first
-abbrev pub replace_at : BookValue → Replace → Limits → Result ℕ BookFault → Result Proposal BookFault
+abbrev pub replace_at : BookValue → Replace → Limits → Result ℕ BookFault
+    → Result Proposal BookFault
 replace_at book request limits (Err why) = Err why
 replace_at book request limits (Ok place) =
     replace_of book request limits place (slice_get book.orders place)

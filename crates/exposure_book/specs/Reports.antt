@@ -1,8 +1,10 @@
 -- What a report makes of the order that it names, and what it is answered.
-use Rattle.std.specs.Prelude.{ℕ, ◌+◌, ◌*◌, ◌≤◌, ◌<◌, ◌⊎◌, List, Option, Some, None, Bool, true, ◌&&◌, nat_le}
+use Rattle.std.specs.Prelude.{ℕ, ◌+◌, ◌*◌, ◌≤◌, ◌<◌, ◌⊎◌, List, Option, Some, None, Bool, true}
+use Rattle.std.specs.Prelude.{◌&&◌, nat_le}
 use Rattle.std.specs.Prelude.{slice_get, slice_set, if◌then◌else◌}
 use Rattle.fix_orders.specs.declared.message.Exec.{Exec}
-use Rattle.fix_orders.specs.declared.message.Exec.TheVariants.{New, Canceled, Replaced, Rejected, Expired, Trade, Else}
+use Rattle.fix_orders.specs.declared.message.Exec.TheVariants.{New, Canceled, Replaced, Rejected}
+use Rattle.fix_orders.specs.declared.message.Exec.TheVariants.{Expired, Trade, Else}
 use Rattle.fix_orders.specs.declared.message.Report.{Report}
 use Rattle.fix_orders.specs.declared.message.CancelReject.{CancelReject}
 use Rattle.exposure_book.specs.declared.answer.Applied.{Applied}
@@ -12,7 +14,8 @@ use Rattle.exposure_book.specs.declared.pending.Pending.{Pending}
 use Rattle.exposure_book.specs.declared.pending.Pending.TheVariants as pending
 use Rattle.exposure_book.specs.Pendings.{is_same_id, has_id_pending}
 use Rattle.exposure_book.specs.Orders.{leaves_of, reserve_of}
-use Rattle.exposure_book.specs.Books.{BookValue, place_of, order_with, terms_of, units_up, firm_sum, account_sum, symbol_sum}
+use Rattle.exposure_book.specs.Books.{BookValue, place_of, order_with, terms_of, units_up, firm_sum}
+use Rattle.exposure_book.specs.Books.{account_sum, symbol_sum}
 
 -- the order has ended: nothing of it is left, and no request is pending
 abbrev pub ended_order : Order → Order

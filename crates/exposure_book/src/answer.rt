@@ -11,7 +11,8 @@ pub struct Proposal {
     pub symbol: u64,
 }
 
-/// An order's account and symbol, from 0, and the values of its three trees in whole currency units.
+/// An order's account and symbol, from 0, and the values of its three trees in whole currency
+/// units.
 #[derive(Clone, Copy, Debug, PartialEq, Eq)]
 pub struct Terms3 {
     pub account: u32,

@@ -1,10 +1,13 @@
 //! The book: the orders, their ids, and running totals beside them.
-ghost use Rattle.std.specs.Prelude.{◌≡◌, ◌+◌, ◌-◌, ◌≤◌, ◌<◌, ◌^◌, ◌++◌, [], ◌∷◌, length, IfOk, OnOk, IfSome, slice_set};
+ghost use Rattle.std.specs.Prelude.{◌≡◌, ◌+◌, ◌-◌, ◌≤◌, ◌<◌, ◌^◌, ◌++◌, [], ◌∷◌, length, IfOk};
+ghost use Rattle.std.specs.Prelude.{OnOk, IfSome, slice_set};
 ghost use Rattle.std.specs.Prelude.{None, replicate};
-ghost use Rattle.exposure_book.specs.Books.{empty_book, place_of, order_with, pair_of_order, terms_of, proposal_of, units_up, firm_sum};
+ghost use Rattle.exposure_book.specs.Books.{empty_book, place_of, order_with, pair_of_order};
+ghost use Rattle.exposure_book.specs.Books.{terms_of, proposal_of, units_up, firm_sum};
 ghost use Rattle.exposure_book.specs.Proposals.{capped};
 ghost use Rattle.exposure_book.specs.Commits.{IsSameBook, added, named};
-ghost use Rattle.exposure_book.specs.Totals.{IsOrderAt, IsPlaced, Replaces, IsPartOf, most_exposure};
+ghost use Rattle.exposure_book.specs.Totals.{IsOrderAt, IsPlaced, Replaces, IsPartOf};
+ghost use Rattle.exposure_book.specs.Totals.{most_exposure};
 
 use crate::answer::{BookFault, Proposal, Terms3};
 use crate::id_key::IdKey;
@@ -112,7 +115,8 @@ impl Book {
         })
     }
 
-    /// Makes room for one more id and order. Where that is refused, the room may have grown in part.
+    /// Makes room for one more id and order. Where that is refused, the room may have grown in
+    /// part.
     pub fn reserve_one(&mut self) -> Result<(), Memory>
         ensures same { IsSameBook self.old self.new }
         ensures kept { self.old.room ≤ self.new.room }

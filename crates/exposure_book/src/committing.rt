@@ -1,7 +1,8 @@
 //! What was proposed is committed.
 ghost use Rattle.std.specs.Prelude.{◌≡◌, ◌+◌, ◌≤◌, ◌<◌, length, IsOk};
 ghost use Rattle.exposure_book.specs.Totals.{IsPlaced};
-ghost use Rattle.exposure_book.specs.Proposals.{proposal_of_new, proposal_of_cancel, proposal_of_replace};
+ghost use Rattle.exposure_book.specs.Proposals.{proposal_of_new, proposal_of_cancel};
+ghost use Rattle.exposure_book.specs.Proposals.{proposal_of_replace};
 ghost use Rattle.exposure_book.specs.Commits.{IsSameBook, with_new, with_cancel_pending};
 ghost use Rattle.exposure_book.specs.Commits.{with_replace_pending};
 

@@ -1,6 +1,7 @@
 //! Requests that the venue has not answered.
 ghost use Rattle.std.specs.Prelude.{◌≡◌};
-ghost use Rattle.exposure_book.specs.Pendings.{pending_total, pending_price, has_id_pending, is_pending};
+ghost use Rattle.exposure_book.specs.Pendings.{pending_total, pending_price, has_id_pending};
+ghost use Rattle.exposure_book.specs.Pendings.{is_pending};
 
 use fix_orders::Id;
 

@@ -2,7 +2,8 @@
 ghost use Rattle.std.specs.Prelude.{◌≡◌, ◌<◌, ◌^◌, length, IfOk, slice_get, Some};
 ghost use Rattle.exposure_book.specs.Totals.{IsPlaced, Replaces};
 ghost use Rattle.exposure_book.specs.Proposals.{new_order, requested, is_of_order, with_replace};
-ghost use Rattle.exposure_book.specs.Proposals.{proposal_of_new, proposal_of_cancel, proposal_of_replace};
+ghost use Rattle.exposure_book.specs.Proposals.{proposal_of_new, proposal_of_cancel};
+ghost use Rattle.exposure_book.specs.Proposals.{proposal_of_replace};
 
 use crate::answer::{BookFault, Proposal};
 use crate::book::Book;
@@ -81,8 +82,8 @@ impl Book {
         self.values_with_one(&new_order(order, account, symbol, high))
     }
 
-    /// Whether this cancel may be sent: Duplicate, Unknown, Closed, Pending, and Unknown again where
-    /// its OrigClOrdID (41) isn't the current id of its order, in this order.
+    /// Whether this cancel may be sent: Duplicate, Unknown, Closed, Pending, and Unknown again
+    /// where its OrigClOrdID (41) isn't the current id of its order, in this order.
     pub fn propose_cancel(&self, request: &Cancel) -> Result<(), BookFault>
         ensures { result ≡ proposal_of_cancel self.now request.now }
     {

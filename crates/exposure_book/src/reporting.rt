@@ -12,8 +12,8 @@ use crate::order::Order;
 use fix_orders::{CancelReject, Report};
 
 impl Book {
-    /// Applies an ExecutionReport (8) to the order that has its ClOrdID (11). Stray where it has none
-    /// or no order has it, Over where it trades beyond the reserve; neither changes anything.
+    /// Applies an ExecutionReport (8) to the order that has its ClOrdID (11). Stray where it has
+    /// none or no order has it, Over where it trades beyond the reserve; neither changes anything.
     pub fn apply(&mut self, report: &Report) -> Applied
         ensures answer { result ≡ (outcome_of_report self.old report.now).answer }
         ensures orders { self.new
@@ -25,8 +25,8 @@ impl Book {
         self.take_report(report)
     }
 
-    /// Applies an OrderCancelReject (9) to the order that has its ClOrdID (11). Stray where no order
-    /// has it, which changes nothing. Never Over.
+    /// Applies an OrderCancelReject (9) to the order that has its ClOrdID (11). Stray where no
+    /// order has it, which changes nothing. Never Over.
     pub fn apply_reject(&mut self, reject: &CancelReject) -> Applied
         ensures answer { result ≡ (outcome_of_reject self.old reject.now).answer }
         ensures orders { self.new

@@ -1,12 +1,12 @@
-//! Sequences of messages with the values of the firm, the account and the symbol after each, worked by
-//! hand.
+//! Sequences of messages with the values of the firm, the account and the symbol after each, worked
+//! by hand.
 use crate::BookFault;
 use crate::sequences::Step::{Buy, Cancel, New, Reject, Replace, ReplaceOf, Report, Trade};
 use crate::sequences::Want::{All, Over, Refused, Stray, Taken, Values};
 use fix_orders::Exec;
 
-/// One message. An account or a report's id that is empty isn't there; a price is ten-thousandths, and
-/// 0 of a market order.
+/// One message. An account or a report's id that is empty isn't there; a price is ten-thousandths,
+/// and 0 of a market order.
 #[derive(Clone, Copy, Debug)]
 pub(crate) enum Step {
     /// ClOrdID, quantity, price: a buy of the first account in the first symbol.

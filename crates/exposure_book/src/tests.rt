@@ -1,5 +1,5 @@
-//! What no clause says: that each call answers with ample memory, and the values of whole sequences of
-//! messages, worked by hand, and summed from scratch by a plain book.
+//! What no clause says: that each call answers with ample memory, and the values of whole sequences
+//! of messages, worked by hand, and summed from scratch by a plain book.
 ghost use Rattle.std.specs.Prelude.{◌≡◌, ◌<◌, length};
 
 use crate::plain_book::PlainBook;

@@ -8,7 +8,8 @@ pub returns : goal.returns
 returns c =
     let within : c.args.place < length c.self.inside.orders.items =
     subst (λ (b : BookValue). c.args.place < length b.orders) (sym c.self.view_is) c.requires in
-    let found = order_found c.self.inside.orders.items c.args.place c.index.result.now within c.index.ensures in
+    let found = order_found c.self.inside.orders.items c.args.place c.index.result.now within
+    c.index.ensures in
     rw (← c.self.view_is) (record {
       found = found;
       placed = order_placed _ _ _ _ _ c.self.invariant c.args.place c.index.result.now found;
