@@ -1,0 +1,39 @@
+-- What one order counts for, and what its reserve price is.
+use Rattle.std.specs.Prelude.{◌≡◌, ◌≤◌, ℕ, ◌+◌, ◌-◌, ◌*◌, Bool, max, ◌==◌, if◌then◌else◌}
+use Rattle.fix_orders.specs.declared.message.OrderKind.{OrderKind}
+use Rattle.fix_orders.specs.declared.message.OrderKind.TheVariants.{Market, Limit}
+use Rattle.exposure_book.specs.declared.order.Order.{Order}
+use Rattle.exposure_book.specs.declared.price.TheConstants.{BUY}
+use Rattle.exposure_book.specs.Pendings.{pending_total, pending_price}
+
+-- the dearest price that an order counts for: of a buy with a limit its price, of every sell and
+-- every market order the upper collar price of its symbol
+abbrev pub reserve_price : ℕ → OrderKind → ℕ → ℕ → ℕ
+reserve_price side Limit price high = if side == BUY then price else high
+reserve_price side Market price high = high
+
+-- the larger of an order's total and that of a replace pending on it
+abbrev pub open_total : Order → ℕ
+open_total order = max order.total (pending_total order.pending)
+
+-- the larger of an order's reserve price and that of a replace pending on it
+abbrev pub reserve_of : Order → ℕ
+reserve_of order = max order.price (pending_price order.pending)
+
+-- leaves: what may still be filled, nothing once the order has ended
+abbrev pub leaves_of : Order → ℕ
+leaves_of order = if order.ended then 0 else open_total order - order.filled
+
+-- nothing is left
+abbrev pub is_closed : Order → Bool
+is_closed order = leaves_of order == 0
+
+-- exposure in ten-thousandths, exact: what was filled, and the leaves at the reserve price
+abbrev pub exposure_of : Order → ℕ
+exposure_of order = order.notional + leaves_of order * reserve_of order
+
+-- the order keeps its account and symbol, and counts for no more than before
+pub record Lowers (old new : Order) : Type 0 where
+  pub account : new.account ≡ old.account
+  pub symbol : new.symbol ≡ old.symbol
+  pub exposure : exposure_of new ≤ exposure_of old
