@@ -1,8 +1,8 @@
 -- What is asked for an order's legs, and what the hands and the acts tell of it.
-use Rattle.std.proofs.Common.{◌≡◌, ◌≢◌, ℕ, ◌+◌, ◌-◌, ◌≤◌, ◌<◌, ◌==◌, List, [], ◌∷◌, ◌++◌, length}
-use Rattle.std.proofs.Common.{refl, sym, ap, ◌∙◌, subst, arith, Bool, true, false, cond, ◌||◌, ◌^◌}
+use Rattle.std.proofs.Common.{◌≡◌, ◌≢◌, ℕ, ◌+◌, ◌≤◌, ◌<◌, ◌==◌, List, [], ◌∷◌, ◌++◌}
+use Rattle.std.proofs.Common.{refl, sym, ap, ◌∙◌, subst, arith, Bool, true, false, cond, ◌||◌}
 use Rattle.std.proofs.Common.{append_assoc}
-use Rattle.std.specs.Prelude.{Option, Some, None, Result, Ok, Err, nat_lt, slice_index, fold, All}
+use Rattle.std.specs.Prelude.{Option, Some, None, Ok, nat_lt, fold, All}
 use Rattle.std.specs.Prelude.{AllPairs, IsTrue, ◌↔◌}
 use Rattle.std.specs.List.{list_any}
 use Rattle.std.proofs.lemmas.List.Elements.{All-cons, All-nil}
@@ -22,7 +22,7 @@ use Rattle.admit_core.specs.declared.ask.Verdict.{Verdict}
 use Rattle.admit_core.specs.declared.ask.Verdict.TheVariants as verdict
 use Rattle.admit_core.specs.Asks.{IsLegOf, AreApart, is_short, leg_at, Leg as CoreLeg}
 use Rattle.admit_core.specs.Asks.{legs_of as core_legs, last_post as last_call}
-use Rattle.admit_core.specs.Calls.{with_calls, root_at}
+use Rattle.admit_core.specs.Calls.{with_calls}
 use Rattle.admit_core.specs.Admission.{asking_calls, retracting_calls, calls_by, halt_calls_by}
 use Rattle.admit_core.specs.Admission.{halt_read}
 use Rattle.admit_core.specs.Verdicts.{is_above, verdict_of as core_verdict}

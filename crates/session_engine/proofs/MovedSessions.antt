@@ -15,7 +15,7 @@ use Rattle.session_engine.specs.Answers.{code_of}
 use Rattle.session_engine.specs.declared.rows.OrderRows.{OrderRows}
 use Rattle.session_engine.specs.Trees.{LimitsValue, account_tree, symbol_tree}
 use Rattle.session_engine.specs.OrderTrees.{OrderValue, rows_of}
-use Rattle.session_engine.specs.Session.{SessionValue, Leg, with_post, after_rows}
+use Rattle.session_engine.specs.Session.{SessionValue, Leg, after_rows}
 use Rattle.risk_journal.specs.ActLists.{SeenAt}
 use Rattle.session_engine.specs.Session.{next_read}
 use Rattle.session_engine.specs.Session.{with_act, after_posting, after_reading, legs_of}

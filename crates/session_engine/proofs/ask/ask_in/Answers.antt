@@ -1,5 +1,5 @@
 -- What was asked, posted and read.
-use Rattle.std.proofs.Common.{◌≡◌, ◌∙◌, sym, arith, refl, inl, inr}
+use Rattle.std.proofs.Common.{◌∙◌, sym, arith, refl, inl, inr}
 use Rattle.session_engine.specs.Orders.{order_value}
 use Rattle.session_engine.proofs.Places.{known_rows}
 use Rattle.session_engine.proofs.AskLemmas.{legs_are, legs_apart, fits_from, is_posted, asks_quota}

@@ -1,11 +1,7 @@
 -- The order is kept in three different trees.
-use Rattle.std.proofs.Common.{◌≡◌, ℕ, ◌+◌, List, length, ap, ◌∙◌, sym, arith, refl}
-use Rattle.std.specs.Prelude.{slice_index, slice_set}
+use Rattle.std.proofs.Common.{◌≡◌, length, ap, ◌∙◌, arith}
 use Rattle.std.proofs.lemmas.List.{length-set}
-use Rattle.admit_core.specs.declared.ask.Ask.{Ask}
-use Rattle.session_engine.specs.declared.totals.TreeTotals.{TreeTotals}
 use Rattle.session_engine.specs.Orders.{order_value}
-use Rattle.session_engine.specs.Stands.{totals_at}
 use Rattle.session_engine.proofs.Places.{known_rows}
 use Rattle.session_engine.proofs.KeptLemmas.{kept_sent, kept_at}
 use Rattle.session_engine.proofs.ask.keep_sent.Goals as goal
