@@ -2,7 +2,9 @@ pub mod FileNames
 pub mod LimitFiles
 pub mod LimitQuota
 pub mod LimitTexts
+pub mod BoardLines
 pub mod Chains
+pub mod Histories
 pub mod Ran
 pub mod Ways
 pub mod Played

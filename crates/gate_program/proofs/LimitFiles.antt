@@ -6,7 +6,6 @@ use Rattle.gate_ports.specs.Names.{Texts}
 use Rattle.limit_table.specs.Files.{IsLimitFile, IsFirstFault, bytes_most}
 use Rattle.limit_table.specs.declared.fault.LimitFault.{LimitFault}
 use Rattle.limit_table.specs.declared.limits.Limits.{Limits}
-use Rattle.session_engine.specs.Session.{LimitsValue}
 use Rattle.gate_program.specs.declared.status.Status.{Status}
 use Rattle.gate_program.specs.declared.status.Status.TheVariants as status
 use Rattle.gate_program.specs.Run.{PortsValue}
@@ -45,13 +44,13 @@ long_fault text bytes rest why is long (inr (inr lacks)) =
     let few = lacks.few in absurd (omega (arith, long, few))
 
 module _ (name : List ℕ) (most : ℕ) (room : bytes_most < most) where
-  pub has_limits : (told : Option Texts) (bytes : List ℕ) (limits : LimitsValue)
+  pub has_limits : (told : Option Texts) (bytes : List ℕ) (limits : Limits)
       → HasFront told name most bytes → AreLimits bytes limits → HasLimits told name limits
   has_limits None bytes limits front are = tt
   has_limits (Some texts) bytes limits (text, is, inl same) are =
       (text, is, subst (λ (t : List ℕ). AreLimits t limits) (sym same) are)
   has_limits (Some texts) bytes limits (text, is, inr (long, rest, spelled)) are =
-      absurd (long_is_none bytes are.file (omega (arith, long, room)) are.held)
+      absurd (long_is_none bytes limits (omega (arith, long, room)) are.held)
 
   pub has_unserved : (told : Option Texts) (bytes : List ℕ)
       → HasFront told name most bytes → AreUnserved bytes → HasUnserved told name

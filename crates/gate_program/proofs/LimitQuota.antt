@@ -1,13 +1,12 @@
 -- The quota of a limit file is from 1 to 200,000.
-use Rattle.std.proofs.Common.{ℕ, List, [], ◌∷◌, ◌++◌, map}
+use Rattle.std.proofs.Common.{ℕ, ◌≤◌, List, [], ◌∷◌, ◌++◌, map}
 use Rattle.std.specs.List.{All}
 use Rattle.std.proofs.lemmas.List.Elements.{All-head, All-tail}
-use Rattle.limit_table.specs.Files.{IsLimitFile}
+use Rattle.limit_table.specs.Files.{IsHeldByFile}
 use Rattle.limit_table.specs.Printing.{trip_rows}
 use Rattle.limit_table.specs.Ranges.{IsInRange}
 use Rattle.limit_table.specs.declared.limits.Limits.{Limits}
 use Rattle.limit_table.proofs.FileLimits.{held_is_file_limits}
-use Rattle.gate_program.specs.Limits.{IsQuota}
 
 -- what holds of all holds of the last of them
 last_hold : {X : Type 0} (P : X → Type 0) (first rest : List X) → All P (first ++ rest) → All P rest
@@ -24,9 +23,9 @@ one_holds P head f g ys zs xs here rest all =
     (last_hold P (map f ys) (map g zs ++ (xs ++ (here ∷ rest)))
     (All-tail P head (map f ys ++ (map g zs ++ (xs ++ (here ∷ rest)))) all))))
 
--- the quota of a limit file
-pub quota_of_file : (bytes : List ℕ) (limits : Limits) → IsLimitFile bytes limits
-    → IsQuota limits.quota
-quota_of_file bytes limits file =
+-- the quota of limits that a file holds
+pub quota_in_range : (limits : Limits) → IsHeldByFile limits
+    → (1 ≤ limits.quota) × (limits.quota ≤ 200000)
+quota_in_range limits held =
     one_holds IsInRange _ _ _ limits.accounts limits.symbols (trip_rows limits.trip) _ _
-    (held_is_file_limits limits (bytes, file)).in_range
+    (held_is_file_limits limits held).in_range

@@ -6,33 +6,25 @@ use Rattle.std.specs.Prelude.{Option, Some, None, IfSome, IsSome, slice_get}
 use Rattle.std.specs.Option.{option_map}
 use Rattle.std.specs.Str.{bytes_eq}
 use Rattle.std.specs.Io.KnownBytes.{Appends}
-use Rattle.fold_law.specs.Sum.{sum_of}
-use Rattle.fold_law.specs.Whole.{whole_of}
 use Rattle.gate_ports.specs.Faults.{NeverFalls}
 use Rattle.gate_ports.specs.Names.{Texts, IsEmptySink}
 use Rattle.risk_board.specs.declared.hand.Line.{Line}
-use Rattle.risk_board.specs.History.{IsLegal, Event, events_of_calls, components_of}
-use Rattle.risk_board.specs.Plain.{BoardValue}
 use Rattle.risk_journal.specs.declared.acts.Act.{Act}
 use Rattle.risk_journal.specs.declared.acts.End.{End}
 use Rattle.risk_journal.specs.declared.acts.End.TheVariants as ending
-use Rattle.session_engine.specs.Session.{LimitsValue}
-use Rattle.risk_journal.specs.ActLists.{events_of}
-use Rattle.session_engine.specs.Trees.{fold_of, limit_of}
-use Rattle.session_engine.specs.Admitted.{StaysWithin}
-use Rattle.session_engine.proofs.Within.{legal_stays_within}
+use Rattle.limit_table.specs.declared.limits.Limits.{Limits}
 use Rattle.session_engine.specs.Follows.{IsByInput, FollowsSource, FollowsInput}
 use Rattle.gate_program.specs.Words.{RunWords, venue_name, client_name, journal_name, is_among}
 use Rattle.gate_program.specs.Words.{output_names}
 use Rattle.gate_program.specs.Run.{PortsValue, ReadRose, OutputRose, EndHolds}
-use Rattle.gate_program.specs.Run.{FollowsText, IsHistory, session_name}
+use Rattle.gate_program.specs.Run.{FollowsText, session_name}
 use Rattle.gate_program.specs.Gate.{HasRun, HasJournal, AreInputs}
 use Rattle.gate_program.specs.Gate.{HasLimits}
 use Rattle.gate_program.specs.Run.{is_memory}
 use Rattle.std.specs.List.{list_any}
-use Rattle.gate_program.specs.Stages.{Went, IsNewSource, AreWritten, HasLines}
-use Rattle.gate_program.specs.Stages.{HasPlayed, HasEnded, with_two}
+use Rattle.gate_program.specs.Stages.{Went, IsNewSource, AreWritten, HasEnded, with_two}
 use Rattle.gate_program.proofs.Chains.{rose_from}
+use Rattle.gate_program.proofs.Histories.{is_history}
 
 -- a run of one session
 abbrev pub one_run : List ℕ → List ℕ → List ℕ → RunWords
@@ -71,7 +63,7 @@ each_is_first {A} {B} {C} P a b c holds zero x y z is_x is_y is_z =
 each_is_first {A} {B} {C} P a b c holds (suc n) x y z is_x is_y is_z = absurd cc
 
 -- by each end
-end_holds : (limits : LimitsValue) (before after : PortsValue) (run : RunWords) (bytes : List ℕ)
+end_holds : (limits : Limits) (before after : PortsValue) (run : RunWords) (bytes : List ℕ)
     (acts : List Act)
     (end : End) → (end ≡ ending.ReadFault → ReadRose before after (session_name run 0))
     → (end ≡ ending.WriteFault → OutputRose before after run 0)
@@ -100,7 +92,7 @@ none_is_there None is there = cc
 none_is_there (Some text) is there = cc
 
 -- the streams that a told session wrote are the texts of its outputs
-follows_text : (limits : LimitsValue) (run : RunWords) (told after : Option Texts)
+follows_text : (limits : Limits) (run : RunWords) (told after : Option Texts)
     (session : List ℕ)
     (left own held_venue venue_after held_client client_after : Option (List ℕ)) (faults : ℕ)
     (acts : List Act) (end : End)
@@ -163,43 +155,6 @@ are_inputs (Some texts) session None own faults new =
 are_inputs (Some texts) session (Some bytes) own faults new =
     ap (λ text. text ∷ []) (sym new.opened.1)
 
--- the history of the board is that of the acts
-is_history : (limits : LimitsValue) (board : BoardValue) (acts : List Act) (lines : List Line)
-    → HasPlayed board acts
-    → HasLines board lines → IsHistory limits (acts ∷ []) (lines ∷ [])
-is_history limits board acts lines played has = record {
-  trees = refl;
-  legal = λ tree own is. legal_at tree own is;
-  within = λ tree own is. within_at tree own is;
-} where
-  own_calls : map (events_of_calls (λ stamp. stamp) 0) board.calls ≡ events_of 0 acts ∷ []
-  own_calls = ap (λ calls. map (events_of_calls (λ stamp. stamp) 0) calls) played.calls
-      ∙ ap (λ own. own ∷ []) (sym played.events)
-
-  one_session : length board.calls ≡ 1
-  one_session = ap length played.calls
-
-  first : IsLegal (whole_of sum_of 0) 0 (components_of 1) lines (events_of 0 acts ∷ [])
-  first = subst (λ (n : ℕ). IsLegal (whole_of sum_of 0) 0 (components_of n) lines
-      (events_of 0 acts ∷ [])) one_session
-      (subst (λ (events : List (List Event)). IsLegal (whole_of sum_of 0) 0
-      (components_of (length board.calls)) lines events) own_calls has.legal)
-
-  legal_at : (tree : ℕ) (own : List Line) → slice_get (lines ∷ []) tree ≡ Some own
-      → IsLegal (fold_of limits tree) 0 (components_of 1) own (events_of tree acts ∷ [])
-  legal_at zero own is = let same : lines ≡ own = cc in
-      subst (λ (l : List Line). IsLegal (whole_of sum_of 0) 0 (components_of 1) l
-      (events_of 0 acts ∷ [])) same first
-  legal_at (suc tree) own is = absurd cc
-
-  within_at : (tree : ℕ) (own : List Line) → slice_get (lines ∷ []) tree ≡ Some own
-      → IfSome (limit_of limits tree)
-      (λ limit. StaysWithin limit 1 own (events_of tree acts ∷ []))
-  within_at zero own is =
-      legal_stays_within limits.firm (components_of 1) own (events_of 0 acts ∷ [])
-      (legal_at zero own is)
-  within_at (suc tree) own is = absurd cc
-
 -- the journal's own write count rose from the start
 pub journal_from : (start opened after : PortsValue) (run : RunWords) (acts : List (List Act))
     (lines : List (List Line))
@@ -217,7 +172,7 @@ output_from start opened after run later (inl rose) = inl (rose_from _ _ _ (late
 output_from start opened after run later (inr rose) = inr (rose_from _ _ _ (later _) rose)
 
 -- One session was opened, ran and was closed: what its run did.
-pub has_run : (limit_name out session : List ℕ) (limits : LimitsValue)
+pub has_run : (limit_name out session : List ℕ) (limits : Limits)
     (start opened after : PortsValue) (status : ℕ)
     (left own held_venue held_client : Option (List ℕ)) (faults : ℕ)
     → (let run = one_run limit_name out session in
@@ -243,7 +198,7 @@ has_run limit_name out session limits start opened after status left own hv hc f
       inputs = told_bytes left ∷ [];
       acts = ended.acts ∷ [];
       ends = ended.end ∷ [];
-      lines = ended.finished.lines ∷ [];
+      lines = ended.finished.lines;
       refused = ended.finished.refused;
       limits_are = limits_are;
       remembered = remembered;
@@ -258,10 +213,10 @@ has_run limit_name out session limits start opened after status left own hv hc f
           (λ by_input. follows_text limits run start.texts after.texts session left own hv va hc ca
           faults ended.acts ended.end _
           source venue client written (ended.follows by_input)));
-      history = is_history limits ended.board ended.acts ended.finished.lines ended.played
+      history = is_history limits ended.boards ended.acts ended.finished.lines ended.played
           ended.finished.has_lines;
       journal = journal_from start opened after run (ended.acts ∷ [])
-          (ended.finished.lines ∷ []) ended.finished.refused went.written ended.finished.journal;
+          ended.finished.lines ended.finished.refused went.written ended.finished.journal;
       others = keeps_others limit_name out session start.texts after.texts va ca written;
       told = inl (ended.finished.stands, nothing_told start.held after.held _ untold);
     }

@@ -8,14 +8,15 @@ use Rattle.std.specs.Option.{option_map}
 use Rattle.std.proofs.lemmas.Bool.Decides.{nat_tests}
 use Rattle.std.proofs.lemmas.Slice.Eq.{bytes_eq-Decides}
 use Rattle.gate_ports.specs.Names.{Texts, IsThere, MeansName}
-use Rattle.risk_board.specs.Plain.{BoardValue}
 use Rattle.risk_journal.specs.declared.acts.Act.{Act}
 use Rattle.risk_journal.specs.declared.acts.End.{End}
 use Rattle.gate_program.specs.Words.{venue_name, client_name, journal_name}
 use Rattle.risk_journal.specs.JournalText.{journal_text}
 use Rattle.gate_program.specs.Run.{PortsValue, Holds, WriteRose, standing_of}
 use Rattle.gate_program.specs.Stages.{Went, AreOutputs, AreClosed, AreWritten, HasTexts}
-use Rattle.gate_program.specs.Stages.{ChangesOnly, HasStood, HasFinished, IsJournalOf, IsNewSource}
+use Rattle.gate_program.specs.Boards.{IsJournalOf}
+use Rattle.gate_program.specs.declared.boards.Boards.{Boards}
+use Rattle.gate_program.specs.Stages.{ChangesOnly, HasStood, HasFinished, IsNewSource}
 use Rattle.gate_program.specs.Stages.{IsOwn, with_two}
 use Rattle.gate_program.proofs.Ran.{one_run, journal_from}
 
@@ -139,32 +140,32 @@ are_written limits out session (Some old) (Some closed) (Some new) hv hc
     (λ other apart. others other apart ∙ ap (λ (t : Texts). t other) same)
 
 -- the journal was written
-pub stood_written : (limits out session : List ℕ) (before after : PortsValue) (board : BoardValue)
+pub stood_written : (limits out session : List ℕ) (before after : PortsValue) (boards : Boards)
     (acts : List Act) (end : End) (status : ℕ)
-    (name text : List ℕ) → name ≡ journal_name out → IsJournalOf board acts text
+    (name text : List ℕ) → name ≡ journal_name out → IsJournalOf boards acts text
     → Holds after.texts name text
     → ChangesOnly before.texts after.texts name → status ≡ standing_of (end ∷ []) false
-    → HasStood (one_run limits out session) before after board acts end status
-stood_written limits out session before after board acts end status name text named journal holds
+    → HasStood (one_run limits out session) before after boards acts end status
+stood_written limits out session before after boards acts end status name text named journal holds
     others stands = record {
       lines = journal.lines;
       refused = false;
       has_lines = journal.has_lines;
       journal = subst (λ (n : List ℕ). Holds after.texts n
-          (journal_text (acts ∷ []) (journal.lines ∷ []))) named
+          (journal_text (acts ∷ []) journal.lines)) named
           (subst (λ (t : List ℕ). Holds after.texts name t) journal.spelled holds);
       others = subst (λ (n : List ℕ). ChangesOnly before.texts after.texts n) named others;
       stands = stands;
     }
 
 -- the journal was refused
-pub stood_refused : (limits out session : List ℕ) (before after : PortsValue) (board : BoardValue)
+pub stood_refused : (limits out session : List ℕ) (before after : PortsValue) (boards : Boards)
     (acts : List Act) (end : End) (status : ℕ)
-    (name text : List ℕ) → name ≡ journal_name out → IsJournalOf board acts text
+    (name text : List ℕ) → name ≡ journal_name out → IsJournalOf boards acts text
     → WriteRose before after name
     → ChangesOnly before.texts after.texts name → status ≡ standing_of (end ∷ []) true
-    → HasStood (one_run limits out session) before after board acts end status
-stood_refused limits out session before after board acts end status name text named journal rose
+    → HasStood (one_run limits out session) before after boards acts end status
+stood_refused limits out session before after boards acts end status name text named journal rose
     others stands = record {
       lines = journal.lines;
       refused = true;
@@ -175,23 +176,23 @@ stood_refused limits out session before after board acts end status name text na
     }
 
 -- the outputs were closed, and then the journal stood
-pub finished : (limits out session : List ℕ) (start closed after : PortsValue) (board : BoardValue)
+pub finished : (limits out session : List ℕ) (start closed after : PortsValue) (boards : Boards)
     (acts : List Act) (end : End) (status : ℕ)
     (hv hc : Option (List ℕ)) (venue client journal : List ℕ) → AreOutputs out venue client journal
     → Went start closed
     → AreClosed start.texts closed.texts venue client hv hc
-    → (status ≡ 8) ⊎ HasStood (one_run limits out session) closed after board acts end status
-    → (status ≡ 8) ⊎ HasFinished (one_run limits out session) start after board acts end hv hc
+    → (status ≡ 8) ⊎ HasStood (one_run limits out session) closed after boards acts end status
+    → (status ≡ 8) ⊎ HasFinished (one_run limits out session) start after boards acts end hv hc
     status
-finished limits out session start closed after board acts end status hv hc venue client journal
+finished limits out session start closed after boards acts end status hv hc venue client journal
     names went are (inl memory) = inl memory
-finished limits out session start closed after board acts end status hv hc venue client journal
+finished limits out session start closed after boards acts end status hv hc venue client journal
     names went are (inr stood) = inr (record {
       lines = stood.lines;
       refused = stood.refused;
       has_lines = stood.has_lines;
       journal = journal_from start closed after (one_run limits out session) (acts ∷ [])
-          (stood.lines ∷ []) stood.refused went.written stood.journal;
+          stood.lines stood.refused went.written stood.journal;
       written = are_written limits out session start.texts closed.texts after.texts hv hc
           (subst (λ (n : List ℕ). AreClosed start.texts closed.texts n (client_name out 0) hv hc)
           names.venue_is

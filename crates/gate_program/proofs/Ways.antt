@@ -6,13 +6,12 @@ use Rattle.gate_ports.specs.Faults.{Rose, NeverFalls}
 use Rattle.gate_ports.specs.Names.{Texts}
 use Rattle.std.specs.Option.{option_map}
 use Rattle.risk_board.specs.declared.hand.Line.{Line}
-use Rattle.risk_board.specs.Plain.{BoardValue}
 use Rattle.risk_journal.specs.declared.acts.Act.{Act}
 use Rattle.risk_journal.specs.declared.acts.End.{End}
 use Rattle.risk_journal.specs.declared.acts.End.TheVariants as ending
 use Rattle.gate_program.specs.declared.status.Status.{Status}
 use Rattle.gate_program.specs.declared.status.Status.TheVariants as status
-use Rattle.session_engine.specs.Session.{LimitsValue}
+use Rattle.limit_table.specs.declared.limits.Limits.{Limits}
 use Rattle.gate_program.specs.Words.{RunWords, Command, venue_name, client_name}
 use Rattle.gate_program.specs.Words.Command.{Run as RunCommand}
 use Rattle.gate_program.specs.Run.{PortsValue, EndHolds, ReadRose, WriteRose, standing_of}
@@ -26,7 +25,9 @@ use Rattle.gate_program.specs.Stages.{Went, IsUnopened, HasLimitsFault, TellsFau
 use Rattle.gate_program.specs.Gate.{HasLimits}
 use Rattle.gate_program.specs.Run.{is_memory}
 use Rattle.std.specs.List.{list_any}
-use Rattle.gate_program.specs.Stages.{HasPlayed, HasFinished, HasEnded, IsNewSource, IsNewSink}
+use Rattle.gate_program.specs.Boards.{HasPlayed}
+use Rattle.gate_program.specs.declared.boards.Boards.{Boards}
+use Rattle.gate_program.specs.Stages.{HasFinished, HasEnded, IsNewSource, IsNewSink}
 use Rattle.gate_program.specs.Stages.{with_two}
 use Rattle.gate_program.specs.Statuses.{number_of, told_text}
 use Rattle.gate_program.proofs.Chains.{rose_from, rose_is_some, zero_stands, told_text_is}
@@ -46,7 +47,7 @@ beside texts reads writes held faults = record {
 -- the session or its outputs could not be opened
 pub unopened : (limit_name out session : List ℕ) (t0 : Option Texts) (r0 w0 : List ℕ → ℕ)
     (t1 : Option Texts) (r1 w1 : List ℕ → ℕ)
-    (limits : LimitsValue) (s : Status) → HasLimits t0 limit_name limits
+    (limits : Limits) (s : Status) → HasLimits t0 limit_name limits
     → IsUnopened (silent t0 r0 w0) (silent t1 r1 w1) session (venue_name out 0)
     (client_name out 0) s
     → (number_of s ≡ 8) ⊎ SessionsWent (one_run limit_name out session) (silent t0 r0 w0)
@@ -98,7 +99,7 @@ no_limits_went run t0 r0 w0 t1 r1 w1 status.WriteFault same fault = absurd fault
 module _ (run : RunWords) (t : Option Texts) (r0 w0 r1 w1 : List ℕ → ℕ) (t2 : Option Texts)
     (r2 w2 : List ℕ → ℕ)
     (reads : NeverFalls r0 r1) (writes : NeverFalls w0 w1) where
-  end_earlier : (limits : LimitsValue) (n : ℕ) (bytes : List ℕ) (own : List Act) (end : End)
+  end_earlier : (limits : Limits) (n : ℕ) (bytes : List ℕ) (own : List Act) (end : End)
       → EndHolds limits (silent t r1 w1) (silent t2 r2 w2) run n bytes own end
       → EndHolds limits (silent t r0 w0) (silent t2 r2 w2) run n bytes own end
   end_earlier limits n bytes own ending.ReadFault holds = rose_from _ _ _ (reads _) holds
@@ -193,7 +194,7 @@ sessions_arent_limits run t0 r0 w0 t1 r1 w1 n (inr (inr (inr h))) three =
 module _ (run : RunWords) (t0 : Option Texts) (r0 w0 : List ℕ → ℕ) (t1 : Option Texts)
     (r1 w1 : List ℕ → ℕ)
     (held held_after : Option (List ℕ)) (faults faults_after : ℕ) where
-  end_beside : (limits : LimitsValue) (n : ℕ) (bytes : List ℕ) (own : List Act) (end : End)
+  end_beside : (limits : Limits) (n : ℕ) (bytes : List ℕ) (own : List Act) (end : End)
       → EndHolds limits (silent t0 r0 w0) (silent t1 r1 w1) run n bytes own end
       → EndHolds limits (beside t0 r0 w0 held faults) (beside t1 r1 w1 held_after faults_after) run
       n bytes own end
@@ -331,25 +332,25 @@ run_told run t0 r0 w0 t1 r1 w1 held held_after faults faults_after s answer memo
     did told)
 
 -- a session that was opened ran and was closed, and each fault is one of its name
-pub has_ended : (limit_name out session : List ℕ) (limits : LimitsValue) (before after : PortsValue)
-    (board : BoardValue)
+pub has_ended : (limit_name out session : List ℕ) (limits : Limits) (before after : PortsValue)
+    (boards : Boards)
     (acts : List Act) (end : End) (status : ℕ) (left hv hc va ca : Option (List ℕ))
     (f0 f1 v0 v1 c0 c1 : ℕ) (venue client journal : List ℕ)
     → AreOutputs out venue client journal → f0 ≡ 0 → v0 ≡ 0 → c0 ≡ 0
-    → HasPlayed board acts → (IsByInput end → FollowsSource limits left acts end hv va hc ca)
+    → HasPlayed limits boards acts → (IsByInput end → FollowsSource limits left acts end hv va hc ca)
     → (end ≡ ending.ReadFault → Rose f0 f1) → (end ≡ ending.WriteFault → Rose v0 v1 ⊎ Rose c0 c1)
     → (f1 ≢ 0 → ReadRose before after session) → (v1 ≢ 0 → WriteRose before after venue)
     → (c1 ≢ 0 → WriteRose before after client)
-    → (status ≡ 8) ⊎ HasFinished (one_run limit_name out session) before after board acts end va ca
+    → (status ≡ 8) ⊎ HasFinished (one_run limit_name out session) before after boards acts end va ca
     status
     → (status ≡ 8) ⊎ HasEnded limits (one_run limit_name out session) before after left hv hc status
-has_ended limit_name out session limits before after board acts end status left hv hc va ca f0 f1 v0
+has_ended limit_name out session limits before after boards acts end status left hv hc va ca f0 f1 v0
     v1 c0 c1 venue client journal
     names f v c played follows read write reads venues clients (inl memory) = inl memory
-has_ended limit_name out session limits before after board acts end status left hv hc va ca f0 f1 v0
+has_ended limit_name out session limits before after boards acts end status left hv hc va ca f0 f1 v0
     v1 c0 c1 venue client journal
     names f v c played follows read write reads venues clients (inr finished) = inr (record {
-      board = board;
+      boards = boards;
       acts = acts;
       end = end;
       venue_after = va;
@@ -380,7 +381,7 @@ memory_or_run ending.WriteFault refused status stands run = inr (run refl)
 memory_or_run (ending.NotBuilt place) refused status stands run = inr (run refl)
 
 -- a session was opened behind the limits, and ended
-pub ended_went : (limit_name out session : List ℕ) (limits : LimitsValue) (t0 : Option Texts)
+pub ended_went : (limit_name out session : List ℕ) (limits : Limits) (t0 : Option Texts)
     (r0 w0 : List ℕ → ℕ)
     (opened : PortsValue) (t2 : Option Texts) (r2 w2 : List ℕ → ℕ) (status : ℕ)
     (left own hv vn hc cn : Option (List ℕ)) (f v c : ℕ) (venue client journal : List ℕ)
@@ -410,7 +411,7 @@ ended_went limit_name out session limits t0 r0 w0 opened t2 r2 w2 status left ow
 -- the session or its outputs could not be opened, by the names that they have
 pub unopened_named : (limit_name out session : List ℕ) (t0 : Option Texts) (r0 w0 : List ℕ → ℕ)
     (t1 : Option Texts) (r1 w1 : List ℕ → ℕ)
-    (limits : LimitsValue) (s : Status) (venue client journal : List ℕ)
+    (limits : Limits) (s : Status) (venue client journal : List ℕ)
     → HasLimits t0 limit_name limits → AreOutputs out venue client journal
     → IsUnopened (silent t0 r0 w0) (silent t1 r1 w1) session venue client s
     → (number_of s ≡ 8) ⊎ SessionsWent (one_run limit_name out session) (silent t0 r0 w0)

@@ -11,7 +11,7 @@ use Rattle.limit_table.specs.declared.fault.LimitFault.{LimitFault}
 use Rattle.risk_board.specs.declared.hand.Line.{Line}
 use Rattle.risk_journal.specs.declared.acts.Act.{Act}
 use Rattle.risk_journal.specs.declared.acts.End.{End}
-use Rattle.session_engine.specs.Session.{LimitsValue}
+use Rattle.limit_table.specs.declared.limits.Limits.{Limits}
 use Rattle.risk_journal.specs.JournalText.{journal_text}
 use Rattle.gate_program.specs.Words.{RunWords, Command, command_of, output_names, journal_name}
 use Rattle.gate_program.specs.Words.{is_among}
@@ -55,7 +55,7 @@ abbrev pub not_built_text : List ℕ
 not_built_text = codes "not built" ++ 10 ∷ []
 
 -- the name's text is a limit file with these limits, which are served, where the folder tells it
-abbrev pub HasLimits : Option Texts → List ℕ → LimitsValue → Type 0
+abbrev pub HasLimits : Option Texts → List ℕ → Limits → Type 0
 HasLimits told name limits =
     IfSome told (λ texts. (text : List ℕ) × (texts name ≡ Some text) × AreLimits text limits)
 
@@ -96,7 +96,7 @@ pub record HasOtherLimits (run : RunWords) (before after : PortsValue) (status :
 
 -- A session's name could not be opened, behind limits that are served.
 pub record HasUnopenedSession (run : RunWords) (before after : PortsValue) (status : ℕ) : Type 0 where
-  pub limits : LimitsValue
+  pub limits : Limits
   pub limits_are : HasLimits before.texts run.limits limits
   pub session : ℕ
   pub in_range : session < length run.sessions
@@ -105,7 +105,7 @@ pub record HasUnopenedSession (run : RunWords) (before after : PortsValue) (stat
 
 -- An output of a session could not be created, behind limits that are served.
 pub record HasRefusedOutput (run : RunWords) (before after : PortsValue) (status : ℕ) : Type 0 where
-  pub limits : LimitsValue
+  pub limits : Limits
   pub limits_are : HasLimits before.texts run.limits limits
   pub session : ℕ
   pub in_range : session < length run.sessions
@@ -141,7 +141,7 @@ AreInputs told names inputs =
 -- The sessions were run: each did what its end says, all together have one legal history in each tree,
 -- and the journal tells it.
 pub record HasRun (run : RunWords) (before after : PortsValue) (status : ℕ) : Type 0 where
-  pub limits : LimitsValue
+  pub limits : Limits
   pub inputs : List (List ℕ)
   pub acts : List (List Act)
   pub ends : List End

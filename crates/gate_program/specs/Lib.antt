@@ -4,4 +4,5 @@ pub mod Gate
 pub mod CommandOf
 pub mod Limits
 pub mod Statuses
+pub mod Boards
 pub mod Stages

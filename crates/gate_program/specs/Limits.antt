@@ -1,34 +1,21 @@
 -- Which limit files a run is held to, and what is told of a text that isn't one.
-use Rattle.std.specs.Prelude.{◌≡◌, ℕ, ◌≤◌, ◌==◌, ◌&&◌, List, [], ◌∷◌, ◌++◌, length, Bool, false}
+use Rattle.std.specs.Prelude.{◌≡◌, ℕ, ◌==◌, ◌&&◌, List, [], ◌∷◌, ◌++◌, length, Bool, false}
 use Rattle.std.specs.Prelude.{IsTrue, codes, decimal}
 use Rattle.std.specs.Option.{is_none}
 use Rattle.limit_table.specs.Files.{IsLimitFile, IsFirstFault}
 use Rattle.limit_table.specs.declared.fault.LimitFault.{LimitFault}
 use Rattle.limit_table.specs.declared.fault.LimitFault.TheVariants as fault
 use Rattle.limit_table.specs.declared.limits.Limits.{Limits}
-use Rattle.session_engine.specs.Session.{LimitsValue}
 
--- The program serves these limits: no account, no symbol, no number that trips the halt, no setting of
--- the screen of repeats, and no dropped screen.
+-- The program serves these limits: no number that trips the halt, no setting of the screen of repeats,
+-- and no dropped screen.
 abbrev pub is_served : Limits → Bool
-is_served limits =
-    length limits.accounts == 0 && length limits.symbols == 0
-    && is_none limits.trip && limits.repeat == 0 && length limits.off == 0
+is_served limits = is_none limits.trip && limits.repeat == 0 && length limits.off == 0
 
--- what a session knows of the limits of a file
-abbrev pub session_limits : Limits → LimitsValue
-session_limits limits = record { firm = limits.firm; quota = limits.quota }
-
--- a limit file can set this quota
-abbrev pub IsQuota : ℕ → Type 0
-IsQuota quota = (1 ≤ quota) × (quota ≤ 200000)
-
--- the text is a limit file, its limits are served, and a session knows this of them
-pub record AreLimits (text : List ℕ) (limits : LimitsValue) : Type 0 where
-  pub file : Limits
-  pub held : IsLimitFile text file
-  pub served : IsTrue (is_served file)
-  pub known : limits ≡ session_limits file
+-- the text is a limit file with these limits, which are served
+pub record AreLimits (text : List ℕ) (limits : Limits) : Type 0 where
+  pub held : IsLimitFile text limits
+  pub served : IsTrue (is_served limits)
 
 -- the text is a limit file with limits that the program doesn't serve
 pub record AreUnserved (text : List ℕ) : Type 0 where

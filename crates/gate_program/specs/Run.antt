@@ -9,7 +9,7 @@ use Rattle.risk_board.specs.History.{IsLegal, components_of}
 use Rattle.risk_journal.specs.declared.acts.Act.{Act}
 use Rattle.risk_journal.specs.declared.acts.End.{End}
 use Rattle.risk_journal.specs.declared.acts.End.TheVariants as ending
-use Rattle.session_engine.specs.Session.{LimitsValue}
+use Rattle.limit_table.specs.declared.limits.Limits.{Limits}
 use Rattle.session_engine.specs.Trees.{tree_count, fold_of, limit_of}
 use Rattle.risk_journal.specs.ActLists.{events_of}
 use Rattle.session_engine.specs.Admitted.{StaysWithin}
@@ -48,7 +48,7 @@ session_name run session = slice_index_or run.sessions session []
 
 -- A session whose end is by its bytes: its acts and both its outputs follow its input, where the
 -- folder tells its texts.
-abbrev pub FollowsText : LimitsValue → PortsValue → RunWords → ℕ → List ℕ → List Act → End → Type 0
+abbrev pub FollowsText : Limits → PortsValue → RunWords → ℕ → List ℕ → List Act → End → Type 0
 FollowsText limits after run session bytes acts end =
     IfSome after.texts (λ texts. (venue : List ℕ) × (client : List ℕ)
     × (texts (venue_name run.out session) ≡ Some venue)
@@ -56,7 +56,7 @@ FollowsText limits after run session bytes acts end =
     × FollowsInput limits bytes acts end venue client)
 
 -- what is known of a session of these bytes by its end
-abbrev pub EndHolds : LimitsValue → PortsValue → PortsValue → RunWords → ℕ → List ℕ → List Act → End
+abbrev pub EndHolds : Limits → PortsValue → PortsValue → RunWords → ℕ → List ℕ → List Act → End
     → Type 0
 EndHolds limits before after run session bytes acts ending.ReadFault =
     ReadRose before after (session_name run session)
@@ -75,7 +75,7 @@ EndHolds limits before after run session bytes acts (ending.NotBuilt place) =
     FollowsText limits after run session bytes acts (ending.NotBuilt place)
 
 -- each tree has one legal history, and what is admitted in it stays within its limit
-pub record IsHistory (limits : LimitsValue) (acts : List (List Act)) (lines : List (List Line))
+pub record IsHistory (limits : Limits) (acts : List (List Act)) (lines : List (List Line))
     : Type 0 where
   pub trees : length lines ≡ tree_count limits
   pub legal : (tree : ℕ) (own : List Line) → slice_get lines tree ≡ Some own

@@ -2,21 +2,15 @@
 use Rattle.std.specs.Prelude.{◌≡◌, ℕ, List, [], ◌∷◌, ◌++◌, length, Option, Some, None, IfSome, ◌⊎◌}
 use Rattle.std.specs.Prelude.{MatchOption, Bool, false, slice_get}
 use Rattle.std.specs.Str.{bytes_eq}
-use Rattle.fold_law.specs.Sum.{sum_of}
-use Rattle.fold_law.specs.Whole.{whole_of}
 use Rattle.gate_ports.specs.Faults.{NeverFalls}
 use Rattle.gate_ports.specs.Names.{Texts, with_text, IsThere, IsOpened, IsEmptySink, MeansName}
 use Rattle.risk_board.specs.declared.hand.Line.{Line}
-use Rattle.risk_board.specs.History.{events_of_calls}
-use Rattle.risk_board.specs.Plain.{BoardValue, IsLegalTree}
 use Rattle.risk_journal.specs.declared.acts.Act.{Act}
 use Rattle.risk_journal.specs.declared.acts.End.{End}
 use Rattle.risk_journal.specs.declared.acts.End.TheVariants as ending
 use Rattle.gate_program.specs.declared.status.Status.{Status}
 use Rattle.gate_program.specs.declared.status.Status.TheVariants as status
-use Rattle.session_engine.specs.Session.{LimitsValue}
-use Rattle.risk_journal.specs.ActLists.{events_of, calls_of}
-use Rattle.risk_journal.specs.JournalText.{journal_text}
+use Rattle.limit_table.specs.declared.limits.Limits.{Limits}
 use Rattle.gate_program.specs.Words.{RunWords, venue_name, client_name, journal_name}
 use Rattle.gate_program.specs.Words.{output_names, is_among}
 use Rattle.gate_program.specs.Run.{PortsValue, ReadRose, WriteRose, OutputRose, session_name}
@@ -26,6 +20,8 @@ use Rattle.limit_table.specs.Files.{IsFirstFault}
 use Rattle.limit_table.specs.declared.fault.LimitFault.{LimitFault}
 use Rattle.limit_table.specs.declared.fault.LimitFault.TheVariants as fault
 use Rattle.gate_program.specs.Limits.{AreUnserved}
+use Rattle.gate_program.specs.Boards.{HasLines, HasPlayed}
+use Rattle.gate_program.specs.declared.boards.Boards.{Boards}
 use Rattle.gate_program.specs.Gate.{HasUnserved, IsRefused, HasJournal}
 
 -- a folder as clauses name it, beside a standard output that tells nothing
@@ -168,56 +164,39 @@ AreWritten run before after held_venue held_client =
     MatchOption before (after ≡ None)
     (λ old. IfSome after (λ new. HasTexts run old new held_venue held_client))
 
--- these lines are the board's, and with its calls one legal history
-pub record HasLines (board : BoardValue) (lines : List Line) : Type 0 where
-  pub lines_are : slice_get board.lines 0 ≡ Some lines
-  pub legal : IsLegalTree (whole_of sum_of 0) 0 board 0 lines
-
--- the text is the journal of these acts and the board's lines
-pub record IsJournalOf (board : BoardValue) (acts : List Act) (text : List ℕ) : Type 0 where
-  pub lines : List Line
-  pub has_lines : HasLines board lines
-  pub spelled : text ≡ journal_text (acts ∷ []) (lines ∷ [])
-
 -- The journal was written or refused, no other text changed, and the status is by that and by the
 -- session's end.
-pub record HasStood (run : RunWords) (before after : PortsValue) (board : BoardValue)
+pub record HasStood (run : RunWords) (before after : PortsValue) (boards : Boards)
     (acts : List Act) (end : End) (status : ℕ) : Type 0 where
-  pub lines : List Line
+  pub lines : List (List Line)
   pub refused : Bool
-  pub has_lines : HasLines board lines
-  pub journal : HasJournal before after run (acts ∷ []) (lines ∷ []) refused
+  pub has_lines : HasLines boards lines
+  pub journal : HasJournal before after run (acts ∷ []) lines refused
   pub others : ChangesOnly before.texts after.texts (journal_name run.out)
   pub stands : status ≡ standing_of (end ∷ []) refused
 
 -- the outputs were closed too
-pub record HasFinished (run : RunWords) (before after : PortsValue) (board : BoardValue)
+pub record HasFinished (run : RunWords) (before after : PortsValue) (boards : Boards)
     (acts : List Act) (end : End) (held_venue held_client : Option (List ℕ)) (status : ℕ)
     : Type 0 where
-  pub lines : List Line
+  pub lines : List (List Line)
   pub refused : Bool
-  pub has_lines : HasLines board lines
-  pub journal : HasJournal before after run (acts ∷ []) (lines ∷ []) refused
+  pub has_lines : HasLines boards lines
+  pub journal : HasJournal before after run (acts ∷ []) lines refused
   pub written : AreWritten run before.texts after.texts held_venue held_client
   pub stands : status ≡ standing_of (end ∷ []) refused
 
--- the board has the calls of these acts and one tree, and a read's place is its stamp
-pub record HasPlayed (board : BoardValue) (acts : List Act) : Type 0 where
-  pub calls : board.calls ≡ calls_of acts ∷ []
-  pub trees : length board.lines ≡ 1
-  pub events : events_of 0 acts ≡ events_of_calls (λ stamp. stamp) 0 (calls_of acts)
-
--- a session that was opened ran on a board of its own, was closed, and stands in the journal
-pub record HasEnded (limits : LimitsValue) (run : RunWords) (before after : PortsValue)
+-- a session that was opened ran on boards of its own, was closed, and stands in the journal
+pub record HasEnded (limits : Limits) (run : RunWords) (before after : PortsValue)
     (left held_venue held_client : Option (List ℕ)) (status : ℕ) : Type 0 where
-  pub board : BoardValue
+  pub boards : Boards
   pub acts : List Act
   pub end : End
   pub venue_after : Option (List ℕ)
   pub client_after : Option (List ℕ)
-  pub played : HasPlayed board acts
+  pub played : HasPlayed limits boards acts
   pub follows : IsByInput end
       → FollowsSource limits left acts end held_venue venue_after held_client client_after
   pub read : end ≡ ending.ReadFault → ReadRose before after (session_name run 0)
   pub write : end ≡ ending.WriteFault → OutputRose before after run 0
-  pub finished : HasFinished run before after board acts end venue_after client_after status
+  pub finished : HasFinished run before after boards acts end venue_after client_after status

@@ -1,21 +1,23 @@
 //! What is given back, closed and written after a session.
-ghost use Rattle.std.specs.Prelude.{◌≡◌, ◌≢◌, ◌∷◌, [], ◌⊎◌, length, map, string_bytes};
+ghost use Rattle.std.specs.Prelude.{◌≡◌, ◌≢◌, ◌∷◌, [], ◌⊎◌, map, string_bytes};
 ghost use Rattle.std.specs.Prelude.{IfOk, OnOk, IsErrOf};
 ghost use Rattle.gate_program.specs.CommandOf.{run_value};
 ghost use Rattle.gate_program.specs.Run.{Holds, ReadRose, WriteRose};
 ghost use Rattle.gate_program.specs.Stages.{folder_of, Went, IsOwn, AreClosed, ChangesOnly};
-ghost use Rattle.gate_program.specs.Stages.{AreOutputs, IsJournalOf, HasStood};
+ghost use Rattle.gate_program.specs.Boards.{HasTrees, IsJournalOf};
+ghost use Rattle.gate_program.specs.Stages.{AreOutputs, HasStood};
 ghost use Rattle.gate_program.specs.Stages.{HasFinished};
 ghost use Rattle.gate_program.specs.Words.{journal_name};
 ghost use Rattle.gate_program.specs.Statuses.{number_of};
 
+use crate::boards::{Boards, lines_of};
 use crate::open::{Opened, Sinks};
 use crate::play::{Ended, Played};
 use crate::status::{Status, standing};
 use crate::words::{Outputs, Run};
-use fold_law::{Memory, Sum};
+use fold_law::Memory;
 use gate_ports::{Folder, PortFault, give_all};
-use risk_board::{Line, PlainBoard};
+use risk_board::Line;
 use risk_journal::{Act, Journal, write_journal};
 use std::alloc::Global;
 
@@ -76,31 +78,30 @@ fn write_file<D: Folder>(name: &str, bytes: &[u8], folder: &mut D) -> Result<(),
     given
 }
 
-/// What the journal of one session and one tree tells.
-fn journal_with(alloc: Global, acts: Vec<Act>, lines: Vec<Line>) -> Result<Journal, Memory>
+/// What the journal of one session tells.
+fn journal_with(alloc: Global, acts: Vec<Act>, lines: Vec<Vec<Line>>) -> Result<Journal, Memory>
     ensures acts { IfOk result (λ journal.
         map (λ own. own.items) journal.acts.items ≡ acts.items ∷ []) }
-    ensures lines { IfOk result (λ journal.
-        map (λ own. own.items) journal.lines.items ≡ lines.items ∷ []) }
+    ensures lines { IfOk result (λ journal. journal.lines ≡ lines) }
 {
     let mut all_acts = Vec::new(alloc);
-    let mut all_lines = Vec::new(alloc);
-    if all_acts.push(acts).is_err() || all_lines.push(lines).is_err() {
+    if all_acts.push(acts).is_err() {
         return Err(Memory);
     }
     Ok(Journal {
         acts: all_acts,
-        lines: all_lines,
+        lines,
     })
 }
 
-/// The text of the journal of a session on a board with one tree.
-fn journal_of(alloc: Global, acts: Vec<Act>, board: PlainBoard<Sum>) -> Result<Vec<u8>, Memory>
-    requires { length board.lines ≡ 1 }
-    ensures { IfOk result (λ text. IsJournalOf board acts.items text.items) }
+/// The text of the journal of a session on these boards.
+fn journal_of(alloc: Global, acts: Vec<Act>, boards: &Boards) -> Result<Vec<u8>, Memory>
+    requires { HasTrees boards.now }
+    ensures { IfOk result (λ text. IsJournalOf boards.now acts.items text.items) }
 {
-    let Ok(lines) = Vec::from_slice(alloc, board.lines(0)) else {
-        return Err(Memory);
+    let lines = match lines_of(alloc, boards) {
+        Ok(lines) => lines,
+        Err(Memory) => return Err(Memory),
     };
     let journal = match journal_with(alloc, acts, lines) {
         Ok(journal) => journal,
@@ -118,17 +119,17 @@ fn keep_journal<D: Folder>(
     folder: &mut D,
 ) -> Status
     requires name { name.now ≡ journal_name run.now.out.now }
-    requires trees { length ended.board.lines ≡ 1 }
+    requires trees { HasTrees ended.boards }
     ensures went { Went (folder_of D.texts D.read_faults D.write_faults folder.old)
         (folder_of D.texts D.read_faults D.write_faults folder.new) }
     ensures stood { (number_of result ≡ 8) ⊎ HasStood (run_value run.now)
         (folder_of D.texts D.read_faults D.write_faults folder.old)
         (folder_of D.texts D.read_faults D.write_faults folder.new)
-        ended.board ended.acts.items ended.end (number_of result) }
+        ended.boards ended.acts.items ended.end (number_of result) }
 {
     let _out = run.out;
-    let Ended { acts, end, board } = ended;
-    let text = match journal_of(alloc, acts, board) {
+    let Ended { acts, end, boards } = ended;
+    let text = match journal_of(alloc, acts, &boards) {
         Ok(text) => text,
         Err(Memory) => return Status::Memory,
     };
@@ -149,7 +150,7 @@ pub(crate) fn finish<D: Folder>(
 ) -> Status
     requires names { AreOutputs run.now.out.now (string_bytes outputs.now.venue)
         (string_bytes outputs.now.client) (string_bytes outputs.now.journal) }
-    requires trees { length played.ended.board.lines ≡ 1 }
+    requires trees { HasTrees played.ended.boards }
     requires input { IsOwn (D.texts folder.old) run.now.session.now
         (D.In.name played.opened.input) }
     requires venue { IsOwn (D.texts folder.old) (string_bytes outputs.now.venue)
@@ -159,7 +160,7 @@ pub(crate) fn finish<D: Folder>(
     ensures finished { (number_of result ≡ 8) ⊎ HasFinished (run_value run.now)
         (folder_of D.texts D.read_faults D.write_faults folder.old)
         (folder_of D.texts D.read_faults D.write_faults folder.new)
-        played.ended.board played.ended.acts.items played.ended.end
+        played.ended.boards played.ended.acts.items played.ended.end
         (D.Out.held played.opened.sinks.venue) (D.Out.held played.opened.sinks.client)
         (number_of result) }
 

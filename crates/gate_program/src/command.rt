@@ -1,25 +1,24 @@
 //! The top call.
 ghost use Rattle.std.specs.Prelude.{◌≡◌, ◌⊎◌, map, string_bytes};
 ghost use Rattle.gate_program.specs.CommandOf.{run_value};
-ghost use Rattle.session_engine.specs.LimitsOf.{limits_value};
 ghost use Rattle.gate_program.specs.Gate.{HasLimits, GateRun, RunWent, SessionsWent, ports_of};
-ghost use Rattle.gate_program.specs.Limits.{IsQuota};
+ghost use Rattle.limit_table.specs.Files.{IsHeldByFile};
 ghost use Rattle.gate_program.specs.Stages.{folder_of, AreOutputs, IsOwn, HasEnded, TellsFault};
 ghost use Rattle.gate_program.specs.Statuses.{number_of};
 
+use crate::boards::open_boards;
 use crate::close::{close_session, finish};
 use crate::open::{Opened, open_session, read_limits};
 use crate::play::play;
 use crate::status::Status;
 use crate::tell::tell;
 use crate::words::{Outputs, Run, command_from, outputs_in};
-use fold_law::{Memory, Sum};
+use fold_law::Memory;
 use gate_ports::{Folder, Sink};
-use risk_board::PlainBoard;
-use session_engine::Limits;
+use limit_table::Limits;
 use std::alloc::Global;
 
-/// Runs a session that was opened over a board of its own, closes it and writes the journal.
+/// Runs a session that was opened over boards of its own, closes it and writes the journal.
 fn run_opened<D: Folder>(
     alloc: Global,
     run: &Run,
@@ -28,7 +27,7 @@ fn run_opened<D: Folder>(
     opened: Opened<D::In, D::Out>,
     folder: &mut D,
 ) -> Status
-    requires quota { IsQuota limits.now.quota }
+    requires held { IsHeldByFile limits.now }
     requires names { AreOutputs run.now.out.now (string_bytes outputs.now.venue)
         (string_bytes outputs.now.client) (string_bytes outputs.now.journal) }
     requires input { IsOwn (D.texts folder.old) run.now.session.now (D.In.name opened.input) }
@@ -39,15 +38,15 @@ fn run_opened<D: Folder>(
     requires input_fresh { D.In.faults opened.input ≡ 0 }
     requires venue_fresh { D.Out.faults opened.sinks.venue ≡ 0 }
     requires client_fresh { D.Out.faults opened.sinks.client ≡ 0 }
-    ensures { (number_of result ≡ 8) ⊎ HasEnded (limits_value limits.now) (run_value run.now)
+    ensures { (number_of result ≡ 8) ⊎ HasEnded limits.now (run_value run.now)
         (folder_of D.texts D.read_faults D.write_faults folder.old)
         (folder_of D.texts D.read_faults D.write_faults folder.new)
         (D.In.left opened.input) (D.Out.held opened.sinks.venue)
         (D.Out.held opened.sinks.client) (number_of result) }
 {
-    match PlainBoard::<Sum>::open(alloc, 1, 1, limits.quota) {
-        Ok(board) => {
-            let played = play(alloc, limits, board, opened);
+    match open_boards(alloc, limits) {
+        Ok(boards) => {
+            let played = play(alloc, limits, boards, opened);
             finish(alloc, run, outputs, played, folder)
         }
         Err(Memory) => {
@@ -59,9 +58,8 @@ fn run_opened<D: Folder>(
 
 /// Runs the session of a run whose limits were read.
 fn run_limited<D: Folder>(alloc: Global, run: &Run, limits: &Limits, folder: &mut D) -> Status
-    requires limits { HasLimits (D.texts folder.old) run.now.limits.now
-        (limits_value limits.now) }
-    requires quota { IsQuota limits.now.quota }
+    requires limits { HasLimits (D.texts folder.old) run.now.limits.now limits.now }
+    requires held { IsHeldByFile limits.now }
     ensures { (number_of result ≡ 8) ⊎ SessionsWent (run_value run.now)
         (folder_of D.texts D.read_faults D.write_faults folder.old)
         (folder_of D.texts D.read_faults D.write_faults folder.new) (number_of result) }

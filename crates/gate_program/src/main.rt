@@ -1,6 +1,7 @@
 //! The gate: the words of its command line, its limit file, its session and its journal.
 #![tactic(auto)]
 
+mod boards;
 mod close;
 mod command;
 #[cfg(test)]
@@ -8,6 +9,8 @@ mod leaf_tests;
 mod limits;
 mod open;
 mod play;
+#[cfg(test)]
+mod run_tests;
 mod status;
 mod tell;
 #[cfg(test)]

@@ -1,8 +1,7 @@
 //! What is read and opened before a session runs.
 ghost use Rattle.std.specs.Prelude.{◌≡◌, ◌+◌, [], IfOk, IfErr, string_bytes};
 ghost use Rattle.std.specs.Option.{option_map};
-ghost use Rattle.gate_program.specs.Limits.{IsQuota};
-ghost use Rattle.session_engine.specs.LimitsOf.{limits_value};
+ghost use Rattle.limit_table.specs.Files.{IsHeldByFile};
 ghost use Rattle.gate_program.specs.Stages.{folder_of, Went, HasFront, HasLimitsFault};
 ghost use Rattle.gate_program.specs.Gate.{HasLimits};
 ghost use Rattle.gate_program.specs.Stages.{IsUnread, IsUnmade, IsUnopened, IsNewSource, IsNewSink};
@@ -12,7 +11,7 @@ use crate::limits::limits_from;
 use crate::status::Status;
 use crate::words::Outputs;
 use gate_ports::{FetchEnd, Folder, PortFault, fetch_up_to};
-use session_engine::Limits;
+use limit_table::Limits;
 use std::alloc::Global;
 
 /// The most bytes of a limit file.
@@ -53,8 +52,8 @@ pub(crate) fn read_limits<D: Folder>(
         (folder_of D.texts D.read_faults D.write_faults folder.new) }
     ensures texts { D.texts folder.new ≡ D.texts folder.old }
     ensures ok { IfOk result (λ limits.
-        HasLimits (D.texts folder.old) name.now (limits_value limits)) }
-    ensures quota { IfOk result (λ limits. IsQuota limits.quota) }
+        HasLimits (D.texts folder.old) name.now limits) }
+    ensures held { IfOk result (λ limits. IsHeldByFile limits) }
     ensures err { IfErr result (λ status.
         HasLimitsFault (folder_of D.texts D.read_faults D.write_faults folder.old)
         (folder_of D.texts D.read_faults D.write_faults folder.new) name.now status) }

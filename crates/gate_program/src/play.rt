@@ -1,26 +1,25 @@
-//! A session over a plain board of its own.
+//! A session over plain boards of its own.
 ghost use Rattle.std.specs.Prelude.{◌≡◌, ◌⊎◌, map};
 ghost use Rattle.gate_ports.specs.Faults.{Rose};
-ghost use Rattle.risk_board.specs.Plain.{empty_board};
+ghost use Rattle.limit_table.specs.Files.{IsHeldByFile};
 ghost use Rattle.session_engine.specs.Follows.{IsByInput, FollowsSource};
-ghost use Rattle.session_engine.specs.LimitsOf.{limits_value};
 ghost use Rattle.risk_journal.specs.ActLists.{placed};
-ghost use Rattle.gate_program.specs.Stages.{HasPlayed};
+ghost use Rattle.gate_program.specs.Boards.{AreOpened, HasPlayed, HasTrees};
 
+use crate::boards::Boards;
 use crate::open::{Opened, Sinks};
-use fold_law::Sum;
 use gate_ports::{Sink, Source};
-use risk_board::PlainBoard;
+use limit_table::Limits;
 use risk_journal::{Act, End, set_places};
-use session_engine::{Limits, SessionDone, run_session};
+use session_engine::{Hands, SessionDone, run_session};
 use std::alloc::Global;
 
-/// What a session did, how it ended, and the board that it ran on.
+/// What a session did, how it ended, and the boards that it ran on.
 #[derive(Drop)]
 pub(crate) struct Ended {
     pub acts: Vec<Act>,
     pub end: End,
-    pub board: PlainBoard<Sum>,
+    pub boards: Boards,
 }
 
 /// A session that has run, with its objects.
@@ -39,16 +38,18 @@ fn with_places(acts: Vec<Act>) -> Vec<Act>
     acts
 }
 
-/// Runs a session over an empty board, and sets the place of each read to its stamp.
+/// Runs a session over empty boards, and sets the place of each read to its stamp.
 pub(crate) fn play<S: Source, K: Sink>(
     alloc: Global,
     limits: &Limits,
-    board: PlainBoard<Sum>,
+    boards: Boards,
     opened: Opened<S, K>,
 ) -> Played<S, K>
-    requires { board ≡ empty_board 1 1 limits.now.quota }
-    ensures played { HasPlayed result.ended.board result.ended.acts.items }
-    ensures follows { IsByInput result.ended.end → FollowsSource (limits_value limits.now)
+    requires held { IsHeldByFile limits.now }
+    requires opened { AreOpened limits.now boards }
+    ensures played { HasPlayed limits.now result.ended.boards result.ended.acts.items }
+    ensures trees { HasTrees result.ended.boards }
+    ensures follows { IsByInput result.ended.end → FollowsSource limits.now
         (S.left opened.input) result.ended.acts.items result.ended.end
         (K.held opened.sinks.venue) (K.held result.opened.sinks.venue)
         (K.held opened.sinks.client) (K.held result.opened.sinks.client) }
@@ -67,21 +68,31 @@ pub(crate) fn play<S: Source, K: Sink>(
 {
     let Opened { input, sinks } = opened;
     let Sinks { venue, client } = sinks;
-    let hand = board.hand(0);
-    let done = run_session(alloc, limits, hand, input, venue, client);
+    let Boards { trees, sums, halt } = boards;
+    let hands = Hands {
+        sum: sums.hand(0),
+        halt: halt.hand(0),
+    };
+    let done = run_session(alloc, limits, hands, input, venue, client);
     let SessionDone {
-        hand,
+        hands,
         acts,
         end,
         source,
         venue,
         client,
     } = done;
+    let Hands { sum, halt } = hands;
+    let boards = Boards {
+        trees,
+        sums: sum.give_back(),
+        halt: halt.give_back(),
+    };
     Played {
         ended: Ended {
             acts: with_places(acts),
             end,
-            board: hand.give_back(),
+            boards,
         },
         opened: Opened {
             input: source,

@@ -1,5 +1,5 @@
-//! Runs of one session over a folder in memory: whole texts, statuses and what is told. No clause
-//! says that memory isn't wanting, nor what a worked row gives.
+//! Runs that stop before a session, and one whose standard output fails: statuses and what is told. No
+//! clause says that memory isn't wanting, nor what a table's row gives.
 use crate::command::gate;
 use gate_ports::{Folder, MemFolder, MemSink};
 use std::alloc::{AllocError, Global};
@@ -7,7 +7,7 @@ use std::test::*;
 
 const WORDS: [&str; 4] = ["run", "limits", "out", "session"];
 
-const LIMITS: &[u8] = b"firm,,1000,,,\n";
+const LIMITS: &[u8] = b"firm,,1000,,,\naccount,ACC,100000,,,\nsymbol,XYZ,100000,1,12,100000\n";
 
 const ORDER: &[u8] =
     b"8=FIX.4.4\x019=113\x0135=D\x0149=C1\x0156=GATE\x0134=1\x0152=20240102-10:00:00\x0111=a1\x011=ACC\x0155=XYZ\x0154=1\x0138=100\x0140=2\x0144=10.0000\x0160=20240102-10:00:00\x0110=175\x01";
@@ -15,125 +15,8 @@ const ORDER: &[u8] =
 const FORWARD: &[u8] =
     b"8=FIX.4.4\x019=116\x0135=D\x0149=GATE\x0156=VENUE\x0134=1\x0152=20240102-10:00:00\x0111=a1\x011=ACC\x0155=XYZ\x0154=1\x0138=100\x0140=2\x0144=10.0000\x0160=20240102-10:00:00\x0110=193\x01";
 
-const DEARER: &[u8] =
-    b"8=FIX.4.4\x019=113\x0135=D\x0149=C1\x0156=GATE\x0134=1\x0152=20240102-10:00:00\x0111=a1\x011=ACC\x0155=XYZ\x0154=1\x0138=100\x0140=2\x0144=10.0001\x0160=20240102-10:00:00\x0110=176\x01";
-
-const REFUSED: &[u8] =
-    b"8=FIX.4.4\x019=130\x0135=8\x0149=GATE\x0156=C1\x0134=1\x0152=20240102-10:00:00\x0137=NONE\x0111=a1\x0117=G1\x01150=8\x0139=8\x01103=3\x011=ACC\x0155=XYZ\x0154=1\x0138=100\x01151=0\x0114=0\x016=0\x0158=FIRM\x0110=038\x01";
-
-const OVER_QUOTA: &[u8] =
-    b"8=FIX.4.4\x019=131\x0135=8\x0149=GATE\x0156=C1\x0134=1\x0152=20240102-10:00:00\x0137=NONE\x0111=a1\x0117=G1\x01150=8\x0139=8\x01103=0\x011=ACC\x0155=XYZ\x0154=1\x0138=100\x01151=0\x0114=0\x016=0\x0158=QUOTA\x0110=128\x01";
-
-const HUGE: &[u8] =
-    b"8=FIX.4.4\x019=124\x0135=D\x0149=C1\x0156=GATE\x0134=1\x0152=20240102-10:00:00\x0111=a1\x011=ACC\x0155=XYZ\x0154=1\x0138=1000000000\x0140=2\x0144=999999.9999\x0160=20240102-10:00:00\x0110=026\x01";
-
-const CAPPED: &[u8] =
-    b"8=FIX.4.4\x019=136\x0135=8\x0149=GATE\x0156=C1\x0134=1\x0152=20240102-10:00:00\x0137=NONE\x0111=a1\x0117=G1\x01150=8\x0139=8\x01103=3\x011=ACC\x0155=XYZ\x0154=1\x0138=1000000000\x01151=0\x0114=0\x016=0\x0158=CAP\x0110=034\x01";
-
-const HEARTBEAT: &[u8] =
-    b"8=FIX.4.4\x019=45\x0135=0\x0149=C1\x0156=GATE\x0134=1\x0152=20240102-10:00:00\x0110=136\x01";
-
-/// The limit file, a session's input, the texts of the venue, the client and the journal, the status
-/// and what is told.
-#[derive(Clone, Copy)]
-struct Row {
-    name: &'static str,
-    limits: &'static [u8],
-    session: &'static [u8],
-    venue: &'static [u8],
-    client: &'static [u8],
-    journal: &'static [u8],
-    status: u8,
-    told: &'static [u8],
-}
-
-const ROWS: [Row; 6] = [
-    Row {
-        name: "nothing",
-        limits: LIMITS,
-        session: b"",
-        venue: b"",
-        client: b"",
-        journal: b"kind,session,a,b,c,d\nended,0,0,,,\n",
-        status: 0,
-        told: b"status 0\n",
-    },
-    Row {
-        name: "at the limit",
-        limits: LIMITS,
-        session: ORDER,
-        venue: FORWARD,
-        client: b"",
-        journal: b"kind,session,a,b,c,d\npost,0,0,1,1000,\nread,0,0,1,1,1000\nsent,0,0,,,\nended,0,0,,,\nline,0,0,1,1,1000\n",
-        status: 0,
-        told: b"status 0\n",
-    },
-    Row {
-        name: "above the limit by rounding up",
-        limits: LIMITS,
-        session: DEARER,
-        venue: b"",
-        client: REFUSED,
-        journal: b"kind,session,a,b,c,d\npost,0,0,1,1001,\nread,0,0,1,1,1001\npost,0,0,2,0,\nrefused,0,0,1,0,0\nended,0,0,,,\nline,0,0,1,1,1001\nline,0,0,2,2,0\n",
-        status: 0,
-        told: b"status 0\n",
-    },
-    Row {
-        name: "more than a leaf holds",
-        limits: LIMITS,
-        session: HUGE,
-        venue: b"",
-        client: CAPPED,
-        journal: b"kind,session,a,b,c,d\nrefused,0,0,6,0,0\nended,0,0,,,\n",
-        status: 0,
-        told: b"status 0\n",
-    },
-    Row {
-        name: "a quota of one post",
-        limits: b"quota,,1,,,\nfirm,,1000,,,\n",
-        session: ORDER,
-        venue: b"",
-        client: OVER_QUOTA,
-        journal: b"kind,session,a,b,c,d\nrefused,0,0,5,0,0\nended,0,0,,,\n",
-        status: 0,
-        told: b"status 0\n",
-    },
-    Row {
-        name: "a heartbeat",
-        limits: LIMITS,
-        session: HEARTBEAT,
-        venue: b"",
-        client: b"",
-        journal: b"kind,session,a,b,c,d\nended,0,9,0,,\n",
-        status: 9,
-        told: b"not built\n",
-    },
-];
-
-#[test]
-fn whole_runs(rt: HostRuntime) -> Result<(), Fail> {
-    let alloc = rt.alloc();
-    for row in ROWS {
-        let name = row.name;
-        let mut folder = MemFolder::new(alloc, 65536);
-        folder.put("limits", Vec::from_slice(alloc, row.limits)?)?;
-        folder.put("session", Vec::from_slice(alloc, row.session)?)?;
-        let mut out = MemSink::new(alloc, 65536, Vec::new(alloc));
-        let words = words_of(alloc, &WORDS)?;
-        let status = gate(alloc, &words, &mut folder, &mut out);
-        assert_eq!(rt; status, row.status, "{name}");
-        assert_eq!(rt; out.bytes(), row.told, "{name}");
-        assert_eq!(rt; folder.get("out/s00.venue"), Some(row.venue), "{name}");
-        assert_eq!(rt; folder.get("out/s00.client"), Some(row.client), "{name}");
-        assert_eq!(rt; folder.get("out/journal.csv"), Some(row.journal), "{name}");
-        assert_eq!(rt; folder.get("limits"), Some(row.limits), "{name}");
-        assert_eq!(rt; folder.get("session"), Some(row.session), "{name}");
-    }
-    Ok(())
-}
-
 /// The words of a command line.
-fn words_of(alloc: Global, words: &[&str]) -> Result<Vec<String>, AllocError> {
+pub(crate) fn words_of(alloc: Global, words: &[&str]) -> Result<Vec<String>, AllocError> {
     let mut all = Vec::new(alloc);
     for word in words {
         all.push(String::from_str(alloc, word)?)?;
@@ -202,7 +85,7 @@ const USAGE: &[u8] = b"usage: gate run LIMITS OUT SESSION\n";
 
 /// A limit file's text, the status and what is told. No session is there, so limits that are served
 /// end as a read fault.
-const LIMIT_FILES: [(&str, &[u8], u8, &[u8]); 17] = [
+const LIMIT_FILES: [(&str, &[u8], u8, &[u8]); 16] = [
     (
         "five columns",
         b"firm,,1000,,\n",
@@ -248,18 +131,6 @@ const LIMIT_FILES: [(&str, &[u8], u8, &[u8]); 17] = [
         3,
         b"limits fault 8 row 1\n",
     ),
-    (
-        "an account",
-        b"firm,,1,,,\naccount,ACC,1,,,\n",
-        9,
-        b"not built\n",
-    ),
-    (
-        "a symbol",
-        b"firm,,1,,,\nsymbol,XYZ,1,1,2,1\n",
-        9,
-        b"not built\n",
-    ),
     ("a trip", b"firm,,1,,,\ntrip,,1,,,\n", 9, b"not built\n"),
     (
         "the screen of repeats",
@@ -273,7 +144,8 @@ const LIMIT_FILES: [(&str, &[u8], u8, &[u8]); 17] = [
         9,
         b"not built\n",
     ),
-    ("the firm alone", LIMITS, 5, b"read fault\n"),
+    ("the firm alone", b"firm,,1000,,,\n", 5, b"read fault\n"),
+    ("an account and a symbol", LIMITS, 5, b"read fault\n"),
     ("no line end", b"firm,,1000,,,", 5, b"read fault\n"),
     (
         "a quota",

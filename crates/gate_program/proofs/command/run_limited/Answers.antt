@@ -1,4 +1,3 @@
-use Rattle.session_engine.specs.LimitsOf.{limits_value}
 use Rattle.gate_program.proofs.Texts.{venue_made, client_made, input_there}
 use Rattle.gate_program.proofs.Ways.{ended_went, unopened_named}
 use Rattle.gate_program.proofs.command.run_limited.Goals as goal
@@ -25,7 +24,7 @@ run_opened-requires-clause-client g c κs within = record {
 pub returns-in-Ok-open_session : goal.returns-in-Ok-open_session
 returns-in-Ok-open_session g c =
     ended_went c.args.run.now.limits.now c.args.run.now.out.now c.args.run.now.session.now
-    (limits_value c.args.limits.now) _ _ _ _ _ _ _ _ _ _ _ _ _ _ _ _ _ _ _ _
+    c.args.limits.now _ _ _ _ _ _ _ _ _ _ _ _ _ _ _ _ _ _ _ _
     (record {
       venue_is = c.in-Ok.ensures.venue;
       client_is = c.in-Ok.ensures.client;
@@ -38,7 +37,7 @@ returns-in-Ok-open_session g c =
 
 pub returns : goal.returns
 returns g c = unopened_named c.args.run.now.limits.now c.args.run.now.out.now
-    c.args.run.now.session.now _ _ _ _ _ _ (limits_value c.args.limits.now)
+    c.args.run.now.session.now _ _ _ _ _ _ c.args.limits.now
     c.in-Err-open_session.status _ _ _ c.requires.limits (record {
       venue_is = c.in-Ok.ensures.venue;
       client_is = c.in-Ok.ensures.client;

@@ -1,4 +1,3 @@
-use Rattle.session_engine.specs.LimitsOf.{limits_value}
 use Rattle.gate_program.proofs.Texts.{own_still}
 use Rattle.gate_program.proofs.Ways.{has_ended}
 use Rattle.gate_program.proofs.command.run_opened.Goals as goal
@@ -17,8 +16,8 @@ finish-requires-clause-client g c κs within =
 
 pub returns-in-Ok : goal.returns-in-Ok
 returns-in-Ok g c = has_ended c.args.run.now.limits.now c.args.run.now.out.now
-    c.args.run.now.session.now (limits_value c.args.limits.now)
-    _ _ c.play-played.result.ended.board c.play-played.result.ended.acts.items
+    c.args.run.now.session.now c.args.limits.now
+    _ _ c.play-played.result.ended.boards c.play-played.result.ended.acts.items
     c.play-played.result.ended.end _ _ _ _ _ _ _ _ _ _ _ _ _ _ _
     c.requires.names c.requires.input_fresh c.requires.venue_fresh c.requires.client_fresh
     c.play-played.ensures.played c.play-played.ensures.follows c.play-played.ensures.read_fault

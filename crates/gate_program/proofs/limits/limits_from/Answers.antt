@@ -1,10 +1,5 @@
-use Rattle.gate_program.proofs.LimitTexts.{is_quota, gives_no_limits}
+use Rattle.gate_program.proofs.LimitTexts.{gives_no_limits}
 use Rattle.gate_program.proofs.limits.limits_from.Goals as goal
-
-pub returns-then-is_served-clause-quota : goal.returns-then-is_served-clause-quota
-returns-then-is_served-clause-quota c =
-    is_quota c.args.text.now c.in-Ok.limits c.session_limits.result c.in-Ok.ensures.read
-    c.session_limits.ensures
 
 pub returns-clause-err : goal.returns-clause-err
 returns-clause-err c =

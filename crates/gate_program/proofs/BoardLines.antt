@@ -1,0 +1,73 @@
+-- The lines of a board's trees, taken one tree after another.
+use Rattle.std.proofs.Common.{◌≡◌, ℕ, ◌+◌, ◌<◌, ◌≤◌, List, [], ◌∷◌, ◌++◌, length, map, take, refl, sym, ap, ◌∙◌}
+use Rattle.std.proofs.Common.{arith, inl, inr, append_assoc, subst}
+use Rattle.std.proofs.Math.Nat.{eq-or-lt_of_le}
+use Rattle.std.proofs.lemmas.List.{take_more, take_all, append-nil}
+use Rattle.std.proofs.lemmas.Option.{slice_get_within, get_or_from_slice_get}
+use Rattle.std.specs.Prelude.{Some, slice_get, ◌⊎◌}
+use Rattle.risk_board.specs.declared.hand.Line.{Line}
+use Rattle.risk_board.specs.Plain.{BoardValue, IsLegalTree}
+use Rattle.gate_program.specs.Boards.{IsLegalBoard}
+
+-- the lines of so many of a board's trees were added, and each is a legal history
+pub record HasAdded (whole : List ℕ → ℕ) (unit : ℕ) (board : BoardValue)
+    (before now : List (List Line)) (count : ℕ) : Type 0 where
+  pub within : count ≤ length board.lines
+  pub added : now ≡ before ++ take count board.lines
+  pub legal : (tree : ℕ) (own : List Line) → tree < count → slice_get board.lines tree ≡ Some own
+      → IsLegalTree whole unit board tree own
+
+-- none yet
+pub none_added : (whole : List ℕ → ℕ) (unit : ℕ) (board : BoardValue) (before : List (List Line))
+    → HasAdded whole unit board before before 0
+none_added whole unit board before = record {
+  within = omega arith;
+  added = sym (append-nil before);
+  legal = λ tree own below at. absurd (omega arith);
+}
+
+is_there : {X : Type 0} (xs : List X) (place : ℕ) (x y : X) → slice_get xs place ≡ Some x
+    → slice_get xs place ≡ Some y → x ≡ y
+is_there xs place x y at other = cc
+
+up_to : (tree count : ℕ) → tree < count + 1 → (tree ≡ count) ⊎ (tree < count)
+up_to tree count below = eq-or-lt_of_le (omega arith)
+
+-- one tree more
+pub one_added : (whole : List ℕ → ℕ) (unit : ℕ) (board : BoardValue) (before now : List (List Line))
+    (count : ℕ) (own : List Line) → HasAdded whole unit board before now count
+    → slice_get board.lines count ≡ Some own → IsLegalTree whole unit board count own
+    → HasAdded whole unit board before (now ++ own ∷ []) (count + 1)
+one_added whole unit board before now count own so_far at own_legal =
+    let here : count < length board.lines = slice_get_within board.lines count own at in
+    record {
+      within = omega arith;
+      added = ap (λ (l : List (List Line)). l ++ own ∷ []) so_far.added
+          ∙ append_assoc before (take count board.lines) (own ∷ [])
+          ∙ ap (λ (l : List (List Line)). before ++ l)
+          (ap (λ (o : List Line). take count board.lines ++ o ∷ [])
+          (sym (get_or_from_slice_get board.lines count own own at))
+          ∙ sym (take_more board.lines count own here));
+      legal = λ tree other below there. elim (up_to tree count below) [
+        | inl same ↦ legal_there tree other there same
+        | inr earlier ↦ so_far.legal tree other earlier there
+      ];
+    } where
+  legal_there : (tree : ℕ) (other : List Line) → slice_get board.lines tree ≡ Some other
+      → tree ≡ count → IsLegalTree whole unit board tree other
+  legal_there tree other there same =
+      let own_there : slice_get board.lines tree ≡ Some own =
+      subst (λ (n : ℕ). slice_get board.lines n ≡ Some own) (sym same) at in
+      subst (λ (l : List Line). IsLegalTree whole unit board tree l)
+      (is_there board.lines tree own other own_there there)
+      (subst (λ (n : ℕ). IsLegalTree whole unit board n own) (sym same) own_legal)
+
+-- all trees
+pub all_added : (whole : List ℕ → ℕ) (unit : ℕ) (board : BoardValue) (before now : List (List Line))
+    (count : ℕ) → length board.lines ≡ count → HasAdded whole unit board before now count
+    → (now ≡ before ++ board.lines) × IsLegalBoard whole unit board
+all_added whole unit board before now count are so_far = (
+  so_far.added ∙ ap (λ (l : List (List Line)). before ++ l) (take_all count board.lines (omega arith)),
+  λ tree own at. so_far.legal tree own
+      (omega (arith, slice_get_within board.lines tree own at, are)) at,
+)

@@ -1,0 +1,154 @@
+-- The lines of two boards and the acts of the one session on them are one legal history in each tree.
+use Rattle.std.proofs.Common.{◌≡◌, ℕ, zero, suc, ◌+◌, ◌<◌, ◌==◌, List, [], ◌∷◌, ◌++◌, length, map, max}
+use Rattle.std.proofs.Common.{Bool, true, false, cond}
+use Rattle.std.proofs.lemmas.Bool.Decides.{nat_tests}
+use Rattle.std.proofs.Common.{refl, sym, ap, subst, ◌∙◌, inl, inr, arith, length-append}
+use Rattle.std.proofs.lemmas.Option.{slice_get_within, slice_get_past}
+use Rattle.std.proofs.lemmas.List.{length-map}
+use Rattle.std.specs.Prelude.{Option, Some, None, IfSome, slice_get, ◌⊎◌}
+use Rattle.fold_law.specs.Sum.{sum_of}
+use Rattle.fold_law.specs.Whole.{whole_of}
+use Rattle.limit_table.specs.declared.limits.Limits.{Limits}
+use Rattle.risk_board.specs.declared.hand.Line.{Line}
+use Rattle.risk_board.specs.History.{IsLegal, Event, events_of_calls, components_of}
+use Rattle.risk_board.specs.Plain.{BoardValue, IsLegalTree, plain_events}
+use Rattle.risk_journal.specs.declared.acts.Act.{Act}
+use Rattle.risk_journal.specs.ActLists.{events_of}
+use Rattle.session_engine.specs.Trees.{fold_of, limit_of, halt_tree, tree_limits, account_limits}
+use Rattle.session_engine.specs.Trees.{symbol_limits}
+use Rattle.session_engine.specs.Admitted.{StaysWithin}
+use Rattle.session_engine.proofs.Within.{legal_stays_within}
+use Rattle.gate_program.specs.declared.boards.Boards.{Boards}
+use Rattle.gate_program.specs.Boards.{HasLines, HasPlayed}
+use Rattle.gate_program.specs.Run.{IsHistory}
+
+-- what stands at a place of two lists stands in the first, or at a later place in the second
+in_one : {X : Type 0} (xs ys : List X) (place : ℕ) (x : X) → slice_get (xs ++ ys) place ≡ Some x
+    → (slice_get xs place ≡ Some x)
+    ⊎ ((later : ℕ) × (place ≡ length xs + later) × (slice_get ys later ≡ Some x))
+in_one [] ys place x is = inr (place, omega arith, is)
+in_one (first ∷ xs) ys zero x is = inl is
+in_one (first ∷ xs) ys (suc place) x is = elim (in_one xs ys place x is) [
+  | inl here ↦ inl here
+  | inr there ↦ inr (there.0, omega (arith, there.1), there.2)
+]
+
+-- one session's events in a tree of a board, where they are those of its acts in a tree
+legal_of : (whole : List ℕ → ℕ) (board : BoardValue) (tree : ℕ) (own : List Line)
+    (events : List Event) → plain_events tree board.calls ≡ events ∷ []
+    → IsLegalTree whole 0 board tree own
+    → IsLegal whole 0 (components_of 1) own (events ∷ [])
+legal_of whole board tree own events are legal =
+    let one : length board.calls ≡ 1 =
+    sym (length-map board.calls (events_of_calls (λ stamp. stamp) tree)) ∙ ap length are in
+    subst (λ (n : ℕ). IsLegal whole 0 (components_of n) own (events ∷ [])) one
+    (subst (λ (all : List (List Event)). IsLegal whole 0 (components_of (length board.calls)) own
+    all) are legal)
+
+-- whatever the limit of a tree of sums is, what is admitted stays within it
+within_any : (limit : Option ℕ) (own : List Line) (events : List Event)
+    → IsLegal (whole_of sum_of 0) 0 (components_of 1) own (events ∷ [])
+    → IfSome limit (λ l. StaysWithin l 1 own (events ∷ []))
+within_any None own events legal = tt
+within_any (Some limit) own events legal =
+    legal_stays_within limit (components_of 1) own (events ∷ []) legal
+
+isnt_halt : (limits : Limits) (tree : ℕ) → tree < halt_tree limits
+    → (tree == halt_tree limits) ≡ false
+isnt_halt limits tree below = grind (arith, nat_tests)
+
+is_itself : (n : ℕ) → (n == n) ≡ true
+is_itself n = grind (arith, nat_tests)
+
+-- the halt tree is one of the largest
+fold_halt : (limits : Limits) → fold_of limits (halt_tree limits) ≡ whole_of max 0
+fold_halt limits =
+    ap (λ (halts : Bool). cond halts (whole_of max 0) (whole_of sum_of 0))
+    (is_itself (halt_tree limits))
+
+-- and has no limit
+no_halt_limit : (limits : Limits) → limit_of limits (halt_tree limits) ≡ None
+no_halt_limit limits = slice_get_past (tree_limits limits) (halt_tree limits)
+    (omega (arith, length-append (account_limits limits.accounts) (symbol_limits limits.symbols),
+    length-map limits.accounts (λ row. row.limit), length-map limits.symbols (λ row. row.limit)))
+
+-- a tree below the halt tree is one of sums
+fold_below : (limits : Limits) (tree : ℕ) → tree < halt_tree limits
+    → fold_of limits tree ≡ whole_of sum_of 0
+fold_below limits tree below =
+    ap (λ (halts : Bool). cond halts (whole_of max 0) (whole_of sum_of 0)) (isnt_halt limits tree below)
+
+-- the history of the boards is that of the acts
+pub is_history : (limits : Limits) (boards : Boards) (acts : List Act) (lines : List (List Line))
+    → HasPlayed limits boards acts → HasLines boards lines → IsHistory limits (acts ∷ []) lines
+is_history limits boards acts lines played has = record {
+  trees = ap length has.lines_are ∙ length-append boards.sums.lines boards.halt.lines
+      ∙ omega (arith, played.trees, played.halt_trees);
+  legal = λ tree own is. elim (place_of tree own is) [
+    | inl here ↦ below_legal tree own here
+    | inr there ↦ halt_legal tree own there
+  ];
+  within = λ tree own is. elim (place_of tree own is) [
+    | inl here ↦ within_any (limit_of limits tree) own (events_of tree acts)
+        (below tree own here)
+    | inr there ↦ halt_within tree own there
+  ];
+} where
+  -- these are the lines of a tree behind those of the sums
+  abbrev IsHaltLines : ℕ → List Line → Type 0
+  IsHaltLines tree own =
+      (later : ℕ) × (tree ≡ length boards.sums.lines + later)
+      × (slice_get boards.halt.lines later ≡ Some own)
+
+  place_of : (tree : ℕ) (own : List Line) → slice_get lines tree ≡ Some own
+      → (slice_get boards.sums.lines tree ≡ Some own) ⊎ IsHaltLines tree own
+  place_of tree own is = in_one boards.sums.lines boards.halt.lines tree own
+      (subst (λ (all : List (List Line)). slice_get all tree ≡ Some own) has.lines_are is)
+
+  is_below : (tree : ℕ) (own : List Line) → slice_get boards.sums.lines tree ≡ Some own
+      → tree < halt_tree limits
+  is_below tree own here =
+      omega (arith, slice_get_within boards.sums.lines tree own here, played.trees)
+
+  below : (tree : ℕ) (own : List Line) → slice_get boards.sums.lines tree ≡ Some own
+      → IsLegal (whole_of sum_of 0) 0 (components_of 1) own (events_of tree acts ∷ [])
+  below tree own here = legal_of (whole_of sum_of 0) boards.sums tree own (events_of tree acts)
+      (played.sums tree (is_below tree own here)) (has.sums tree own here)
+
+  below_legal : (tree : ℕ) (own : List Line) → slice_get boards.sums.lines tree ≡ Some own
+      → IsLegal (fold_of limits tree) 0 (components_of 1) own (events_of tree acts ∷ [])
+  below_legal tree own here =
+      subst (λ (whole : List ℕ → ℕ). IsLegal whole 0 (components_of 1) own
+      (events_of tree acts ∷ [])) (sym (fold_below limits tree (is_below tree own here)))
+      (below tree own here)
+
+  at_first : (tree : ℕ) (own : List Line) → (there : IsHaltLines tree own) → there.0 ≡ 0
+  at_first tree own there =
+      omega (arith, slice_get_within boards.halt.lines there.0 own there.2, played.halt_trees)
+
+  is_halt : (tree : ℕ) (own : List Line) → IsHaltLines tree own → tree ≡ halt_tree limits
+  is_halt tree own there =
+      omega (arith, there.1, at_first tree own there, played.trees)
+
+  is_first : (tree : ℕ) (own : List Line) → IsHaltLines tree own
+      → slice_get boards.halt.lines 0 ≡ Some own
+  is_first tree own there =
+      subst (λ (n : ℕ). slice_get boards.halt.lines n ≡ Some own) (at_first tree own there) there.2
+
+  halt_legal : (tree : ℕ) (own : List Line) → IsHaltLines tree own
+      → IsLegal (fold_of limits tree) 0 (components_of 1) own (events_of tree acts ∷ [])
+  halt_legal tree own there =
+      subst (λ (n : ℕ). IsLegal (fold_of limits n) 0 (components_of 1) own
+      (events_of n acts ∷ [])) (sym (is_halt tree own there))
+      (subst (λ (whole : List ℕ → ℕ). IsLegal whole 0 (components_of 1) own
+      (events_of (halt_tree limits) acts ∷ [])) (sym (fold_halt limits))
+      (legal_of (whole_of max 0) boards.halt 0 own (events_of (halt_tree limits) acts) played.halt
+      (has.halt 0 own (is_first tree own there))))
+
+  halt_within : (tree : ℕ) (own : List Line) → IsHaltLines tree own
+      → IfSome (limit_of limits tree)
+      (λ limit. StaysWithin limit 1 own (events_of tree acts ∷ []))
+  halt_within tree own there =
+      subst (λ (limit : Option ℕ). IfSome limit
+      (λ l. StaysWithin l 1 own (events_of tree acts ∷ [])))
+      (sym (ap (limit_of limits) (is_halt tree own there) ∙ no_halt_limit limits)) tt
