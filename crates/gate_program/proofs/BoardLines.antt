@@ -1,8 +1,8 @@
 -- The lines of a board's trees, taken one tree after another.
 use Rattle.std.proofs.Common.{◌≡◌, ℕ, ◌+◌, ◌<◌, ◌≤◌, List, [], ◌∷◌, ◌++◌, length, map, take, refl, sym, ap, ◌∙◌}
-use Rattle.std.proofs.Common.{arith, inl, inr, append_assoc, subst}
+use Rattle.std.proofs.Common.{arith, inl, inr, append_assoc, subst, Vec, Global}
 use Rattle.std.proofs.Math.Nat.{eq-or-lt_of_le}
-use Rattle.std.proofs.lemmas.List.{take_more, take_all, append-nil}
+use Rattle.std.proofs.lemmas.List.{take_more, take_all, append-nil, map-append}
 use Rattle.std.proofs.lemmas.Option.{slice_get_within, get_or_from_slice_get}
 use Rattle.std.specs.Prelude.{Some, slice_get, ◌⊎◌}
 use Rattle.risk_board.specs.declared.hand.Line.{Line}
@@ -61,6 +61,21 @@ one_added whole unit board before now count own so_far at own_legal =
       subst (λ (l : List Line). IsLegalTree whole unit board tree l)
       (is_there board.lines tree own other own_there there)
       (subst (λ (n : ℕ). IsLegalTree whole unit board n own) (sym same) own_legal)
+
+-- the lines of one tree more are pushed
+pub one_pushed : (whole : List ℕ → ℕ) (unit : ℕ) (board : BoardValue) (before : List (List Line))
+    (all pushed : List (Vec Line Global)) (lines : Vec Line Global) (own : List Line) (count : ℕ)
+    → HasAdded whole unit board before (map (λ l. l.items) all) count
+    → pushed ≡ all ++ lines ∷ [] → lines.items ≡ own
+    → slice_get board.lines count ≡ Some own → IsLegalTree whole unit board count own
+    → HasAdded whole unit board before (map (λ l. l.items) pushed) (count + 1)
+one_pushed whole unit board before all pushed lines own count so_far is items at legal =
+    let shown : map (λ l. l.items) pushed ≡ map (λ l. l.items) all ++ own ∷ [] =
+    ap (λ (v : List (Vec Line Global)). map (λ l. l.items) v) is
+    ∙ map-append (λ (l : Vec Line Global). l.items) all (lines ∷ [])
+    ∙ ap (λ (o : List Line). map (λ l. l.items) all ++ o ∷ []) items in
+    subst (λ (now : List (List Line)). HasAdded whole unit board before now (count + 1)) (sym shown)
+    (one_added whole unit board before (map (λ l. l.items) all) count own so_far at legal)
 
 -- all trees
 pub all_added : (whole : List ℕ → ℕ) (unit : ℕ) (board : BoardValue) (before now : List (List Line))

@@ -78,6 +78,12 @@ fold_below : (limits : Limits) (tree : ℕ) → tree < halt_tree limits
 fold_below limits tree below =
     ap (λ (halts : Bool). cond halts (whole_of max 0) (whole_of sum_of 0)) (isnt_halt limits tree below)
 
+-- these are the lines of a tree behind those of the sums
+abbrev IsBehind : Boards → ℕ → List Line → Type 0
+IsBehind boards tree own =
+    (later : ℕ) × (tree ≡ length boards.sums.lines + later)
+    × (slice_get boards.halt.lines later ≡ Some own)
+
 -- the history of the boards is that of the acts
 pub is_history : (limits : Limits) (boards : Boards) (acts : List Act) (lines : List (List Line))
     → HasPlayed limits boards acts → HasLines boards lines → IsHistory limits (acts ∷ []) lines
@@ -94,14 +100,8 @@ is_history limits boards acts lines played has = record {
     | inr there ↦ halt_within tree own there
   ];
 } where
-  -- these are the lines of a tree behind those of the sums
-  abbrev IsHaltLines : ℕ → List Line → Type 0
-  IsHaltLines tree own =
-      (later : ℕ) × (tree ≡ length boards.sums.lines + later)
-      × (slice_get boards.halt.lines later ≡ Some own)
-
   place_of : (tree : ℕ) (own : List Line) → slice_get lines tree ≡ Some own
-      → (slice_get boards.sums.lines tree ≡ Some own) ⊎ IsHaltLines tree own
+      → (slice_get boards.sums.lines tree ≡ Some own) ⊎ IsBehind boards tree own
   place_of tree own is = in_one boards.sums.lines boards.halt.lines tree own
       (subst (λ (all : List (List Line)). slice_get all tree ≡ Some own) has.lines_are is)
 
@@ -122,20 +122,20 @@ is_history limits boards acts lines played has = record {
       (events_of tree acts ∷ [])) (sym (fold_below limits tree (is_below tree own here)))
       (below tree own here)
 
-  at_first : (tree : ℕ) (own : List Line) → (there : IsHaltLines tree own) → there.0 ≡ 0
+  at_first : (tree : ℕ) (own : List Line) → (there : IsBehind boards tree own) → there.0 ≡ 0
   at_first tree own there =
       omega (arith, slice_get_within boards.halt.lines there.0 own there.2, played.halt_trees)
 
-  is_halt : (tree : ℕ) (own : List Line) → IsHaltLines tree own → tree ≡ halt_tree limits
+  is_halt : (tree : ℕ) (own : List Line) → IsBehind boards tree own → tree ≡ halt_tree limits
   is_halt tree own there =
       omega (arith, there.1, at_first tree own there, played.trees)
 
-  is_first : (tree : ℕ) (own : List Line) → IsHaltLines tree own
+  is_first : (tree : ℕ) (own : List Line) → IsBehind boards tree own
       → slice_get boards.halt.lines 0 ≡ Some own
   is_first tree own there =
       subst (λ (n : ℕ). slice_get boards.halt.lines n ≡ Some own) (at_first tree own there) there.2
 
-  halt_legal : (tree : ℕ) (own : List Line) → IsHaltLines tree own
+  halt_legal : (tree : ℕ) (own : List Line) → IsBehind boards tree own
       → IsLegal (fold_of limits tree) 0 (components_of 1) own (events_of tree acts ∷ [])
   halt_legal tree own there =
       subst (λ (n : ℕ). IsLegal (fold_of limits n) 0 (components_of 1) own
@@ -145,7 +145,7 @@ is_history limits boards acts lines played has = record {
       (legal_of (whole_of max 0) boards.halt 0 own (events_of (halt_tree limits) acts) played.halt
       (has.halt 0 own (is_first tree own there))))
 
-  halt_within : (tree : ℕ) (own : List Line) → IsHaltLines tree own
+  halt_within : (tree : ℕ) (own : List Line) → IsBehind boards tree own
       → IfSome (limit_of limits tree)
       (λ limit. StaysWithin limit 1 own (events_of tree acts ∷ []))
   halt_within tree own there =

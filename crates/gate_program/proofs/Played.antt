@@ -1,22 +1,28 @@
 -- A session of one, on boards that were empty.
-use Rattle.std.proofs.Common.{◌≡◌, ℕ, ◌+◌, ◌<◌, ◌==◌, List, [], ◌∷◌, length, map, cond, Bool, true, false}
-use Rattle.std.proofs.Common.{refl, sym, ap, ◌∙◌, arith, replicate, length-replicate}
+use Rattle.std.proofs.Common.{◌≡◌, ℕ, ◌+◌, ◌<◌, ◌≤◌, ◌==◌, List, [], ◌∷◌, length, map, cond, Bool, true, false}
+use Rattle.std.proofs.Common.{refl, sym, ap, ◌∙◌, arith, subst}
+use Rattle.std.proofs.lemmas.List.{length-replicate}
 use Rattle.std.proofs.lemmas.Bool.Decides.{nat_tests}
 use Rattle.std.specs.Prelude.{Option, Some, None, slice_index_or, nat_lt}
+use Rattle.fold_law.specs.declared.limits.TheConstants.{LEAF}
+use Rattle.limit_table.specs.Files.{IsHeldByFile}
 use Rattle.limit_table.specs.declared.limits.Limits.{Limits}
 use Rattle.risk_board.specs.declared.hand.Call.{Call}
 use Rattle.risk_board.specs.declared.hand.Call.TheVariants as call
 use Rattle.risk_board.specs.History.{Event, events_of_calls}
 use Rattle.risk_board.specs.History.Event.{Posted, Saw}
 use Rattle.risk_board.specs.Plain.{BoardValue, PlainHandValue, KeepsOthers, empty_board, plain_events}
+use Rattle.risk_board.specs.Plain.{hand_of}
 use Rattle.risk_journal.specs.declared.acts.Act.{Act}
 use Rattle.risk_journal.specs.declared.acts.Act.TheVariants.{Post, Read, Sent, Refused, Noted, Ended}
 use Rattle.risk_journal.specs.declared.acts.End.{End}
 use Rattle.risk_journal.specs.ActLists.{calls_below, calls_at, events_of, placed}
 use Rattle.session_engine.specs.Follows.{FollowsSource, FollowsInput}
+use Rattle.session_engine.specs.Hands.{IsHaltHand}
 use Rattle.session_engine.specs.Trees.{halt_tree}
 use Rattle.gate_program.specs.declared.boards.Boards.{Boards}
 use Rattle.gate_program.specs.Boards.{HasPlayed, HasTrees}
+use Rattle.gate_program.proofs.LimitQuota.{quota_in_range}
 
 -- the events of calls on a plain board, where a read's place is its stamp
 abbrev plain : ℕ → List Call → List Event
@@ -25,6 +31,17 @@ plain tree calls = events_of_calls (λ stamp. stamp) tree calls
 -- the acts with the places of a plain board
 abbrev at_stamps : List Act → List Act
 at_stamps acts = map (placed (λ stamp. stamp)) acts
+
+-- the hand of a halt board that was opened for these limits
+pub is_halt_hand : (limits : Limits) (board : BoardValue) (hand : PlainHandValue)
+    → IsHeldByFile limits → board ≡ empty_board 1 1 limits.quota → hand.board ≡ board
+    → IsHaltHand (hand_of LEAF hand)
+is_halt_hand limits board hand held empty is = record {
+  trees = ap (λ (b : BoardValue). length b.lines) (is ∙ empty);
+  quota = subst (λ (n : ℕ). 1 ≤ n) (sym (ap (λ (b : BoardValue). b.quota) (is ∙ empty)))
+      (quota_in_range limits held).0;
+  cap = refl;
+}
 
 -- a call that is kept or not is an event of the tree, or of another
 kept_or_other : (tree : ℕ) (kept here : Bool) (one : Call) (first : Event) (calls : List Call)

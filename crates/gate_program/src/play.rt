@@ -11,7 +11,7 @@ use crate::open::{Opened, Sinks};
 use gate_ports::{Sink, Source};
 use limit_table::Limits;
 use risk_journal::{Act, End, set_places};
-use session_engine::{Hands, SessionDone, run_session};
+use session_engine::{Hands, SessionDone, places_are_free, run_session};
 use std::alloc::Global;
 
 /// What a session did, how it ended, and the boards that it ran on.
@@ -66,6 +66,7 @@ pub(crate) fn play<S: Source, K: Sink>(
     ensures venue_name { K.name result.opened.sinks.venue ≡ K.name opened.sinks.venue }
     ensures client_name { K.name result.opened.sinks.client ≡ K.name opened.sinks.client }
 {
+    places_are_free();
     let Opened { input, sinks } = opened;
     let Sinks { venue, client } = sinks;
     let Boards { trees, sums, halt } = boards;
