@@ -53,14 +53,14 @@ one_added whole unit board before now count own so_far at own_legal =
         | inr earlier ↦ so_far.legal tree other earlier there
       ];
     } where
-  legal_there : (tree : ℕ) (other : List Line) → slice_get board.lines tree ≡ Some other
-      → tree ≡ count → IsLegalTree whole unit board tree other
-  legal_there tree other there same =
-      let own_there : slice_get board.lines tree ≡ Some own =
-      subst (λ (n : ℕ). slice_get board.lines n ≡ Some own) (sym same) at in
-      subst (λ (l : List Line). IsLegalTree whole unit board tree l)
-      (is_there board.lines tree own other own_there there)
-      (subst (λ (n : ℕ). IsLegalTree whole unit board n own) (sym same) own_legal)
+      legal_there : (tree : ℕ) (other : List Line) → slice_get board.lines tree ≡ Some other
+          → tree ≡ count → IsLegalTree whole unit board tree other
+      legal_there tree other there same =
+          let own_there : slice_get board.lines tree ≡ Some own =
+          subst (λ (n : ℕ). slice_get board.lines n ≡ Some own) (sym same) at in
+          subst (λ (l : List Line). IsLegalTree whole unit board tree l)
+          (is_there board.lines tree own other own_there there)
+          (subst (λ (n : ℕ). IsLegalTree whole unit board n own) (sym same) own_legal)
 
 -- the lines of one tree more are pushed
 pub one_pushed : (whole : List ℕ → ℕ) (unit : ℕ) (board : BoardValue) (before : List (List Line))

@@ -69,8 +69,12 @@ fold_halt limits =
 -- and has no limit
 no_halt_limit : (limits : Limits) → limit_of limits (halt_tree limits) ≡ None
 no_halt_limit limits = slice_get_past (tree_limits limits) (halt_tree limits)
-    (omega (arith, length-append (account_limits limits.accounts) (symbol_limits limits.symbols),
-    length-map limits.accounts (λ row. row.limit), length-map limits.symbols (λ row. row.limit)))
+    (omega (
+      arith,
+      length-append (account_limits limits.accounts) (symbol_limits limits.symbols),
+      length-map limits.accounts (λ row. row.limit),
+      length-map limits.symbols (λ row. row.limit),
+    ))
 
 -- a tree below the halt tree is one of sums
 fold_below : (limits : Limits) (tree : ℕ) → tree < halt_tree limits
