@@ -1,5 +1,5 @@
 #!/usr/bin/env python3
-"""Writes a session file of buy limit orders to standard output.
+"""Writes a session file of buy limit orders of account ACC in symbol XYZ to standard output.
 
 usage: orders.py [NUMBER]      40,000 orders where no number is given
 """
