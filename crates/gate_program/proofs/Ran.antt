@@ -1,5 +1,5 @@
 -- One session that was opened, ran and was closed: what a run of it did.
-use Rattle.std.proofs.Common.{◌≡◌, ℕ, zero, suc, List, [], ◌∷◌, ◌++◌, length, map}
+use Rattle.std.proofs.Common.{◌≡◌, ℕ, zero, suc, List, [], ◌∷◌, ◌++◌}
 use Rattle.std.proofs.Common.{refl, sym, ap, subst, ◌∙◌, inl, inr, Bool, true, false, cond}
 use Rattle.std.proofs.Common.{◌||◌}
 use Rattle.std.specs.Prelude.{Option, Some, None, IfSome, IsSome, slice_get}

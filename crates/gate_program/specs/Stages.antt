@@ -1,6 +1,6 @@
 -- What each stage of a run leaves in its folder.
 use Rattle.std.specs.Prelude.{◌≡◌, ℕ, List, [], ◌∷◌, ◌++◌, length, Option, Some, None, IfSome, ◌⊎◌}
-use Rattle.std.specs.Prelude.{MatchOption, Bool, false, slice_get}
+use Rattle.std.specs.Prelude.{MatchOption, Bool, false}
 use Rattle.std.specs.Str.{bytes_eq}
 use Rattle.gate_ports.specs.Faults.{NeverFalls}
 use Rattle.gate_ports.specs.Names.{Texts, with_text, IsThere, IsOpened, IsEmptySink, MeansName}

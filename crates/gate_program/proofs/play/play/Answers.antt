@@ -1,5 +1,5 @@
 -- The hands came back with the session's calls.
-use Rattle.std.proofs.Common.{◌∙◌, List, ap, sym, subst, arith}
+use Rattle.std.proofs.Common.{◌∙◌, List, ap, sym, subst}
 use Rattle.risk_journal.specs.declared.acts.Act.{Act}
 use Rattle.session_engine.specs.Follows.{FollowsSource}
 use Rattle.gate_program.specs.Boards.{HasPlayed}
