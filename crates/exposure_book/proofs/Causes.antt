@@ -1,5 +1,5 @@
 -- When a report is Stray, and when it is Over.
-use Rattle.std.proofs.Common.{◌≡◌, ◌≢◌, ◌≤◌, ◌<◌, ◌↔◌, ◌⊎◌, ℕ, Bool, true, false, ◌&&◌, leb}
+use Rattle.std.proofs.Common.{◌≡◌, ◌≢◌, ◌<◌, ◌↔◌, ◌⊎◌, ℕ, Bool, true, false, ◌&&◌, leb}
 use Rattle.std.proofs.Common.{leb-true, leb-false, List, Option, Some, None, IsSomeAnd, slice_get}
 use Rattle.std.proofs.Common.{refl, inl, inr}
 use Rattle.std.proofs.Common.{arith, if◌then◌else◌}
@@ -8,12 +8,11 @@ use Rattle.fix_orders.specs.declared.message.Exec.TheVariants.{New, Canceled, Re
 use Rattle.fix_orders.specs.declared.message.Exec.TheVariants.{Expired, Trade, Else}
 use Rattle.fix_orders.specs.declared.message.Report.{Report}
 use Rattle.fix_orders.specs.declared.message.CancelReject.{CancelReject}
-use Rattle.exposure_book.specs.declared.answer.Applied.{Applied}
 use Rattle.exposure_book.specs.declared.answer.Applied.TheVariants as applied
 use Rattle.exposure_book.specs.declared.order.Order.{Order}
 use Rattle.exposure_book.specs.Orders.{leaves_of, reserve_of}
-use Rattle.exposure_book.specs.Books.{BookValue, place_of, order_at, order_with, terms_of}
-use Rattle.exposure_book.specs.Reports.{Outcome, outcome_with, outcome_at, outcome_of, outcome_by}
+use Rattle.exposure_book.specs.Books.{BookValue, place_of, order_at, order_with}
+use Rattle.exposure_book.specs.Reports.{outcome_with, outcome_at, outcome_of, outcome_by}
 use Rattle.exposure_book.specs.Reports.{outcome_of_report, outcome_of_reject_at}
 use Rattle.exposure_book.specs.Reports.{outcome_of_reject_by, outcome_of_reject, order_after}
 use Rattle.exposure_book.specs.Reports.{is_covered, traded_order, without_request, reported_order}

@@ -1,6 +1,6 @@
 -- An id that is new goes last in the map of ids.
-use Rattle.std.proofs.Common.{◌≡◌, ◌<◌, ◌++◌, ℕ, List, [], ◌∷◌, Option, None, Result, Ok, Err, IsOk}
-use Rattle.std.proofs.Common.{OnOk, nat_eq, refl, ◌∙◌}
+use Rattle.std.proofs.Common.{◌≡◌, ◌++◌, ℕ, List, [], ◌∷◌, None, Result, Ok, Err, IsOk}
+use Rattle.std.proofs.Common.{OnOk, nat_eq, ◌∙◌}
 use Rattle.std.specs.Cmp.Lexicographic.{pointwise}
 use Rattle.indexmap.specs.IndexMap.{IndexMap, get, insert_entry}
 use Rattle.indexmap.proofs.CallerLemmas.{insert_entry-new}

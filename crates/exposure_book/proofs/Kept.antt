@@ -1,8 +1,8 @@
 -- The running totals stay the sums from scratch, as orders are added or changed.
-use Rattle.std.proofs.Common.{◌≡◌, ◌≤◌, ◌<◌, ◌+◌, ◌-◌, ◌*◌, ◌++◌, ℕ, List, [], ◌∷◌, length, Option}
-use Rattle.std.proofs.Common.{Some, None, slice_get, refl, sym, ap, subst, ◌∙◌}
+use Rattle.std.proofs.Common.{◌≡◌, ◌≤◌, ◌<◌, ◌+◌, ◌-◌, ◌++◌, ℕ, List, [], ◌∷◌, length}
+use Rattle.std.proofs.Common.{Some, slice_get, refl, sym, ap, subst, ◌∙◌}
 use Rattle.std.proofs.Common.{arith, get_or, get_or-set_same, set, length-set, length-append, zero}
-use Rattle.std.proofs.Common.{suc, All, sum_by, IfSome, Bool, true, false, cond}
+use Rattle.std.proofs.Common.{suc, All, IfSome, Bool, true, false, cond}
 use Rattle.std.proofs.lemmas.List.Sums.{sum_by_push, get_or-le-sum_by}
 use Rattle.std.proofs.lemmas.List.Elements.{All-set, All-push, All-weaker, All-get_or, All-head}
 use Rattle.std.proofs.lemmas.List.Elements.{All-tail}
@@ -10,10 +10,9 @@ use Rattle.std.proofs.lemmas.Option.{slice_get_within, slice_get-get_or}
 use Rattle.std.specs.Map.{lookup}
 use Rattle.exposure_book.specs.declared.order.Order.{Order}
 use Rattle.exposure_book.specs.declared.answer.Proposal.{Proposal}
-use Rattle.exposure_book.specs.declared.answer.Terms3.{Terms3}
 use Rattle.exposure_book.specs.Orders.{exposure_of}
-use Rattle.exposure_book.specs.Books.{BookValue, firm_sum, account_sum, symbol_sum, units_up}
-use Rattle.exposure_book.specs.Books.{proposal_of, terms_of}
+use Rattle.exposure_book.specs.Books.{firm_sum, account_sum, symbol_sum, units_up}
+use Rattle.exposure_book.specs.Books.{proposal_of}
 use Rattle.exposure_book.specs.Totals.{AreKept, IsPlaced, IsPartOf, most_exposure}
 use Rattle.exposure_book.specs.Proposals.{capped}
 use Rattle.exposure_book.proofs.Sums.{item_at, part-le-sum, sum-set, part_by, part_by-own}

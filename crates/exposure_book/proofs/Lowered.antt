@@ -1,16 +1,16 @@
 -- An order that counts for no more raises no sum.
-use Rattle.std.proofs.Common.{◌≡◌, ◌≤◌, ◌+◌, ◌-◌, ◌/◌, ℕ, Bool, true, false, List, Option, Some}
-use Rattle.std.proofs.Common.{None, slice_get, set, sum_by, refl, sym, ap, subst, ◌∙◌}
+use Rattle.std.proofs.Common.{◌≡◌, ◌≤◌, ℕ, Bool, true, false, List, Option, Some}
+use Rattle.std.proofs.Common.{None, slice_get, set, sum_by, refl, sym, subst}
 use Rattle.std.proofs.Common.{arith, eqb, if◌then◌else◌, IfSome}
 use Rattle.fix_orders.specs.declared.message.Exec.{Exec}
 use Rattle.fix_orders.specs.declared.message.Report.{Report}
 use Rattle.fix_orders.specs.declared.message.CancelReject.{CancelReject}
 use Rattle.exposure_book.specs.declared.order.Order.{Order}
 use Rattle.exposure_book.specs.Orders.{exposure_of, Lowers}
-use Rattle.exposure_book.specs.Books.{BookValue, units_up, firm_sum, account_sum, symbol_sum}
+use Rattle.exposure_book.specs.Books.{BookValue, units_up, firm_sum}
 use Rattle.exposure_book.specs.Books.{place_of}
 use Rattle.exposure_book.specs.Totals.{most_exposure}
-use Rattle.exposure_book.specs.Reports.{RaisesNothing, Outcome, outcome_with, outcome_at}
+use Rattle.exposure_book.specs.Reports.{RaisesNothing, outcome_with, outcome_at}
 use Rattle.exposure_book.specs.Reports.{outcome_of, outcome_by, outcome_of_report}
 use Rattle.exposure_book.specs.Reports.{outcome_of_reject_at, outcome_of_reject_by}
 use Rattle.exposure_book.specs.Reports.{outcome_of_reject, order_after, without_request}

@@ -1,6 +1,5 @@
 -- Worked messages, computed from the definitions: prices are ten-thousandths, values whole units.
 use Rattle.std.proofs.Common.{◌≡◌, ℕ, false, List, [], ◌∷◌, Some, codes, refl}
-use Rattle.fix_orders.specs.declared.message.Exec.{Exec}
 use Rattle.fix_orders.specs.declared.message.Exec.TheVariants.{Trade, Replaced, Rejected}
 use Rattle.fix_orders.specs.declared.message.OrderKind.TheVariants.{Limit}
 use Rattle.exposure_book.specs.declared.order.Order.{Order}

@@ -1,9 +1,8 @@
 -- Sums over the orders of a book, as orders are added or changed.
 use Rattle.std.proofs.Common.{◌≡◌, ◌≤◌, ◌<◌, ◌+◌, ◌-◌, ◌++◌, ℕ, Bool, true, false, List, [], ◌∷◌}
-use Rattle.std.proofs.Common.{length, Option, Some, None, slice_get, refl, sym, ap, subst, ◌∙◌}
-use Rattle.std.proofs.Common.{cond}
+use Rattle.std.proofs.Common.{length, Some, slice_get, refl, sym, ap, subst, ◌∙◌}
 use Rattle.std.proofs.Common.{arith, eqb, eqb-true, eq-eqb, if◌then◌else◌, get_or, set, length-set}
-use Rattle.std.proofs.Common.{get_or-set_same, get_or-set_other, sum_by, All, ◌≢◌}
+use Rattle.std.proofs.Common.{get_or-set_same, get_or-set_other, sum_by, ◌≢◌}
 use Rattle.std.proofs.lemmas.List.Sums.{sum_by-set, sum_by_push, sum_by-cons, get_or-le-sum_by}
 use Rattle.std.proofs.lemmas.Option.{slice_get_within, slice_get-get_or}
 use Rattle.exposure_book.specs.declared.order.Order.{Order}

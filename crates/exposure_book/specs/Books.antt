@@ -1,7 +1,7 @@
 -- A book as plain data, and the values of its trees.
 use Rattle.std.specs.Prelude.{ℕ, ◌+◌, ◌-◌, ◌/◌, List, [], Option, Some, None, sum_by, ◌==◌}
 use Rattle.std.specs.Prelude.{slice_get}
-use Rattle.std.specs.Prelude.{if◌then◌else◌, nat_eq}
+use Rattle.std.specs.Prelude.{if◌then◌else◌}
 use Rattle.std.specs.Map.{lookup}
 use Rattle.exposure_book.specs.declared.answer.Proposal.{Proposal}
 use Rattle.exposure_book.specs.declared.answer.Terms3.{Terms3}

@@ -1,5 +1,5 @@
 -- Equal ids are hashed alike.
-use Rattle.std.specs.Prelude.{◌≡◌, ℕ, List, nat_eq, true}
+use Rattle.std.specs.Prelude.{nat_eq}
 use Rattle.std.specs.Cmp.Lexicographic.{pointwise}
 use Rattle.std.specs.Hash as fed
 use Rattle.std.proofs.Common.{ap, eqb-true}

@@ -2,7 +2,7 @@
 -- the table, else the values as they would be.
 use Rattle.std.specs.Prelude.{ℕ, List, [], ◌∷◌, ◌++◌, Option, Some, None, Result, Ok, Err, Bool}
 use Rattle.std.specs.Prelude.{true, false}
-use Rattle.std.specs.Prelude.{◌==◌, ◌&&◌, ◌||◌, not, nat_le, is_some, slice_get, slice_set}
+use Rattle.std.specs.Prelude.{◌==◌, ◌&&◌, not, nat_le, is_some, slice_get, slice_set}
 use Rattle.std.specs.Prelude.{if◌then◌else◌}
 use Rattle.fold_law.specs.declared.limits.TheConstants.{LEAF}
 use Rattle.fix_orders.specs.declared.message.NewOrder.{NewOrder}

@@ -140,3 +140,10 @@ IsBeyond Rejected order = ⊥
 IsBeyond Expired order = ⊥
 IsBeyond (Trade quantity price) order = (leaves_of order < quantity) ⊎ (reserve_of order < price)
 IsBeyond Else order = ⊥
+
+-- the account and the symbol that an answer tells are among so many
+abbrev pub IsPlacedAnswer : ℕ → ℕ → Applied → Type 0
+IsPlacedAnswer accounts symbols (applied.Applied terms) =
+    (terms.account < accounts) × (terms.symbol < symbols)
+IsPlacedAnswer accounts symbols applied.Stray = Unit {0}
+IsPlacedAnswer accounts symbols applied.Over = Unit {0}

@@ -130,7 +130,9 @@ impl Book {
 
     /// The account and the symbol of the order that has this id, None where no order has it.
     pub fn pair_of(&self, id: &Id) -> Option<(u32, u32)>
-        ensures { result ≡ pair_of_order (order_with self.now id.now) }
+        ensures value { result ≡ pair_of_order (order_with self.now id.now) }
+        ensures placed { IfSome result (λ pair.
+            (pair.0 < self.now.accounts) × (pair.1 < self.now.symbols)) }
     {
         let place = self.place(id)?;
         let order = self.order(place);

@@ -4,7 +4,7 @@ ghost use Rattle.exposure_book.specs.Orders.{Lowers};
 ghost use Rattle.exposure_book.specs.Books.{order_with, terms_of};
 ghost use Rattle.exposure_book.specs.Totals.{IsOrderAt};
 ghost use Rattle.exposure_book.specs.Reports.{outcome_of_report, outcome_of_reject};
-ghost use Rattle.exposure_book.specs.Reports.{reported_order, IsBeyond};
+ghost use Rattle.exposure_book.specs.Reports.{reported_order, IsBeyond, IsPlacedAnswer};
 
 use crate::answer::Applied;
 use crate::book::Book;
@@ -18,6 +18,7 @@ impl Book {
         ensures answer { result ≡ (outcome_of_report self.old report.now).answer }
         ensures orders { self.new
             ≡ record self.old { orders = (outcome_of_report self.old report.now).orders } }
+        ensures placed { IsPlacedAnswer self.old.accounts self.old.symbols result }
         ensures stray { (result ≡ Applied.Stray) ↔ (reported_order self.old report.now.id ≡ None) }
         ensures over { (result ≡ Applied.Over)
             ↔ IsSomeAnd (reported_order self.old report.now.id) (IsBeyond report.now.exec) }
@@ -31,6 +32,7 @@ impl Book {
         ensures answer { result ≡ (outcome_of_reject self.old reject.now).answer }
         ensures orders { self.new
             ≡ record self.old { orders = (outcome_of_reject self.old reject.now).orders } }
+        ensures placed { IsPlacedAnswer self.old.accounts self.old.symbols result }
         ensures stray { (result ≡ Applied.Stray) ↔ (order_with self.old reject.now.id ≡ None) }
         ensures never_over { result ≢ Applied.Over }
     {
@@ -42,6 +44,7 @@ impl Book {
         ensures answer { result ≡ (outcome_of_report self.old report.now).answer }
         ensures orders { self.new
             ≡ record self.old { orders = (outcome_of_report self.old report.now).orders } }
+        ensures placed { IsPlacedAnswer self.old.accounts self.old.symbols result }
     {
         let Some(id) = report.id else {
             return Applied::Stray;
@@ -61,6 +64,7 @@ impl Book {
         ensures answer { result ≡ (outcome_of_reject self.old reject.now).answer }
         ensures orders { self.new
             ≡ record self.old { orders = (outcome_of_reject self.old reject.now).orders } }
+        ensures placed { IsPlacedAnswer self.old.accounts self.old.symbols result }
     {
         let Some(place) = self.place(&reject.id) else {
             return Applied::Stray;
@@ -77,6 +81,7 @@ impl Book {
             ≡ Applied.Applied (terms_of (slice_set self.old.orders place next.now) next.now) }
         ensures orders { self.new
             ≡ record self.old { orders = slice_set self.old.orders place next.now } }
+        ensures placed { IsPlacedAnswer self.old.accounts self.old.symbols result }
     {
         self.put(place, next);
         Applied::Applied(self.terms(next))

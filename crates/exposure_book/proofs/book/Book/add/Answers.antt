@@ -1,5 +1,5 @@
 use Rattle.std.proofs.Common.{◌≡◌, ◌≤◌, ◌<◌, ◌++◌, [], ◌∷◌, length, length-set, subst, sym, arith}
-use Rattle.std.proofs.Common.{refl, IsOk, None, nat_eq}
+use Rattle.std.proofs.Common.{None, nat_eq}
 use Rattle.std.specs.Cmp.Lexicographic.{pointwise}
 use Rattle.indexmap.specs.IndexMap.{get, spare}
 use Rattle.exposure_book.specs.Books.{BookValue, place_of, firm_sum}

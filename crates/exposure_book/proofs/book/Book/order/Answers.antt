@@ -1,6 +1,5 @@
 use Rattle.std.proofs.Common.{◌<◌, length, subst, sym}
 use Rattle.exposure_book.specs.Books.{BookValue}
-use Rattle.exposure_book.specs.Totals.{IsOrderAt}
 use Rattle.exposure_book.proofs.Kept.{order_found, order_placed, order_capped}
 use Rattle.exposure_book.proofs.book.Book.order.Goals as goal
 

@@ -1,7 +1,6 @@
-use Rattle.std.proofs.Common.{◌≡◌, ◌≤◌, ◌<◌, ◌+◌, ◌-◌, length, subst, sym, arith, refl, Some}
-use Rattle.std.proofs.Common.{slice_get, get_or, set, ◌∙◌}
+use Rattle.std.proofs.Common.{◌≡◌, ◌≤◌, ◌<◌, length, subst, sym, arith, Some}
+use Rattle.std.proofs.Common.{slice_get, set, ◌∙◌}
 use Rattle.std.proofs.lemmas.Option.{slice_get_within}
-use Rattle.exposure_book.specs.Orders.{exposure_of}
 use Rattle.exposure_book.specs.Books.{BookValue, firm_sum}
 use Rattle.exposure_book.specs.Totals.{most_exposure}
 use Rattle.exposure_book.proofs.Kept.{index_is, changed_capped, firm_has_order, account_has_order}

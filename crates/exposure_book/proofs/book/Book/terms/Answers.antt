@@ -1,6 +1,5 @@
-use Rattle.std.proofs.Common.{◌≡◌, ◌≤◌, ◌<◌, length, subst, sym, arith, get_or}
+use Rattle.std.proofs.Common.{◌<◌, length, subst, sym, arith}
 use Rattle.exposure_book.specs.Books.{BookValue}
-use Rattle.exposure_book.specs.Totals.{most_exposure}
 use Rattle.exposure_book.proofs.Kept.{account-le, symbol-le, index_is}
 use Rattle.exposure_book.proofs.book.Book.terms.Goals as goal
 

@@ -1,8 +1,6 @@
-use Rattle.std.proofs.Common.{◌≡◌, ◌≤◌, ◌<◌, ◌+◌, ◌-◌, length, subst, sym, arith, refl, ap, Some}
-use Rattle.std.proofs.Common.{slice_get, get_or, set, ◌∙◌}
-use Rattle.exposure_book.specs.Orders.{exposure_of}
-use Rattle.exposure_book.specs.Books.{BookValue, proposal_of}
-use Rattle.exposure_book.specs.Proposals.{capped}
+use Rattle.std.proofs.Common.{◌≡◌, subst, sym, Some}
+use Rattle.std.proofs.Common.{slice_get, ◌∙◌}
+use Rattle.exposure_book.specs.Books.{BookValue}
 use Rattle.exposure_book.proofs.Kept.{index_is, firm_has_order, account_has_order, symbol_has_order}
 use Rattle.exposure_book.proofs.Kept.{next_account, next_symbol, values_by}
 use Rattle.exposure_book.proofs.book.Book.values_with.Goals as goal

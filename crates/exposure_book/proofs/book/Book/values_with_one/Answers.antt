@@ -1,4 +1,4 @@
-use Rattle.std.proofs.Common.{◌≡◌, ◌≤◌, ◌<◌, length, subst, sym, arith, refl}
+use Rattle.std.proofs.Common.{◌<◌, length, subst, sym}
 use Rattle.exposure_book.specs.Books.{BookValue}
 use Rattle.exposure_book.proofs.Kept.{index_is, account_has_none, symbol_has_none}
 use Rattle.exposure_book.proofs.book.Book.values_with_one.Goals as goal

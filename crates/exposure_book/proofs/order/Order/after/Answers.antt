@@ -1,7 +1,4 @@
-use Rattle.std.proofs.Common.{IfSome, subst, sym, Option}
 use Rattle.fix_orders.specs.declared.message.Exec.TheVariants.{Replaced, Rejected, Trade}
-use Rattle.exposure_book.specs.declared.order.Order.{Order}
-use Rattle.exposure_book.specs.Orders.{Lowers}
 use Rattle.exposure_book.proofs.Lowering.{order_after_lowers}
 use Rattle.exposure_book.proofs.order.Order.after.Goals as goal
 
