@@ -6,7 +6,7 @@ ghost use Rattle.std.specs.Cmp.{partial_equiv_from_equiv};
 ghost use Rattle.std.specs.Cmp.Lexicographic.{pointwise, slice_cmp, nat_list_eq_equiv};
 ghost use Rattle.std.specs.Cmp.Lexicographic.{nat_list_cmp_total, texts_ties, texts_po};
 ghost use Rattle.fix_fields.specs.Numbers.{id_of, is_printable};
-ghost use Rattle.fix_fields.specs.IdText.{padded_id};
+ghost use Rattle.fix_fields.specs.IdText.{IsId, padded_id};
 
 use crate::number::Spelling;
 use std::cmp::Ordering;
@@ -57,9 +57,10 @@ impl Id {
         })
     }
 
-    /// The bytes.
+    /// The bytes, of which there are 1 to 64, each of 32 to 126.
     pub fn bytes(&self) -> &[u8]
-        ensures { result.now ≡ self.now }
+        ensures same { result.now ≡ self.now }
+        ensures id { IsId self.now }
     {
         &self.bytes[..self.len]
     }

@@ -11,4 +11,3 @@ pub mod OtherFields
 pub mod Passed
 pub mod OrderValues
 pub mod OrderRejects
-pub mod Ids

@@ -96,9 +96,9 @@ opening_few kind stamp is =
       sized 2 34 (decimal stamp.seq) (omega arith) (omega arith) (omega arith),
       sized 2 52 stamp.time (omega arith) (omega arith) (omega arith),
       is.target.most,
-      length-decimal-le 8 stamp.seq (omega arith) (omega (arith, is.most)) (omega (
+      length-decimal-le 8 stamp.seq (omega arith) (omega (arith, is.number.most)) (omega (
         arith,
-        is.most,
+        is.number.most,
       )),
       is.time.most,
     )

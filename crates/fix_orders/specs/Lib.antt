@@ -1,6 +1,7 @@
 pub mod Kinds
 pub mod Sides
 pub mod Table
+pub mod Envelopes
 pub mod Faults
 pub mod Slotted
 pub mod Reading

@@ -18,10 +18,14 @@ pub record IsShort (text : List ℕ) : Type 0 where
   pub without_soh : IsTrue (list_all is_value_byte text)
   pub few : length text ≤ 64
 
--- a number of at most eight digits, and two ids
+-- a number of a message: one of at most eight digits
+pub record IsSeq (seq : ℕ) : Type 0 where
+  pub least : 1 ≤ seq
+  pub most : seq ≤ 99999999
+
+-- a number of a message, and two ids
 pub record IsStamp (stamp : Stamp) : Type 0 where
-  pub least : 1 ≤ stamp.seq
-  pub most : stamp.seq ≤ 99999999
+  pub number : IsSeq stamp.seq
   pub target : IsId stamp.target
   pub time : IsId stamp.time
 

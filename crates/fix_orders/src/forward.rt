@@ -4,7 +4,7 @@ ghost use Rattle.std.specs.Prelude.{length, filter, not};
 ghost use Rattle.fix_fields.specs.Fields.{FieldValue, IsField, field, field_text, fields_text};
 ghost use Rattle.fix_fields.specs.Places.{HasFieldsIn, IsSoundIn, IsPlace, field_at};
 ghost use Rattle.fix_orders.specs.Faults.{value_of};
-ghost use Rattle.fix_orders.specs.Put.{HasPut, IsStamp, IsPassedOn};
+ghost use Rattle.fix_orders.specs.Put.{HasPut, IsSeq, IsPassedOn};
 ghost use Rattle.fix_orders.specs.Writing.{forward_fields, is_own_field};
 
 use crate::message::Stamp;
@@ -64,7 +64,7 @@ fn type_byte(bytes: &[u8], frame: &Frame) -> u8
 /// is passed on as it came.
 pub fn write_forward(to: &mut Writer, bytes: &[u8], frame: &Frame, stamp: &Stamp)
     requires accepted { IsPassedOn bytes.now frame.now }
-    requires stamp { IsStamp stamp.now }
+    requires seq { IsSeq stamp.now.seq }
     ensures { (listed : List FieldValue) → HasFieldsIn bytes.now frame.now listed
         → HasPut (forward_fields stamp.now listed) to.new }
 {

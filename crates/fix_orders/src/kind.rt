@@ -4,7 +4,7 @@ ghost use Rattle.fix_orders.specs.Kinds.{kind_of};
 
 /// The kind of a message.
 #[derive(Clone, Copy, Debug, PartialEq, Eq)]
-pub(crate) enum Kind {
+pub enum Kind {
     /// 35=D.
     NewOrderSingle,
     /// 35=F.
@@ -22,7 +22,7 @@ pub(crate) enum Kind {
 }
 
 /// The kind of a message with this MsgType (35).
-pub(crate) fn kind_of(text: &[u8]) -> Kind
+pub fn kind_of(text: &[u8]) -> Kind
     ensures { result ≡ kind_of text.now }
 {
     match text {

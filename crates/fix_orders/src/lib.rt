@@ -7,6 +7,7 @@
 //! order may cost is not told here.
 #![tactic(auto)]
 
+mod envelope;
 mod fault;
 mod forward;
 mod kind;
@@ -20,14 +21,16 @@ mod side;
 mod slots;
 mod table;
 
+pub use envelope::{Envelope, read_envelope};
 pub use fix_fields::{Id, Spelling};
 pub use forward::write_forward;
+pub use kind::{Kind, kind_of};
 pub use message::{
     Cancel, CancelReject, Exec, FieldFault, Head, Message, NewOrder, OrderKind, Replace, Report,
     Stamp,
 };
 pub use order_reject::write_reject_order;
-pub use read::read_message;
+pub use read::{read_message, type_text};
 pub use reject::{write_reject_cancel, write_reject_session};
 pub use side::Side;
 

@@ -1,32 +1,26 @@
 //! What no clause says: whole messages, byte for byte, as an engine of FIX 4.4 writes them.
 ghost use Rattle.std.specs.Prelude.{IfSome};
-ghost use Rattle.fix_fields.specs.IdText.{IsId};
 ghost use Rattle.fix_fields.specs.Places.{IsSoundIn};
-ghost use Rattle.fix_orders.specs.Put.{IsReadAs, IsStamp};
+ghost use Rattle.fix_orders.specs.Put.{IsReadAs, IsSeq};
 
 use crate::read::type_text;
 use crate::tests::{framed, sound_frame};
 use crate::{
-    Message, NewOrder, Stamp, read_message, write_forward, write_reject_cancel, write_reject_order,
-    write_reject_session,
+    Message, NewOrder, Stamp, read_envelope, read_message, write_forward, write_reject_cancel,
+    write_reject_order, write_reject_session,
 };
 use fix_fields::{Frame, Id, Writer};
 use std::alloc::{AllocError, Global};
 use std::test::*;
 
 /// The id of this text.
-fn id(text: &[u8]) -> Option<Id>
-    ensures { IfSome result (λ id. IsId id) }
-{
-    match Id::read(text) {
-        Ok(id) => Some(id),
-        Err(_) => None,
-    }
+fn id(text: &[u8]) -> Option<Id> {
+    Id::read(text).ok()
 }
 
 /// A stamp of the first message to this receiver.
 fn stamp_to(target: &[u8]) -> Option<Stamp>
-    ensures { IfSome result (λ stamp. IsStamp stamp) }
+    ensures { IfSome result (λ stamp. IsSeq stamp.seq) }
 {
     let target = id(target)?;
     let time = id(b"20240102-10:00:00")?;
@@ -192,5 +186,58 @@ fn the_longest_order_is_passed_on(rt: HostRuntime) -> Result<(), Fail> {
         "17 bytes, a body of 8,195, and 7 bytes"
     );
     assert!(rt; message.starts_with(b"8=FIX.4.4\x019=8195\x0135=D\x0149=GATE\x0156=VENUE\x01"));
+    Ok(())
+}
+
+/// Name, the body of a message, and its number, sender and time, where each stands once and is read.
+const HEADS: [(&str, &[u8], Option<u32>, Option<&[u8]>, Option<&[u8]>); 4] = [
+    (
+        "whole",
+        b"35=D\x0149=C1\x0134=7\x0152=20240102-10:00:00\x01",
+        Some(7),
+        Some(b"C1"),
+        Some(b"20240102-10:00:00"),
+    ),
+    (
+        "twice, or nowhere",
+        b"35=D\x0149=C1\x0149=C1\x0134=7\x0134=7\x01",
+        None,
+        None,
+        None,
+    ),
+    (
+        "empty, or of another form",
+        b"35=8\x0149=\x0134=x\x0152=a\x7f\x01",
+        None,
+        None,
+        None,
+    ),
+    (
+        "a message of which no field is read",
+        b"35=B\x0152=10:00\x0134=0\x0149=C2\x01",
+        None,
+        Some(b"C2"),
+        Some(b"10:00"),
+    ),
+];
+
+/// The bytes of an id.
+fn text_of(id: &Option<Id>) -> Option<&[u8]> {
+    match id {
+        Some(id) => Some(id.bytes()),
+        None => None,
+    }
+}
+
+#[test]
+fn heads_are_read(rt: HostRuntime) -> Result<(), Fail> {
+    for (name, body, seq, sender, time) in HEADS {
+        let bytes = framed(rt.alloc(), body)?;
+        let frame = sound_frame(bytes.as_slice()).ok_or("no frame")?;
+        let head = read_envelope(bytes.as_slice(), &frame);
+        assert_eq!(rt; head.seq, seq, "the number, {name}");
+        assert_eq!(rt; text_of(&head.sender), sender, "the sender, {name}");
+        assert_eq!(rt; text_of(&head.time), time, "the time, {name}");
+    }
     Ok(())
 }

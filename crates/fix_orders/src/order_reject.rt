@@ -2,7 +2,7 @@
 ghost use Rattle.std.specs.Prelude.{◌≡◌, List, [], ◌∷◌, ◌++◌, codes, decimal};
 ghost use Rattle.fix_fields.specs.Fields.{FieldValue, field};
 ghost use Rattle.fix_fields.specs.Places.{HasFieldsIn};
-ghost use Rattle.fix_orders.specs.Put.{HasPut, HasRoom, IsReadAs, IsShort, IsStamp};
+ghost use Rattle.fix_orders.specs.Put.{HasPut, HasRoom, IsReadAs, IsShort, IsSeq};
 ghost use Rattle.fix_orders.specs.Writing.{order_reject_fields, reply_fields};
 
 use crate::message::{Message, NewOrder, Stamp};
@@ -26,7 +26,6 @@ fn put_execution(to: &mut Writer, number: u32)
 
 /// Appends OrderID (37), of which there is none, and ClOrdID (11).
 fn put_reply(to: &mut Writer, id: &Id)
-    requires short { IsShort id.now }
     requires room { HasRoom (reply_fields id.now) to.old }
     ensures { (fields : List FieldValue) → HasPut fields to.old
         → HasPut (fields ++ reply_fields id.now) to.new }
@@ -46,7 +45,7 @@ pub fn write_reject_order(
     text: &[u8],
 )
     requires accepted { IsReadAs bytes.now frame.now (Message.New order.now) }
-    requires stamp { IsStamp stamp.now }
+    requires seq { IsSeq stamp.now.seq }
     requires text { IsShort text.now }
     ensures { (listed : List FieldValue) → HasFieldsIn bytes.now frame.now listed
         → HasPut (order_reject_fields listed order.now.id stamp.now reason text.now) to.new }

@@ -2,7 +2,7 @@
 ghost use Rattle.std.specs.Prelude.{◌≡◌, ℕ, ◌≤◌, List, [], ◌∷◌, ◌++◌, length, map, IfSome};
 ghost use Rattle.std.specs.List.{AllByRecursion};
 ghost use Rattle.fix_fields.specs.Fields.{FieldValue, IsField};
-ghost use Rattle.fix_orders.specs.Put.{HasPut, HasRoom, IsStamp, part_value};
+ghost use Rattle.fix_orders.specs.Put.{HasPut, HasRoom, IsSeq, IsStamp, part_value};
 ghost use Rattle.fix_orders.specs.Writing.{opening_fields};
 
 use crate::message::Stamp;
@@ -28,8 +28,9 @@ pub(crate) fn put_all(to: &mut Writer, parts: &[Part])
 /// Begins a message: its type, the gate as sender, its receiver, its number and its time.
 pub(crate) fn put_opening(to: &mut Writer, kind: u8, stamp: &Stamp)
     requires kind { (33 ≤ kind) × (kind ≤ 126) }
-    requires stamp { IsStamp stamp.now }
-    ensures { HasPut (opening_fields (kind ∷ []) stamp.now) to.new }
+    requires seq { IsSeq stamp.now.seq }
+    ensures put { HasPut (opening_fields (kind ∷ []) stamp.now) to.new }
+    ensures stamp { IsStamp stamp.now }
 {
     let mut seq = Buffer::new();
     to.begin(kind);

@@ -254,7 +254,7 @@ fn message_of(slots: &Slots, kind: Kind) -> Message
 }
 
 /// The value of MsgType (35), which is the first field of a sound frame.
-pub(crate) fn type_text<'a>(bytes: &'a [u8], frame: &Frame) -> &'a [u8]
+pub fn type_text<'a>(bytes: &'a [u8], frame: &Frame) -> &'a [u8]
     requires sound { IsSoundIn bytes.now frame.now }
     ensures { (listed : List FieldValue) → HasFieldsIn bytes.now frame.now listed
         → result.now ≡ value_of 35 listed }

@@ -1,7 +1,6 @@
 //! The messages that refuse a request or a message.
 ghost use Rattle.std.specs.Prelude.{◌≡◌};
-ghost use Rattle.fix_fields.specs.IdText.{IsId};
-ghost use Rattle.fix_orders.specs.Put.{HasPut, IsShort, IsStamp, IsTypeText};
+ghost use Rattle.fix_orders.specs.Put.{HasPut, IsShort, IsSeq, IsTypeText};
 ghost use Rattle.fix_orders.specs.Writing.{cancel_reject_fields, session_reject_fields};
 
 use crate::message::{FieldFault, Stamp};
@@ -21,9 +20,7 @@ pub fn write_reject_cancel(
     reason: u8,
     text: &[u8],
 )
-    requires id { IsId id.now }
-    requires orig { IsId orig.now }
-    requires stamp { IsStamp stamp.now }
+    requires seq { IsSeq stamp.now.seq }
     requires text { IsShort text.now }
     ensures { HasPut (cancel_reject_fields id.now orig.now stamp.now answers reason text.now)
         to.new }
@@ -52,7 +49,7 @@ pub fn write_reject_session(
     kind: &[u8],
     fault: &FieldFault,
 )
-    requires stamp { IsStamp stamp.now }
+    requires seq { IsSeq stamp.now.seq }
     requires kind { IsTypeText kind.now }
     ensures { HasPut (session_reject_fields stamp.now ref_seq kind.now fault.now) to.new }
 {

@@ -11,13 +11,13 @@ put_others-requires-clause-sound c =
 
 pub put_others-requires-clause-begun : goal.put_others-requires-clause-begun
 put_others-requires-clause-begun c =
-    is_begun (opening_fields (c.type_byte.result ∷ []) c.args.stamp.now) _ c.put_opening.ensures
+    is_begun (opening_fields (c.type_byte.result ∷ []) c.args.stamp.now) _ c.put_opening.ensures.put
 
 pub put_others-requires-clause-room : goal.put_others-requires-clause-room
 put_others-requires-clause-room c =
-    forward_room c.type_byte.result c.args.stamp.now _ c.requires.stamp c.put_opening.ensures
+    forward_room c.type_byte.result c.args.stamp.now _ c.put_opening.ensures.stamp c.put_opening.ensures.put
 
 pub returns : goal.returns
 returns c = λ listed has.
     forward_put c.type_byte.result c.args.stamp.now listed c.put_opening.new.to c.put_others.new.to
-    c.put_opening.ensures (c.type_byte.ensures.is listed has) (c.put_others.ensures listed has)
+    c.put_opening.ensures.put (c.type_byte.ensures.is listed has) (c.put_others.ensures listed has)

@@ -14,20 +14,16 @@ use Rattle.fix_orders.proofs.OrderRejects.{to_execution_parts, to_state_parts, t
 use Rattle.fix_orders.proofs.OrderRejects.{to_zeros_parts, order_is}
 use Rattle.fix_orders.proofs.order_reject.write_reject_order.Goals as goal
 
-pub put_reply-requires-clause-short : goal.put_reply-requires-clause-short
-put_reply-requires-clause-short c =
-    let r = c.requires.accepted in
-    let shorts = order_shorts c.args.bytes.now c.args.frame.now c.args.order.now r in
-    short_as _ _ (order_id c.args.bytes.now c.args.frame.now c.args.order.now r) shorts.id
-
-pub put_reply-requires-clause-room : goal.put_reply-requires-clause-room
-put_reply-requires-clause-room c =
+pub put_reply-requires : goal.put_reply-requires
+put_reply-requires c =
     let r = c.requires.accepted in
     let shorts = order_shorts c.args.bytes.now c.args.frame.now c.args.order.now r in
     let i = short_as _ _ (order_id c.args.bytes.now c.args.frame.now c.args.order.now r) shorts.id in
-    short_room 56 c.args.stamp.now [] (reply_fields c.args.order.now.id)
-    c.put_opening.new.to c.requires.stamp c.put_opening.ensures tt
-    (reply_parts c.args.order.now.id i) (omega arith)
+    record {
+      room = short_room 56 c.args.stamp.now [] (reply_fields c.args.order.now.id)
+          c.put_opening.new.to c.put_opening.ensures.stamp c.put_opening.ensures.put tt
+          (reply_parts c.args.order.now.id i) (omega arith);
+    }
 
 pub put_execution-requires : goal.put_execution-requires
 put_execution-requires c =
@@ -35,11 +31,11 @@ put_execution-requires c =
     let shorts = order_shorts c.args.bytes.now c.args.frame.now c.args.order.now r in
     let open_ = opening_fields (56 ∷ []) c.args.stamp.now in
     let i = short_as _ _ (order_id c.args.bytes.now c.args.frame.now c.args.order.now r) shorts.id in
-    let fits : c.args.stamp.now.seq < 2 ^ 32 = omega (arith, c.requires.stamp.most) in
-    let h1 = c.put_reply.ensures open_ c.put_opening.ensures in
+    let fits : c.args.stamp.now.seq < 2 ^ 32 = omega (arith, c.put_opening.ensures.stamp.number.most) in
+    let h1 = c.put_reply.ensures open_ c.put_opening.ensures.put in
     record {
       room = short_room 56 c.args.stamp.now (reply_fields c.args.order.now.id) (execution_fields c.args.stamp.now.seq)
-          c.put_reply.new.to c.requires.stamp h1 (reply_parts c.args.order.now.id i)
+          c.put_reply.new.to c.put_opening.ensures.stamp h1 (reply_parts c.args.order.now.id i)
           (execution_parts c.args.stamp.now.seq _ fits refl) (omega arith);
     }
 
@@ -52,11 +48,11 @@ put_all-requires-clause-room c =
     let shorts = order_shorts c.args.bytes.now c.args.frame.now c.args.order.now r in
     let open_ = opening_fields (56 ∷ []) c.args.stamp.now in
     let i = short_as _ _ (order_id c.args.bytes.now c.args.frame.now c.args.order.now r) shorts.id in
-    let fits : c.args.stamp.now.seq < 2 ^ 32 = omega (arith, c.requires.stamp.most) in
-    let h1 = c.put_reply.ensures open_ c.put_opening.ensures in
+    let fits : c.args.stamp.now.seq < 2 ^ 32 = omega (arith, c.put_opening.ensures.stamp.number.most) in
+    let h1 = c.put_reply.ensures open_ c.put_opening.ensures.put in
     let hx = c.put_execution.ensures (open_ ++ reply_fields c.args.order.now.id) h1 in
     short_room 56 c.args.stamp.now (to_execution c.args.order.now.id c.args.stamp.now.seq) result_fields
-    c.put_execution.new.to c.requires.stamp hx (to_execution_parts c.args.order.now.id c.args.stamp.now.seq i fits)
+    c.put_execution.new.to c.put_opening.ensures.stamp hx (to_execution_parts c.args.order.now.id c.args.stamp.now.seq i fits)
     result_parts (omega arith)
 
 pub put_all-requires-2-clause-parts : goal.put_all-requires-2-clause-parts
@@ -71,14 +67,14 @@ put_all-requires-2-clause-room c =
     let shorts = order_shorts c.args.bytes.now c.args.frame.now c.args.order.now r in
     let open_ = opening_fields (56 ∷ []) c.args.stamp.now in
     let i = short_as _ _ (order_id c.args.bytes.now c.args.frame.now c.args.order.now r) shorts.id in
-    let fits : c.args.stamp.now.seq < 2 ^ 32 = omega (arith, c.requires.stamp.most) in
+    let fits : c.args.stamp.now.seq < 2 ^ 32 = omega (arith, c.put_opening.ensures.stamp.number.most) in
     let d = digits_are_short c.args.reason c.as_bytes.result.now (omega arith)
     (c.as_bytes.ensures.value ∙ c.format.ensures.text) in
-    let h1 = c.put_reply.ensures open_ c.put_opening.ensures in
+    let h1 = c.put_reply.ensures open_ c.put_opening.ensures.put in
     let hx = c.put_execution.ensures (open_ ++ reply_fields c.args.order.now.id) h1 in
     let ha = c.put_all.ensures (open_ ++ to_execution c.args.order.now.id c.args.stamp.now.seq) hx in
     short_room 56 c.args.stamp.now (to_execution c.args.order.now.id c.args.stamp.now.seq ++ result_fields)
-    (reason_fields c.as_bytes.result.now) c.put_all.new.to c.requires.stamp ha
+    (reason_fields c.as_bytes.result.now) c.put_all.new.to c.put_opening.ensures.stamp ha
     (both_parts (to_execution c.args.order.now.id c.args.stamp.now.seq) result_fields
     (to_execution_parts c.args.order.now.id c.args.stamp.now.seq i fits) result_parts)
     (reason_parts c.as_bytes.result.now d) (omega arith)
@@ -107,7 +103,7 @@ put_all-requires-3-clause-room c =
     let shorts = order_shorts c.args.bytes.now c.args.frame.now c.args.order.now r in
     let open_ = opening_fields (56 ∷ []) c.args.stamp.now in
     let i = short_as _ _ (order_id c.args.bytes.now c.args.frame.now c.args.order.now r) shorts.id in
-    let fits : c.args.stamp.now.seq < 2 ^ 32 = omega (arith, c.requires.stamp.most) in
+    let fits : c.args.stamp.now.seq < 2 ^ 32 = omega (arith, c.put_opening.ensures.stamp.number.most) in
     let d = digits_are_short c.args.reason c.as_bytes.result.now (omega arith)
     (c.as_bytes.ensures.value ∙ c.format.ensures.text) in
     let slots = c.slots_of-slots.ensures r.listed r.stands in
@@ -121,14 +117,14 @@ put_all-requires-3-clause-room c =
     shorts.side)
     (short_as _ _ (c.first-4.ensures (values_of 38 r.listed) (c.at-4.ensures r.listed slots))
     shorts.quantity) in
-    let h1 = c.put_reply.ensures open_ c.put_opening.ensures in
+    let h1 = c.put_reply.ensures open_ c.put_opening.ensures.put in
     let hx = c.put_execution.ensures (open_ ++ reply_fields c.args.order.now.id) h1 in
     let ha = c.put_all.ensures (open_ ++ to_execution c.args.order.now.id c.args.stamp.now.seq) hx in
     let h2 = c.put_all-2.ensures (open_ ++ to_execution c.args.order.now.id c.args.stamp.now.seq ++ result_fields) ha in
     short_room 56 c.args.stamp.now (to_state c.args.order.now.id c.args.stamp.now.seq c.as_bytes.result.now)
     (value_fields c.first.result.now c.first-2.result.now c.first-3.result.now
     c.first-4.result.now) c.put_all-2.new.to
-    c.requires.stamp h2 (to_state_parts c.args.order.now.id c.args.stamp.now.seq c.as_bytes.result.now i fits d) values (omega arith)
+    c.put_opening.ensures.stamp h2 (to_state_parts c.args.order.now.id c.args.stamp.now.seq c.as_bytes.result.now i fits d) values (omega arith)
 
 pub put_all-requires-4-clause-parts : goal.put_all-requires-4-clause-parts
 put_all-requires-4-clause-parts c =
@@ -140,7 +136,7 @@ put_all-requires-4-clause-room c =
     let shorts = order_shorts c.args.bytes.now c.args.frame.now c.args.order.now r in
     let open_ = opening_fields (56 ∷ []) c.args.stamp.now in
     let i = short_as _ _ (order_id c.args.bytes.now c.args.frame.now c.args.order.now r) shorts.id in
-    let fits : c.args.stamp.now.seq < 2 ^ 32 = omega (arith, c.requires.stamp.most) in
+    let fits : c.args.stamp.now.seq < 2 ^ 32 = omega (arith, c.put_opening.ensures.stamp.number.most) in
     let d = digits_are_short c.args.reason c.as_bytes.result.now (omega arith)
     (c.as_bytes.ensures.value ∙ c.format.ensures.text) in
     let slots = c.slots_of-slots.ensures r.listed r.stands in
@@ -154,7 +150,7 @@ put_all-requires-4-clause-room c =
     shorts.side)
     (short_as _ _ (c.first-4.ensures (values_of 38 r.listed) (c.at-4.ensures r.listed slots))
     shorts.quantity) in
-    let h1 = c.put_reply.ensures open_ c.put_opening.ensures in
+    let h1 = c.put_reply.ensures open_ c.put_opening.ensures.put in
     let hx = c.put_execution.ensures (open_ ++ reply_fields c.args.order.now.id) h1 in
     let ha = c.put_all.ensures (open_ ++ to_execution c.args.order.now.id c.args.stamp.now.seq) hx in
     let h2 = c.put_all-2.ensures (open_ ++ to_execution c.args.order.now.id c.args.stamp.now.seq ++ result_fields) ha in
@@ -162,7 +158,7 @@ put_all-requires-4-clause-room c =
     short_room 56 c.args.stamp.now (to_values c.args.order.now.id c.args.stamp.now.seq c.as_bytes.result.now
     c.first.result.now c.first-2.result.now c.first-3.result.now
     c.first-4.result.now) zero_fields c.put_all-3.new.to
-    c.requires.stamp h3 (to_values_parts c.args.order.now.id c.args.stamp.now.seq c.as_bytes.result.now
+    c.put_opening.ensures.stamp h3 (to_values_parts c.args.order.now.id c.args.stamp.now.seq c.as_bytes.result.now
     c.first.result.now c.first-2.result.now c.first-3.result.now
     c.first-4.result.now i fits d values) zero_parts (omega arith)
 
@@ -176,7 +172,7 @@ put_all-requires-5-clause-room c =
     let shorts = order_shorts c.args.bytes.now c.args.frame.now c.args.order.now r in
     let open_ = opening_fields (56 ∷ []) c.args.stamp.now in
     let i = short_as _ _ (order_id c.args.bytes.now c.args.frame.now c.args.order.now r) shorts.id in
-    let fits : c.args.stamp.now.seq < 2 ^ 32 = omega (arith, c.requires.stamp.most) in
+    let fits : c.args.stamp.now.seq < 2 ^ 32 = omega (arith, c.put_opening.ensures.stamp.number.most) in
     let d = digits_are_short c.args.reason c.as_bytes.result.now (omega arith)
     (c.as_bytes.ensures.value ∙ c.format.ensures.text) in
     let slots = c.slots_of-slots.ensures r.listed r.stands in
@@ -190,7 +186,7 @@ put_all-requires-5-clause-room c =
     shorts.side)
     (short_as _ _ (c.first-4.ensures (values_of 38 r.listed) (c.at-4.ensures r.listed slots))
     shorts.quantity) in
-    let h1 = c.put_reply.ensures open_ c.put_opening.ensures in
+    let h1 = c.put_reply.ensures open_ c.put_opening.ensures.put in
     let hx = c.put_execution.ensures (open_ ++ reply_fields c.args.order.now.id) h1 in
     let ha = c.put_all.ensures (open_ ++ to_execution c.args.order.now.id c.args.stamp.now.seq) hx in
     let h2 = c.put_all-2.ensures (open_ ++ to_execution c.args.order.now.id c.args.stamp.now.seq ++ result_fields) ha in
@@ -201,7 +197,7 @@ put_all-requires-5-clause-room c =
     short_room 56 c.args.stamp.now (to_zeros c.args.order.now.id c.args.stamp.now.seq c.as_bytes.result.now
     c.first.result.now c.first-2.result.now c.first-3.result.now
     c.first-4.result.now) (text_fields c.args.text.now)
-    c.put_all-4.new.to c.requires.stamp h4 (to_zeros_parts c.args.order.now.id c.args.stamp.now.seq c.as_bytes.result.now
+    c.put_all-4.new.to c.put_opening.ensures.stamp h4 (to_zeros_parts c.args.order.now.id c.args.stamp.now.seq c.as_bytes.result.now
     c.first.result.now c.first-2.result.now c.first-3.result.now
     c.first-4.result.now i fits d values) (text_parts c.args.text.now c.requires.text)
     (omega arith)
@@ -210,7 +206,7 @@ pub returns : goal.returns
 returns c = λ listed has.
     let open_ = opening_fields (56 ∷ []) c.args.stamp.now in
     let slots = c.slots_of-slots.ensures listed has in
-    let h1 = c.put_reply.ensures open_ c.put_opening.ensures in
+    let h1 = c.put_reply.ensures open_ c.put_opening.ensures.put in
     let hx = c.put_execution.ensures (open_ ++ reply_fields c.args.order.now.id) h1 in
     let ha = c.put_all.ensures (open_ ++ to_execution c.args.order.now.id c.args.stamp.now.seq) hx in
     let h2 = c.put_all-2.ensures (open_ ++ to_execution c.args.order.now.id c.args.stamp.now.seq ++ result_fields) ha in

@@ -19,7 +19,7 @@ put_all-requires-clause-parts c =
 pub put_all-requires-clause-room : goal.put_all-requires-clause-room
 put_all-requires-clause-room c =
     short_room 51 c.args.stamp.now [] (session_first c.as_bytes.result.now c.as_bytes-2.result.now)
-    c.put_opening.new.to c.requires.stamp c.put_opening.ensures tt
+    c.put_opening.new.to c.put_opening.ensures.stamp c.put_opening.ensures.put tt
     (session_parts c.as_bytes.result.now c.as_bytes-2.result.now
     (digits_are_short c.args.ref_seq _ (omega arith)
     (c.as_bytes.ensures.value ∙ c.format.ensures.text))
@@ -37,8 +37,8 @@ pub put_all-requires-2-clause-room : goal.put_all-requires-2-clause-room
 put_all-requires-2-clause-room c =
     session_room c.args.stamp.now c.args.ref_seq c.args.fault.now.tag c.args.fault.now.reason
     c.as_bytes.result.now c.as_bytes-2.result.now c.args.kind.now c.as_bytes-3.result.now
-    c.put_all.new.to c.requires.stamp
-    (c.put_all.ensures (opening_fields (51 ∷ []) c.args.stamp.now) c.put_opening.ensures)
+    c.put_all.new.to c.put_opening.ensures.stamp
+    (c.put_all.ensures (opening_fields (51 ∷ []) c.args.stamp.now) c.put_opening.ensures.put)
     (omega arith) (c.as_bytes.ensures.value ∙ c.format.ensures.text)
     (omega arith) (c.as_bytes-2.ensures.value ∙ c.format-2.ensures.text)
     (omega arith) (c.as_bytes-3.ensures.value ∙ c.format-3.ensures.text)
@@ -53,4 +53,4 @@ returns c =
     (c.as_bytes-3.ensures.value ∙ c.format-3.ensures.text)
     (c.put_all-2.ensures (opening_fields (51 ∷ []) c.args.stamp.now
     ++ session_first c.as_bytes.result.now c.as_bytes-2.result.now)
-    (c.put_all.ensures (opening_fields (51 ∷ []) c.args.stamp.now) c.put_opening.ensures))
+    (c.put_all.ensures (opening_fields (51 ∷ []) c.args.stamp.now) c.put_opening.ensures.put))

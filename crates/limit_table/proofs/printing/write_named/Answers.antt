@@ -4,4 +4,4 @@ use Rattle.limit_table.proofs.printing.write_named.Goals as goal
 pub returns : goal.returns
 returns c =
     let number = c.as_bytes-number.ensures.value ∙ c.format.ensures.text in
-    rw (number, c.bytes.ensures) at c.write_row.ensures
+    rw (number, c.bytes.ensures.same) at c.write_row.ensures
