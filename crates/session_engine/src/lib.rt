@@ -2,21 +2,20 @@
 //! sends to the venue and what it answers to the client.
 #![tactic(auto)]
 
+mod answer;
 mod ask;
 mod codes;
 mod decide;
-mod forward;
 mod hands;
 mod ids;
+mod note;
 mod order;
-mod put;
-mod read;
 mod refusal;
-mod report;
+mod reject;
+mod reserve;
 mod rows;
 mod session;
 mod session_law;
-mod slots;
 mod take;
 mod totals;
 
