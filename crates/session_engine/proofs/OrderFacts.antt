@@ -1,15 +1,12 @@
 -- What is known of an order that was read, and of messages that were read.
-use Rattle.std.proofs.Common.{◌≡◌, ℕ, ◌≤◌, List, [], ◌∷◌, length, refl, sym, ap, ◌∙◌, subst, arith}
-use Rattle.std.proofs.Common.{Bool, true, false, ◌||◌, ◌==◌}
-use Rattle.std.specs.Prelude.{Option, Some, None, Result, Ok, Err, not, nat_lt, if◌then◌else◌}
-use Rattle.std.specs.List.{list_all}
-use Rattle.std.specs.Result.{result_ok}
+use Rattle.std.proofs.Common.{◌≡◌, ℕ, ◌≤◌, List, length, refl, sym, ap, subst, arith}
+use Rattle.std.proofs.Common.{Bool, true, false, ◌||◌}
+use Rattle.std.specs.Prelude.{Some, Ok, Err, not, nat_lt, if◌then◌else◌}
 use Rattle.std.proofs.lemmas.Bool.Decides.{nat_tests}
 use Rattle.fix_fields.specs.Fields.{FieldValue}
-use Rattle.fix_fields.specs.Numbers.{is_printable, is_decimal, scaled}
+use Rattle.fix_fields.specs.Numbers.{is_decimal, scaled}
 use Rattle.fix_fields.specs.Numbers.{begins_with_minus, is_finer, is_outside}
-use Rattle.fix_fields.specs.Numbers.{quantity_of, price_of, id_of}
-use Rattle.fix_fields.specs.declared.number.Spelling.{Spelling}
+use Rattle.fix_fields.specs.Numbers.{quantity_of, price_of}
 use Rattle.fix_fields.specs.declared.number.Spelling.TheVariants.{Form, Range}
 use Rattle.fix_orders.specs.declared.kind.Kind.{Kind}
 use Rattle.fix_orders.specs.declared.kind.Kind.TheVariants as kind
@@ -17,19 +14,15 @@ use Rattle.fix_orders.specs.declared.message.Message.TheVariants as message
 use Rattle.fix_orders.specs.declared.message.NewOrder.{NewOrder}
 use Rattle.fix_orders.specs.declared.message.OrderKind.{OrderKind}
 use Rattle.fix_orders.specs.declared.message.OrderKind.TheVariants.{Market, Limit}
-use Rattle.fix_orders.specs.declared.reason.Reason.{Reason}
-use Rattle.fix_orders.specs.declared.reason.Reason.TheVariants.{Empty}
-use Rattle.fix_orders.specs.declared.table.ReadAs.TheVariants.{Identifier}
-use Rattle.fix_orders.specs.Envelopes.{envelope_of, id_in}
-use Rattle.fix_orders.specs.Faults.{values_of, value_of, first_value, first_fault, values_reason}
-use Rattle.fix_orders.specs.Faults.{spelling_reason, text_reason}
+use Rattle.fix_orders.specs.Envelopes.{envelope_of}
+use Rattle.fix_orders.specs.Faults.{value_of, first_fault}
 use Rattle.fix_orders.specs.Kinds.{kind_of}
 use Rattle.fix_orders.specs.Reading.{read_of, message_of, new_order_of, number_in, price_for}
 use Rattle.fix_orders.specs.Reading.{order_kind_for}
-use Rattle.fix_orders.specs.Table.{table, row_at}
+use Rattle.fix_orders.specs.Table.{table}
+use Rattle.fix_orders.proofs.OrderHeads.{order_sender}
 use Rattle.fix_orders.proofs.OrderValues.{order_was_read}
 use Rattle.fix_orders.proofs.Passed.{unless_ok}
-use Rattle.fix_orders.proofs.ReadLemmas.{each_none}
 use Rattle.session_engine.specs.Session.{is_request, asks}
 
 -- a kind of message that is an order is a request
@@ -111,27 +104,6 @@ price_for_most : (k : OrderKind) (text : List ℕ) → price_for k text ≤ 9999
 price_for_most Market text = omega arith
 price_for_most Limit text = price_most text
 
--- an id that was read is its text
-id_text : (c d : Bool) (text : List ℕ)
-    → spelling_reason (if not c then Err Form else (if d then Err Range else Ok text)) ≡ None
-    → result_ok (if not c then Err Form else (if d then Err Range else Ok text)) ≡ Some text
-id_text true false text e = refl
-id_text true true text e = absurd cc
-id_text false d text e = absurd cc
-
-one_id : (values : List (List ℕ)) → values_reason true Identifier values ≡ None
-    → id_in values ≡ Some (first_value values)
-one_id [] e = absurd cc
-one_id (v ∷ w ∷ more) e = absurd cc
-one_id (v ∷ []) e =
-    id_text (list_all is_printable v) (length v == 0 || nat_lt 64 (length v)) v
-    (by_length (length v == 0) (text_reason Identifier v) e)
-  where
-    by_length : (empty : Bool) (reason : Option Reason)
-        → (if empty then Some Empty else reason) ≡ None → reason ≡ None
-    by_length true reason e = absurd cc
-    by_length false reason e = e
-
 -- what an order that was read has of its fields
 pub record OrderFacts (fields : List FieldValue) (order : NewOrder) : Type 0 where
   pub asks_are : asks fields ≡ true
@@ -157,9 +129,7 @@ order_facts fields order read =
       asks_are = order_asks k fields order whole.1;
       time = ap (λ (o : NewOrder). o.head.time) (sym head);
       id = ap (λ (o : NewOrder). o.id) (sym head);
-      sender = one_id (values_of 49 fields)
-          (each_none kind.NewOrderSingle fields table 1 (row_at 16) own.none (omega arith))
-          ∙ ap (λ (o : NewOrder). Some o.head.sender) head;
+      sender = order_sender fields order read;
       quantity = subst (λ (o : NewOrder). o.quantity ≤ 1000000000) head quantity;
       price = subst (λ (o : NewOrder). o.price ≤ 9999999999) head price;
     }

@@ -21,7 +21,7 @@ write_forward-requires-clause-accepted g c =
 pub give_written-requires : goal.give_written-requires
 give_written-requires g c =
     let own = c.requires.order in
-    rw (c.write_forward.ensures own.sound.0 own.sound.1) tt
+    record { written = rw (c.write_forward.ensures own.sound.0 own.sound.1) refl }
 
 pub returns-clause-taken : goal.returns-clause-taken
 returns-clause-taken g c = λ taken fields has.
@@ -34,4 +34,6 @@ returns-clause-taken g c = λ taken fields has.
     ∙ ap (text (codes "VENUE")) facts.time in
     let P : List ℕ → Type 0 = λ m. Appends (g.V.Sink.held c.args.venue.now)
     (g.V.Sink.held c.give_written.new.sink) m in
-    subst P same (c.give_written.ensures.taken taken _ (c.write_forward.ensures fields has))
+    subst P same (c.give_written.ensures.taken taken
+    (forward_fields (stamp_of c.venue_id.result c.args.number c.args.order.now.head.time) fields)
+    (c.write_forward.ensures fields has))
