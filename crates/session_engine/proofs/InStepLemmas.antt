@@ -3,7 +3,12 @@ use Rattle.std.proofs.Common.{◌≡◌, ℕ, ◌+◌, ◌≤◌, ◌<◌, ◌==
 use Rattle.std.proofs.Common.{arith, true, false, Bool, cond}
 use Rattle.std.specs.Prelude.{count_by, fold, nat_lt}
 use Rattle.std.proofs.lemmas.List.Sums.{fold-append, sum_by-append}
-use Rattle.std.proofs.lemmas.Bool.{ne_eqb, eq-eqb}
+use Rattle.std.proofs.lemmas.Bool.{eq-eqb}
+use Rattle.std.proofs.lemmas.List.{append-nil}
+use Rattle.risk_board.specs.Hands.{HandValue}
+use Rattle.session_engine.specs.declared.totals.TreeTotals.{TreeTotals}
+use Rattle.session_engine.specs.Stands.{InStep}
+use Rattle.session_engine.specs.Trees.{LimitsValue, halt_tree}
 use Rattle.std.proofs.lemmas.Bool.Decides.{nat_tests}
 use Rattle.risk_board.specs.Calls.{post_count, is_post_in}
 use Rattle.risk_board.specs.declared.hand.Call.{Call}
@@ -79,30 +84,33 @@ above_is_other in_tree tree count inside outside = grind (arith, nat_tests)
 pub post_count-below : (count tree : ℕ) → tree < count → (acts : List Act)
     → post_count tree (calls_below count acts) ≡ posts_in tree acts
 post_count-below count tree inside [] = refl
-post_count-below count tree inside (Post t index value ∷ xs) = by_test (nat_lt t count) refl
+post_count-below count tree inside (Post t index value ∷ xs) =
+    by_test (nat_lt t count) refl (post_count-below count tree inside xs)
   where
     by_test : (test : Bool) → nat_lt t count ≡ test
+        → post_count tree (calls_below count xs) ≡ posts_in tree xs
         → post_count tree (cond test (call.Post t value ∷ calls_below count xs)
         (calls_below count xs)) ≡ posts_in tree (Post t index value ∷ xs)
-    by_test true is =
+    by_test true is later =
         count_by-cons (is_post_in tree) (call.Post t value) (calls_below count xs)
-        ∙ ap (λ n. cond (t == tree) 1 0 + n) (post_count-below count tree inside xs)
+        ∙ ap (λ n. cond (t == tree) 1 0 + n) later
         ∙ sym (count_by-cons (is_post_act_in tree) (Post t index value) xs)
-    by_test false is =
-        post_count-below count tree inside xs
+    by_test false is later =
+        later
         ∙ sym (count_by-skips tree (Post t index value) xs
         (above_is_other t tree count inside is))
-post_count-below count tree inside (Read t stamp place value ∷ xs) = by_test (nat_lt t count)
+post_count-below count tree inside (Read t stamp place value ∷ xs) =
+    by_test (nat_lt t count) (post_count-below count tree inside xs)
   where
-    by_test : (test : Bool)
+    by_test : (test : Bool) → post_count tree (calls_below count xs) ≡ posts_in tree xs
         → post_count tree (cond test (call.Read t stamp value ∷ calls_below count xs)
         (calls_below count xs)) ≡ posts_in tree (Read t stamp place value ∷ xs)
-    by_test true =
+    by_test true later =
         count_by-cons (is_post_in tree) (call.Read t stamp value) (calls_below count xs)
-        ∙ ap (λ n. 0 + n) (post_count-below count tree inside xs)
+        ∙ ap (λ n. 0 + n) later
         ∙ sym (count_by-cons (is_post_act_in tree) (Read t stamp place value) xs)
-    by_test false =
-        post_count-below count tree inside xs
+    by_test false later =
+        later
         ∙ sym (count_by-skips tree (Read t stamp place value) xs refl)
 post_count-below count tree inside (Sent frame ∷ xs) = post_count-below count tree inside xs
     ∙ sym (count_by-skips tree (Sent frame) xs refl)
@@ -119,23 +127,28 @@ post_count-below count tree inside (Ended end ∷ xs) = post_count-below count t
 last_from : (count tree : ℕ) → tree < count → (start : ℕ) (acts : List Act)
     → fold (latest_call tree) start (calls_below count acts) ≡ fold (latest tree) start acts
 last_from count tree inside start [] = refl
-last_from count tree inside start (Post t index value ∷ xs) = by_test (nat_lt t count) refl
+last_from count tree inside start (Post t index value ∷ xs) =
+    by_test (nat_lt t count) refl (λ from. last_from count tree inside from xs)
   where
     by_test : (test : Bool) → nat_lt t count ≡ test
+        → ((from : ℕ) → fold (latest_call tree) from (calls_below count xs)
+        ≡ fold (latest tree) from xs)
         → fold (latest_call tree) start (cond test (call.Post t value ∷ calls_below count xs)
         (calls_below count xs)) ≡ fold (latest tree) (cond (t == tree) value start) xs
-    by_test true is = last_from count tree inside (cond (t == tree) value start) xs
-    by_test false is =
-        last_from count tree inside start xs
+    by_test true is later = later (cond (t == tree) value start)
+    by_test false is later =
+        later start
         ∙ ap (λ b. fold (latest tree) (cond b value start) xs)
         (sym (above_is_other t tree count inside is))
-last_from count tree inside start (Read t stamp place value ∷ xs) = by_test (nat_lt t count)
+last_from count tree inside start (Read t stamp place value ∷ xs) =
+    by_test (nat_lt t count) (last_from count tree inside start xs)
   where
     by_test : (test : Bool)
+        → fold (latest_call tree) start (calls_below count xs) ≡ fold (latest tree) start xs
         → fold (latest_call tree) start (cond test (call.Read t stamp value ∷ calls_below count xs)
         (calls_below count xs)) ≡ fold (latest tree) start xs
-    by_test true = last_from count tree inside start xs
-    by_test false = last_from count tree inside start xs
+    by_test true later = later
+    by_test false later = later
 last_from count tree inside start (Sent frame ∷ xs) = last_from count tree inside start xs
 last_from count tree inside start (Refused frame code first second ∷ xs) =
     last_from count tree inside start xs
@@ -158,15 +171,46 @@ pub posts_in-other : (tree other index value : ℕ) (acts : List Act) → (other
     → posts_in tree (acts ++ Post other index value ∷ []) ≡ posts_in tree acts
 posts_in-other tree other index value acts apart =
     posts_in-append tree acts (Post other index value ∷ [])
-    ∙ ap (λ b. posts_in tree acts + (0 + cond b 1 0)) apart
+    ∙ ap (λ b. posts_in tree acts + (0 + cond b 1 0)) apart ∙ omega arith
 
 pub posts_in-read : (tree other stamp place value : ℕ) (acts : List Act)
     → posts_in tree (acts ++ Read other stamp place value ∷ []) ≡ posts_in tree acts
 posts_in-read tree other stamp place value acts =
-    posts_in-append tree acts (Read other stamp place value ∷ [])
+    posts_in-append tree acts (Read other stamp place value ∷ []) ∙ omega arith
 
 pub lt_false_from_le : (a b : ℕ) → a ≤ b → nat_lt b a ≡ false
 lt_false_from_le a b h = grind (arith, nat_tests)
 
 pub lt_true : (a b : ℕ) → a < b → nat_lt a b ≡ true
 lt_true a b h = grind (arith, nat_tests)
+
+-- acts that are no calls
+module _ (limits : LimitsValue) (sum halt : HandValue) (acts : List Act)
+    (trees : List TreeTotals) where
+  after_note : (note : Act) → calls_below (halt_tree limits) (note ∷ []) ≡ []
+      → calls_at (halt_tree limits) (note ∷ []) ≡ []
+      → ((tree start : ℕ) → latest tree start note ≡ start)
+      → InStep limits sum halt acts trees → InStep limits sum halt (acts ++ note ∷ []) trees
+  after_note note below at kept step = record {
+    sum_hand = step.sum_hand;
+    halt_hand = step.halt_hand;
+    sum_calls = step.sum_calls ∙ sym (append-nil (calls_below (halt_tree limits) acts))
+        ∙ ap (λ calls. calls_below (halt_tree limits) acts ++ calls) (sym below)
+        ∙ sym (calls_below-append (halt_tree limits) acts (note ∷ []));
+    halt_calls = step.halt_calls ∙ sym (append-nil (calls_at (halt_tree limits) acts))
+        ∙ ap (λ calls. calls_at (halt_tree limits) acts ++ calls) (sym at)
+        ∙ sym (calls_at-append (halt_tree limits) acts (note ∷ []));
+    count = step.count;
+    lasts = λ tree. step.lasts tree ∙ sym (kept tree (last_post tree acts))
+        ∙ sym (last_post-append tree acts (note ∷ []));
+    capped = step.capped;
+  }
+
+  pub in_step_after_sent : (frame : ℕ) → InStep limits sum halt acts trees
+      → InStep limits sum halt (acts ++ Sent frame ∷ []) trees
+  in_step_after_sent frame step = after_note (Sent frame) refl refl (λ tree start. refl) step
+
+  pub in_step_after_refused : (frame code : ℕ) → InStep limits sum halt acts trees
+      → InStep limits sum halt (acts ++ Refused frame code 0 0 ∷ []) trees
+  in_step_after_refused frame code step =
+      after_note (Refused frame code 0 0) refl refl (λ tree start. refl) step

@@ -1,7 +1,10 @@
 pub mod AnswerLemmas
+pub mod AskLemmas
 pub mod Covered
 pub mod FollowLemmas
 pub mod InStepLemmas
+pub mod KeptLemmas
+pub mod LegLimits
 pub mod MovedSessions
 pub mod OrderFacts
 pub mod PlacedFollows

@@ -3,14 +3,19 @@ use Rattle.std.proofs.Common.{◌≡◌, ℕ, ◌+◌, ◌-◌, ◌≤◌, List,
 use Rattle.std.proofs.Common.{refl, sym, ap, ◌∙◌, arith, length-append, length-drop}
 use Rattle.std.proofs.Common.{Option, Some, None}
 use Rattle.std.proofs.Common.{nat_lt, ◌||◌, if◌then◌else◌}
+use Rattle.std.specs.Prelude.{Result, Ok, Err}
 use Rattle.std.specs.List.{list_any}
 use Rattle.std.proofs.lemmas.List.{map-append}
 use Rattle.fix_fields.specs.Fields.{FieldValue}
 use Rattle.risk_journal.specs.declared.acts.Act.{Act}
 use Rattle.risk_journal.specs.declared.acts.Act.TheVariants.{Post, Read, Sent, Refused}
 use Rattle.session_engine.specs.declared.refusal.Refusal.{Refusal}
+use Rattle.session_engine.specs.declared.refusal.Refusal.TheVariants.{Halt}
 use Rattle.session_engine.specs.Answers.{code_of}
-use Rattle.session_engine.specs.Session.{LimitsValue, SessionValue, OrderValue, Leg}
+use Rattle.session_engine.specs.declared.rows.OrderRows.{OrderRows}
+use Rattle.session_engine.specs.Trees.{LimitsValue, account_tree, symbol_tree}
+use Rattle.session_engine.specs.OrderTrees.{OrderValue, rows_of}
+use Rattle.session_engine.specs.Session.{SessionValue, Leg, with_post, after_rows}
 use Rattle.risk_journal.specs.ActLists.{SeenAt}
 use Rattle.session_engine.specs.Session.{next_read}
 use Rattle.session_engine.specs.Session.{with_act, after_posting, after_reading, legs_of}
@@ -181,34 +186,50 @@ first_above-placed place (leg ∷ legs) (seen ∷ reads) =
     ap (λ later. if nat_lt leg.limit seen.value then Some leg.refusal else later)
     (first_above-placed place legs reads)
 
-admitting : (place : ℕ → ℕ) (fields : List FieldValue) (order : OrderValue) (legs : List Leg)
-    (session : SessionValue) → TakesReads place (after_admission fields order legs) session
-admitting place fields order legs session =
+verdict_of-placed : (place : ℕ → ℕ) (legs : List Leg) (reads : List SeenAt)
+    → verdict_of legs (map (seen_placed place) reads) ≡ verdict_of legs reads
+verdict_of-placed place legs [] = refl
+verdict_of-placed place legs (seen ∷ reads) =
+    ap (λ later. if nat_lt 0 seen.value then Some Halt else later)
+    (first_above-placed place legs reads)
+
+admitting : (place : ℕ → ℕ) (limits : LimitsValue) (fields : List FieldValue) (order : OrderValue)
+    (legs : List Leg) (session : SessionValue)
+    → TakesReads place (after_admission limits fields order legs) session
+admitting place limits fields order legs session =
     let verdict = verdict_of legs session.reads in
+    let roots = roots_of limits legs in
     let read_all : SessionValue → SessionValue =
-    λ own. fold read_root (fold post_new own legs) (roots_of legs) in
+    λ own. fold read_root (fold post_new own legs) roots in
     as_another place (λ own. after_verdict fields order legs verdict (read_all own))
-    (after_admission fields order legs) session refl
+    (after_admission limits fields order legs) session refl
     (ap (λ own. after_verdict fields order legs own (read_all (moved place session)))
-    (sym (first_above-placed place legs session.reads)))
+    (sym (verdict_of-placed place legs session.reads)))
     (one_after_another place read_all (after_verdict fields order legs verdict) session
     (one_after_another place (λ own. fold post_new own legs)
-    (λ own. fold read_root own (roots_of legs)) session
+    (λ own. fold read_root own roots) session
     (posting_new place legs session)
-    (reading_roots place (roots_of legs) (fold post_new session legs)))
+    (reading_roots place roots (fold post_new session legs)))
     (judging place fields order legs verdict (read_all session)))
 
-checking : (place : ℕ → ℕ) (fields : List FieldValue) (order : OrderValue) (legs : List Leg)
-    (refusal : Option Refusal) (session : SessionValue)
-    → TakesReads place (after_checks fields order legs refusal) session
-checking place fields order legs None session = admitting place fields order legs session
-checking place fields order legs (Some refusal) session = refusing place fields refusal session
+checking : (place : ℕ → ℕ) (limits : LimitsValue) (fields : List FieldValue) (order : OrderValue)
+    (legs : List Leg) (refusal : Option Refusal) (session : SessionValue)
+    → TakesReads place (after_checks limits fields order legs refusal) session
+checking place limits fields order legs None session =
+    admitting place limits fields order legs session
+checking place limits fields order legs (Some refusal) session =
+    refusing place fields refusal session
 
 -- the legs of an order don't know places
-legs_of-moved : (place : ℕ → ℕ) (limits : LimitsValue) (session : SessionValue) (order : OrderValue)
-    → legs_of limits (moved place session) order ≡ legs_of limits session order
-legs_of-moved place limits session order =
-    rw (last_post-placed place 0 session.acts) refl
+legs_of-moved : (place : ℕ → ℕ) (limits : LimitsValue) (rows : OrderRows) (session : SessionValue)
+    (order : OrderValue)
+    → legs_of limits rows (moved place session) order ≡ legs_of limits rows session order
+legs_of-moved place limits rows session order =
+    rw (
+      last_post-placed place 0 session.acts,
+      last_post-placed place (account_tree rows.account) session.acts,
+      last_post-placed place (symbol_tree limits rows.symbol) session.acts,
+    ) refl
 
 few_left-moved : (place : ℕ → ℕ) (limits : LimitsValue) (acts : List Act) (legs : List Leg)
     → list_any (λ leg. nat_lt limits.quota (posts_in leg.tree (map (placed place) acts) + 2)) legs
@@ -221,29 +242,36 @@ few_left-moved place limits acts (leg ∷ legs) =
     ∙ ap (λ later. nat_lt limits.quota (posts_in leg.tree acts + 2) || later)
     (few_left-moved place limits acts legs)
 
-early_refusal-moved : (place : ℕ → ℕ) (limits : LimitsValue) (session : SessionValue)
-    (legs : List Leg)
-    → early_refusal limits (moved place session) legs ≡ early_refusal limits session legs
-early_refusal-moved place limits session legs =
-    rw (few_left-moved place limits session.acts legs) refl
+early_refusal-moved : (place : ℕ → ℕ) (limits : LimitsValue) (acts : List Act) (legs : List Leg)
+    → early_refusal limits (map (placed place) acts) legs ≡ early_refusal limits acts legs
+early_refusal-moved place limits acts legs =
+    rw (few_left-moved place limits acts legs) refl
+
+-- an order whose rows are these or aren't there
+with_rows : (place : ℕ → ℕ) (limits : LimitsValue) (fields : List FieldValue) (order : OrderValue)
+    (r : Result OrderRows Refusal) (session : SessionValue)
+    → TakesReads place (after_rows limits fields order r) session
+with_rows place limits fields order (Err why) session = refusing place fields why session
+with_rows place limits fields order (Ok rows) session =
+    let legs = legs_of limits rows session order in
+    let refusal = early_refusal limits session.acts legs in
+    let legs_moved = legs_of limits rows (moved place session) order in
+    let refusal_moved : early_refusal limits (map (placed place) session.acts) legs_moved ≡ refusal =
+    ap (early_refusal limits (map (placed place) session.acts))
+    (legs_of-moved place limits rows session order)
+    ∙ early_refusal-moved place limits session.acts legs in
+    as_another place (after_checks limits fields order legs refusal)
+    (after_rows limits fields order (Ok rows)) session refl
+    (ap (λ own. after_checks limits fields order own refusal (moved place session))
+    (sym (legs_of-moved place limits rows session order))
+    ∙ ap (λ own. after_checks limits fields order legs_moved own (moved place session))
+    (sym refusal_moved))
+    (checking place limits fields order legs refusal session)
 
 ordering : (place : ℕ → ℕ) (limits : LimitsValue) (fields : List FieldValue)
     (session : SessionValue) → TakesReads place (after_order limits fields) session
 ordering place limits fields session =
-    let order = order_of fields in
-    let legs = legs_of limits session order in
-    let refusal = early_refusal limits session legs in
-    let refusal_moved : early_refusal limits (moved place session)
-    (legs_of limits (moved place session) order) ≡ refusal =
-    ap (early_refusal limits (moved place session)) (legs_of-moved place limits session order)
-    ∙ early_refusal-moved place limits session legs in
-    as_another place (after_checks fields order legs refusal) (after_order limits fields) session
-    refl
-    (ap (λ own. after_checks fields order own refusal (moved place session))
-    (sym (legs_of-moved place limits session order))
-    ∙ ap (λ own. after_checks fields order (legs_of limits (moved place session) order) own
-    (moved place session)) (sym refusal_moved))
-    (checking place fields order legs refusal session)
+    with_rows place limits fields (order_of fields) (rows_of limits (order_of fields)) session
 
 -- a frame takes so many reads and doesn't see their places
 pub framing : (place : ℕ → ℕ) (limits : LimitsValue) (fields : Option (List FieldValue))

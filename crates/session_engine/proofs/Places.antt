@@ -58,8 +58,9 @@ place_is (own ∷ names) name (Some zero) distinct at =
     let same : own ≡ name = cc in
     rw ((bytes_eq-Decides own name).1 same) refl
 place_is (own ∷ names) name (Some (suc place)) distinct at =
+    let next : suc place ≡ place + 1 = omega arith in
     rw (not_there own name names place (IsDistinct-head same_text own names distinct) at)
-    (ap (option_map (λ place. place + 1))
+    (ap (λ n. Some n) next ∙ ap (option_map (λ place. place + 1))
     (place_is names name (Some place) (IsDistinct-tail same_text own names distinct) at))
 
 pub account_is : (limits : LimitsValue) (name : Name) (place : Option ℕ) → IsHeldByFile limits
@@ -81,24 +82,22 @@ by_option : (place : ℕ) (later : Option ℕ) → option_map (λ p. p + 1) late
 by_option place None is = absurd cc
 by_option place (Some before) is = (before, refl, cc)
 
+within_by : (test : Bool) (own name : Name) (names : List Name) (place : ℕ)
+    → ((before : ℕ) → place_among name names ≡ Some before → before < length names)
+    → cond test (Some 0) (option_map (λ p. p + 1) (place_among name names)) ≡ Some place
+    → place < length (own ∷ names)
+within_by true own name names place earlier is =
+    let at : 0 ≡ place = cc in omega (arith, at)
+within_by false own name names place earlier is =
+    let before = by_option place (place_among name names) is in
+    omega (arith, earlier before.0 before.1, before.2)
+
 -- a place is within the names
 within : (names : List Name) (name : Name) (place : ℕ) → place_among name names ≡ Some place
     → place < length names
 within [] name place is = absurd cc
-within (own ∷ names) name place is = by_test (bytes_eq own name) refl
-  where
-    by_test : (test : Bool) → bytes_eq own name ≡ test → place < length (own ∷ names)
-    by_test true same =
-        let zero_is : Some 0 ≡ Some place =
-        ap (λ b. cond b (Some 0) (option_map (λ p. p + 1) (place_among name names))) (sym same)
-        ∙ is in
-        let at : 0 ≡ place = cc in omega (arith, at)
-    by_test false other =
-        let later : option_map (λ p. p + 1) (place_among name names) ≡ Some place =
-        ap (λ b. cond b (Some 0) (option_map (λ p. p + 1) (place_among name names))) (sym other)
-        ∙ is in
-        let before = by_option place (place_among name names) later in
-        omega (arith, within names name before.0 before.1, before.2)
+within (own ∷ names) name place is =
+    within_by (bytes_eq own name) own name names place (within names name) is
 
 -- both places of known rows
 places_of_rows : (account symbol : Option ℕ) (rows : OrderRows) → rows_at account symbol ≡ Ok rows

@@ -19,21 +19,23 @@ use Rattle.fix_fields.specs.declared.number.Spelling.TheVariants.{Form, Range}
 use Rattle.risk_journal.specs.declared.acts.Act.{Act}
 use Rattle.session_engine.specs.declared.refusal.Refusal.{Refusal}
 use Rattle.session_engine.specs.declared.totals.Totals.{Totals}
+use Rattle.session_engine.specs.declared.totals.TreeTotals.{TreeTotals}
 use Rattle.session_engine.specs.declared.slots.Slots.{Slots}
 use Rattle.session_engine.specs.FieldRows.{value_of, values_of, spelling_reason}
 use Rattle.session_engine.specs.FieldRows.Reader.{Identifier}
 use Rattle.session_engine.specs.Answers.{forward_text, refusal_text}
 use Rattle.session_engine.specs.Session.{LimitsValue, SessionValue, OrderValue, order_of}
-use Rattle.session_engine.specs.Session.{is_taken_order, is_new_id, one_id, client_after, exposure_of}
+use Rattle.session_engine.specs.Session.{is_taken_order, is_new_id, one_id, client_after}
+use Rattle.session_engine.specs.OrderTrees.{exposure_of, counts_in}
 use Rattle.session_engine.specs.Slotted.{SlotsHave, IsRead, is_sound_order, only_value, first_value}
 use Rattle.session_engine.specs.Slotted.{is_taken_by}
-use Rattle.session_engine.specs.Stands.{StandsFor, Decides}
+use Rattle.session_engine.specs.Stands.{StandsFor, Decides, totals_at, sent_tree, SendsIn}
 use Rattle.session_engine.specs.Reaches.{next_session, forward_of, refusal_of}
 use Rattle.session_engine.specs.Taken.{IsOther, IsOtherIn, IsOrderIn, IsSomeFrame, IsAnswered, Takes}
 use Rattle.session_engine.specs.Taken.{CountsGrow}
 use Rattle.session_engine.proofs.ReadLemmas.{sound_is_read, read_is_sound, false_from_not, and_true}
 use Rattle.session_engine.proofs.ReadLemmas.{id_is_text, value_of-first}
-use Rattle.session_engine.proofs.StepLemmas.{PostsFit, decided}
+use Rattle.session_engine.proofs.StepLemmas.{LastsFit, decided}
 
 unsound : (has : List ℕ → Bool) (fields : Option (List FieldValue)) → is_some fields ≡ false
     → IsOther has fields
@@ -141,10 +143,11 @@ concat-snoc : (messages : List (List ℕ)) (message : List ℕ)
 concat-snoc messages message = concat-append messages (message ∷ [])
     ∙ ap (λ m. concat messages ++ m) (append-nil message)
 
-is_of_stage : (has : List ℕ → Bool) (acts : List Act) (totals : Totals) (fields : List FieldValue)
-    (session : SessionValue) → StandsFor has acts totals session → IsRead fields
+is_of_stage : (limits : LimitsValue) (has : List ℕ → Bool) (acts : List Act)
+    (trees : List TreeTotals) (totals : Totals) (fields : List FieldValue)
+    (session : SessionValue) → StandsFor limits has acts trees totals session → IsRead fields
     → has (value_of 11 fields) ≡ false → is_taken_order session fields ≡ true
-is_of_stage has acts totals fields session stands read new =
+is_of_stage limits has acts trees totals fields session stands read new =
     and_true (is_sound_order fields) (is_new_id (value_of 11 fields) session.orders)
     (read_is_sound fields read)
     (ap (λ b. not b) (sym (stands.ids (value_of 11 fields)) ∙ new))
@@ -152,16 +155,16 @@ is_of_stage has acts totals fields session stands read new =
 -- a decided and answered order takes the frame
 pub takes_order : (limits : LimitsValue) (fields : List FieldValue) (session : SessionValue)
     (refusal : Option Refusal) (has has_after : List ℕ → Bool) (acts acts_after : List Act)
-    (totals totals_after : Totals) (venue venue_after client client_after_ : Option (List ℕ))
-    → StandsFor has acts totals session → PostsFit acts totals → IsRead fields
+    (trees trees_after : List TreeTotals) (totals totals_after : Totals) (venue venue_after client client_after_ : Option (List ℕ))
+    → StandsFor limits has acts trees totals session → LastsFit acts trees → IsRead fields
     → has (value_of 11 fields) ≡ false
-    → Decides limits (order_of fields) has has_after acts acts_after totals totals_after refusal
+    → Decides limits (order_of fields) has has_after acts acts_after trees trees_after totals totals_after refusal
     → IsAnswered fields totals_after refusal venue venue_after client client_after_
-    → (next : SessionValue) × Takes limits fields session next has_after acts_after totals_after
+    → (next : SessionValue) × Takes limits fields session next has_after acts_after trees_after totals_after
     venue venue_after client client_after_
-takes_order limits fields session None has has_after acts acts_after totals totals_after venue
+takes_order limits fields session None has has_after acts acts_after trees trees_after totals totals_after venue
     venue_after client client_after_ stands fit read new decides answered =
-    let goes = decided limits fields session None has has_after acts acts_after totals totals_after
+    let goes = decided limits fields session None has has_after acts acts_after trees trees_after totals totals_after
     stands fit decides in
     let message = forward_of fields session in
     let number : totals_after.sent ≡ length session.venue + 1 =
@@ -169,7 +172,7 @@ takes_order limits fields session None has has_after acts acts_after totals tota
     let P : ℕ → Type 0 = λ n. Appends venue venue_after (forward_text (codes "VENUE") n fields) in (
       next_session fields None acts_after session,
       record {
-        order = is_of_stage has acts totals fields session stands read new;
+        order = is_of_stage limits has acts trees totals fields session stands read new;
         steps = goes.1;
         stands = goes.0;
         to_venue = message;
@@ -180,9 +183,9 @@ takes_order limits fields session None has has_after acts acts_after totals tota
         client_is = sym (append-nil (concat session.client));
       },
     )
-takes_order limits fields session (Some refusal) has has_after acts acts_after totals totals_after
+takes_order limits fields session (Some refusal) has has_after acts acts_after trees trees_after totals totals_after
     venue venue_after client client_after_ stands fit read new decides answered =
-    let goes = decided limits fields session (Some refusal) has has_after acts acts_after totals
+    let goes = decided limits fields session (Some refusal) has has_after acts acts_after trees trees_after totals
     totals_after stands fit decides in
     let message = refusal_of fields refusal session in
     let number : totals_after.refused ≡ length session.client + 1 =
@@ -193,7 +196,7 @@ takes_order limits fields session (Some refusal) has has_after acts acts_after t
     (refusal_text receiver (length session.client + 1) fields refusal) in (
       next_session fields (Some refusal) acts_after session,
       record {
-        order = is_of_stage has acts totals fields session stands read new;
+        order = is_of_stage limits has acts trees totals fields session stands read new;
         steps = goes.1;
         stands = goes.0;
         to_venue = [];
@@ -210,18 +213,18 @@ takes_order limits fields session (Some refusal) has has_after acts acts_after t
 pub takes_read : (limits : LimitsValue) (fields : List FieldValue) (session : SessionValue)
     (order : OrderValue) (refusal : Option Refusal) (has has_after : List ℕ → Bool)
     (acts acts_after : List Act)
-    (totals totals_after : Totals) (venue venue_after client client_after_ : Option (List ℕ))
-    → StandsFor has acts totals session → PostsFit acts totals → IsRead fields
+    (trees trees_after : List TreeTotals) (totals totals_after : Totals) (venue venue_after client client_after_ : Option (List ℕ))
+    → StandsFor limits has acts trees totals session → LastsFit acts trees → IsRead fields
     × (order ≡ order_of fields) → has order.id ≡ false
-    → Decides limits order has has_after acts acts_after totals totals_after refusal
+    → Decides limits order has has_after acts acts_after trees trees_after totals totals_after refusal
     → IsAnswered fields totals_after refusal venue venue_after client client_after_
-    → (next : SessionValue) × Takes limits fields session next has_after acts_after totals_after
+    → (next : SessionValue) × Takes limits fields session next has_after acts_after trees_after totals_after
     venue venue_after client client_after_
-takes_read limits fields session order refusal has has_after acts acts_after totals totals_after
+takes_read limits fields session order refusal has has_after acts acts_after trees trees_after totals totals_after
     venue venue_after client client_after_ stands fit read new decides answered =
     let P : OrderValue → Type 0 =
-    λ o. Decides limits o has has_after acts acts_after totals totals_after refusal in
-    takes_order limits fields session refusal has has_after acts acts_after totals totals_after
+    λ o. Decides limits o has has_after acts acts_after trees trees_after totals totals_after refusal in
+    takes_order limits fields session refusal has has_after acts acts_after trees trees_after totals totals_after
     venue venue_after client client_after_ stands fit read.0
     (ap (λ o. has o.id) (sym read.1) ∙ new) (subst P read.1 decides) answered
 
@@ -233,34 +236,59 @@ exposure_fits order quantity price =
     let second = mul-le-mul_left 9999999999 quantity in
     omega (arith, first, second)
 
+-- what is kept of a tree has no more than the order's exposure more
+grows_by : (counts : Bool) (own : TreeTotals) (order : OrderValue)
+    → exposure_of order ≤ 10000000000000000000
+    → (if counts then sent_tree order own else own).exposure
+    ≤ own.exposure + 10000000000000000000
+grows_by true own order fits = omega (arith, fits)
+grows_by false own order fits = omega arith
+
+sends_grow : (limits : LimitsValue) (order : OrderValue) (trees trees_after : List TreeTotals)
+    → exposure_of order ≤ 10000000000000000000 → SendsIn limits order trees trees_after
+    → (tree : ℕ) → (totals_at tree trees_after).exposure
+    ≤ (totals_at tree trees).exposure + 10000000000000000000
+sends_grow limits order trees trees_after fits sends tree =
+    subst (λ (own : TreeTotals). own.exposure
+    ≤ (totals_at tree trees).exposure + 10000000000000000000) (sym (sends.each tree))
+    (grows_by (counts_in limits tree order) (totals_at tree trees) order fits)
+
+stays_grow : (trees trees_after : List TreeTotals) → trees_after ≡ trees
+    → (tree : ℕ) → (totals_at tree trees_after).exposure
+    ≤ (totals_at tree trees).exposure + 10000000000000000000
+stays_grow trees trees_after kept tree =
+    omega (arith, ap (λ l. (totals_at tree l).exposure) kept)
+
 -- how the counts grow
 pub counts_grow : (limits : LimitsValue) (order : OrderValue) (refusal : Option Refusal)
-    (has has_after : List ℕ → Bool) (acts acts_after : List Act) (totals totals_after : Totals)
+    (has has_after : List ℕ → Bool) (acts acts_after : List Act)
+    (trees trees_after : List TreeTotals) (totals totals_after : Totals)
     → order.quantity ≤ 1000000000 → order.price ≤ 9999999999
-    → Decides limits order has has_after acts acts_after totals totals_after refusal
-    → CountsGrow totals totals_after
-counts_grow limits order None has has_after acts acts_after totals totals_after quantity price
-    (asked, counted, asks, acts_are, totals_are, ids) =
-    let fits = exposure_fits order quantity price in
-    rw (totals_are, asks.5) (record {
+    → Decides limits order has has_after acts acts_after trees trees_after totals totals_after
+    refusal
+    → CountsGrow trees trees_after totals totals_after
+counts_grow limits order None has has_after acts acts_after trees trees_after totals totals_after
+    quantity price (asked, asks, acts_are, totals_are, ids) =
+    rw totals_are (record {
       frames = refl;
       sent = omega arith;
       refused = omega arith;
-      exposure = omega (arith, fits);
+      exposures = sends_grow limits order trees trees_after (exposure_fits order quantity price)
+          asks.kept;
     })
-counts_grow limits order (Some refusal) has has_after acts acts_after totals totals_after quantity
-    price (asked, counted, inl asks, acts_are, totals_are, ids) =
-    rw (totals_are, asks.2) (record {
+counts_grow limits order (Some refusal) has has_after acts acts_after trees trees_after totals
+    totals_after quantity price (asked, inl asks, acts_are, totals_are, ids) =
+    rw totals_are (record {
       frames = refl;
       sent = omega arith;
       refused = omega arith;
-      exposure = omega arith;
+      exposures = stays_grow trees trees_after asks.kept;
     })
-counts_grow limits order (Some refusal) has has_after acts acts_after totals totals_after quantity
-    price (asked, counted, inr asks, acts_are, totals_are, ids) =
-    rw (totals_are, asks.6) (record {
+counts_grow limits order (Some refusal) has has_after acts acts_after trees trees_after totals
+    totals_after quantity price (asked, inr asks, acts_are, totals_are, ids) =
+    rw totals_are (record {
       frames = refl;
       sent = omega arith;
       refused = omega arith;
-      exposure = omega arith;
+      exposures = stays_grow trees trees_after asks.kept;
     })

@@ -1,5 +1,6 @@
 -- What is asked of an admission for an order, and what is told of it.
 use Rattle.std.specs.Prelude.{ℕ, ◌+◌, ◌-◌, List, [], ◌∷◌, map, slice_index, Option, Some, None}
+use Rattle.std.specs.Prelude.{Bool, true, false}
 use Rattle.risk_board.specs.Calls.{post_count}
 use Rattle.risk_board.specs.Hands.{HandValue}
 use Rattle.risk_board.specs.declared.hand.Seen.{Seen}
@@ -33,6 +34,11 @@ refusal_by verdict.Account = Some refusal.Account
 refusal_by verdict.Symbol = Some refusal.Symbol
 refusal_by verdict.Halt = Some refusal.Halt
 refusal_by verdict.Quota = Some refusal.Quota
+
+-- too few posts were left
+abbrev pub is_quota : Verdict → Bool
+is_quota verdict.Quota = true
+is_quota other = false
 
 -- a root whose place in the tree's history isn't known, and is told as 0
 abbrev pub unplaced : Seen → SeenAt

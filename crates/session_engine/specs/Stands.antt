@@ -174,7 +174,6 @@ pub record StandsFor (limits : LimitsValue) (has : List ℕ → Bool) (acts : Li
   pub ids : (id : List ℕ) → has id ≡ list_any (λ order. bytes_eq order.id id) session.orders
   pub exposures : (tree : ℕ)
       → (totals_at tree trees).exposure ≡ exposures_in limits tree session.orders
-  pub lasts : (tree : ℕ) → (totals_at tree trees).last ≡ last_post tree session.acts
   pub frames : totals.frames ≡ session.frames
   pub sent : totals.sent ≡ length session.venue
   pub refused : totals.refused ≡ length session.client

@@ -3,7 +3,7 @@ ghost use Rattle.std.specs.Prelude.{◌≡◌, ℕ, ◌+◌, ◌*◌, ◌^◌, �
 ghost use Rattle.std.specs.List.{list_any, slice_set};
 ghost use Rattle.fold_law.specs.declared.limits.TheConstants.{LEAF};
 ghost use Rattle.limit_table.specs.Files.{IsHeldByFile};
-ghost use Rattle.session_engine.specs.Asking.{ask_of, refusal_by, roots_by, made_in_all};
+ghost use Rattle.session_engine.specs.Asking.{ask_of, refusal_by, is_quota, roots_by, made_in_all};
 ghost use Rattle.session_engine.specs.Asking.{posts_told, reads_told};
 ghost use Rattle.session_engine.specs.OrderTrees.{rows_of, exposure_of, units_up};
 ghost use Rattle.session_engine.specs.Orders.{order_value};
@@ -41,21 +41,22 @@ fn value_with(own: &TreeTotals, order: &Order) -> u128
 fn ask_for(
     limits: &Limits,
     rows: &OrderRows,
-    trees: &[TreeTotals],
+    trees: &Vec<TreeTotals>,
     order: &Order,
 ) -> Option<Ask>
     requires held { IsHeldByFile limits.now }
     requires account { rows.now.account < length limits.now.accounts }
     requires symbol { rows.now.symbol < length limits.now.symbols }
-    requires count { length trees.now ≡ halt_tree limits.now }
-    requires fits { (tree : ℕ) → (totals_at tree trees.now).exposure < 2 ^ 99 }
+    requires count { length trees.now.items ≡ halt_tree limits.now }
+    requires fits { (tree : ℕ) → (totals_at tree trees.now.items).exposure < 2 ^ 99 }
     ensures some { IfSome result (λ ask.
-        ask ≡ ask_of (legs_by limits.now rows.now trees.now (order_value order.now))) }
+        ask ≡ ask_of (legs_by limits.now rows.now trees.now.items (order_value order.now))) }
     ensures none { IsNone result ↔ (list_any (λ leg. nat_lt LEAF leg.new)
-        (legs_by limits.now rows.now trees.now (order_value order.now)) ≡ true) }
+        (legs_by limits.now rows.now trees.now.items (order_value order.now)) ≡ true) }
 {
     let account = limits.account_tree(rows.account);
     let symbol = limits.symbol_tree(rows.symbol);
+    let trees = trees.as_slice();
     let firm_own = trees[0];
     let account_own = trees[account as usize];
     let symbol_own = trees[symbol as usize];
@@ -100,10 +101,9 @@ fn tell_posts(
     values: &[u64; 3],
 )
     requires room { vec_len acts.old + 3 ≤ vec_capacity acts.old }
-    requires more { more ≤ 2 }
-    requires firm { slice_index made.now 0 < 2 ^ 31 }
-    requires account { slice_index made.now 1 < 2 ^ 31 }
-    requires symbol { slice_index made.now 2 < 2 ^ 31 }
+    requires firm { slice_index made.now 0 + more < 2 ^ 32 }
+    requires account { slice_index made.now 1 + more < 2 ^ 32 }
+    requires symbol { slice_index made.now 2 + more < 2 ^ 32 }
     ensures acts { acts.new.items
         ≡ acts.old.items ++ posts_told trees.now made.now more values.now }
     ensures room { vec_capacity acts.new ≡ vec_capacity acts.old }
@@ -150,6 +150,13 @@ fn tell_reads(acts: &mut Vec<Act>, halt: u32, trees: &[u32; 3], outcome: &Outcom
     acts.push_reserved(read_of(trees[2], &outcome.roots[2]));
 }
 
+/// Whether too few posts were left, and so nothing was posted or read.
+fn is_quota(verdict: Verdict) -> bool
+    ensures { result ≡ is_quota verdict }
+{
+    matches!(verdict, Verdict::Quota)
+}
+
 /// Why a verdict refuses, if it does.
 fn refusal_by(verdict: Verdict) -> Option<Refusal>
     ensures { result ≡ refusal_by verdict }
@@ -165,12 +172,12 @@ fn refusal_by(verdict: Verdict) -> Option<Refusal>
 }
 
 /// Keeps that a value was posted in a tree for orders of so much more exposure.
-fn keep_in(trees: &mut [TreeTotals], tree: u32, exposure: u128, value: u64)
-    requires tree { tree < length trees.old }
-    requires fits { (totals_at tree trees.old).exposure < 2 ^ 99 }
+fn keep_in(trees: &mut Vec<TreeTotals>, tree: u32, exposure: u128, value: u64)
+    requires tree { tree < length trees.old.items }
+    requires fits { (totals_at tree trees.old.items).exposure < 2 ^ 99 }
     requires more { exposure ≤ 10000000000000000000 }
-    ensures { trees.new ≡ slice_set trees.old tree
-        (record { exposure = (totals_at tree trees.old).exposure + exposure; last = value }) }
+    ensures { trees.new.items ≡ slice_set trees.old.items tree
+        (record { exposure = (totals_at tree trees.old.items).exposure + exposure; last = value }) }
 {
     let own = trees[tree as usize];
     trees[tree as usize] = TreeTotals {
@@ -180,14 +187,14 @@ fn keep_in(trees: &mut [TreeTotals], tree: u32, exposure: u128, value: u64)
 }
 
 /// Keeps in its three trees that an order was sent.
-fn keep_sent(trees: &mut [TreeTotals], limits: &Limits, rows: &OrderRows, ask: &Ask, order: &Order)
+fn keep_sent(trees: &mut Vec<TreeTotals>, limits: &Limits, rows: &OrderRows, ask: &Ask, order: &Order)
     requires held { IsHeldByFile limits.now }
     requires rows { rows_of limits.now (order_value order.now) ≡ Ok rows.now }
     requires ask { ask.now
-        ≡ ask_of (legs_by limits.now rows.now trees.old (order_value order.now)) }
-    requires count { length trees.old ≡ halt_tree limits.now }
-    requires fits { (tree : ℕ) → (totals_at tree trees.old).exposure < 2 ^ 99 }
-    ensures { SendsIn limits.now (order_value order.now) trees.old trees.new }
+        ≡ ask_of (legs_by limits.now rows.now trees.old.items (order_value order.now)) }
+    requires count { length trees.old.items ≡ halt_tree limits.now }
+    requires fits { (tree : ℕ) → (totals_at tree trees.old.items).exposure < 2 ^ 99 }
+    ensures { SendsIn limits.now (order_value order.now) trees.old.items trees.new.items }
 {
     let exposure = exposure_of(order);
     keep_in(trees, ask.trees[0], exposure, ask.new[0]);
@@ -200,7 +207,7 @@ fn keep_sent(trees: &mut [TreeTotals], limits: &Limits, rows: &OrderRows, ask: &
 fn ask_in<H: Hand, M: Hand>(
     hands: &mut Hands<H, M>,
     acts: &mut Vec<Act>,
-    trees: &mut [TreeTotals],
+    trees: &mut Vec<TreeTotals>,
     limits: &Limits,
     rows: &OrderRows,
     order: &Order,
@@ -208,61 +215,65 @@ fn ask_in<H: Hand, M: Hand>(
     requires held { IsHeldByFile limits.now }
     requires rows { rows_of limits.now (order_value order.now) ≡ Ok rows.now }
     requires step { InStep limits.now (H.meaning hands.old.sum) (M.meaning hands.old.halt)
-        acts.old.items trees.old }
+        acts.old.items trees.old.items }
     requires sum_spare { 9 ≤ (H.meaning hands.old.sum).spare }
     requires halt_spare { 1 ≤ (M.meaning hands.old.halt).spare }
     requires room { vec_len acts.old + 10 ≤ vec_capacity acts.old }
-    requires fits { (tree : ℕ) → (totals_at tree trees.old).exposure < 2 ^ 99 }
+    requires fits { (tree : ℕ) → (totals_at tree trees.old.items).exposure < 2 ^ 99 }
     ensures step { InStep limits.now (H.meaning hands.new.sum) (M.meaning hands.new.halt)
-        acts.new.items trees.new }
+        acts.new.items trees.new.items }
     ensures sum_origin { H.SameOrigin hands.old.sum hands.new.sum }
     ensures halt_origin { M.SameOrigin hands.old.halt hands.new.halt }
     ensures room { vec_capacity acts.new ≡ vec_capacity acts.old }
     ensures few { vec_len acts.new ≤ vec_len acts.old + 10 }
     ensures asks { Asks limits.now (order_value order.now) acts.old.items acts.new.items
-        trees.old trees.new result }
+        trees.old.items trees.new.items result }
 {
     let Some(ask) = ask_for(limits, rows, trees, order) else {
         return Some(Refusal::Cap);
     };
     let made = count_posts(&hands.sum, limits.quota, &ask.trees);
     let outcome = admit(&mut hands.sum, &mut hands.halt, &ask);
-    if outcome.verdict == Verdict::Quota {
+    if is_quota(outcome.verdict) {
         return Some(Refusal::Quota);
     }
     tell_posts(acts, &ask.trees, &made, 1, &ask.new);
     tell_reads(acts, limits.halt_tree(), &ask.trees, &outcome);
-    if outcome.verdict == Verdict::Sent {
-        keep_sent(trees, limits, rows, &ask, order);
-    } else {
-        tell_posts(acts, &ask.trees, &made, 2, &ask.old);
+    match refusal_by(outcome.verdict) {
+        None => {
+            keep_sent(trees, limits, rows, &ask, order);
+            None
+        }
+        Some(why) => {
+            tell_posts(acts, &ask.trees, &made, 2, &ask.old);
+            Some(why)
+        }
     }
-    refusal_by(outcome.verdict)
 }
 
 /// Asks for an order: it is refused, where its account or its symbol is unknown, before any post.
 pub(crate) fn ask_order<H: Hand, M: Hand>(
     hands: &mut Hands<H, M>,
     acts: &mut Vec<Act>,
-    trees: &mut [TreeTotals],
+    trees: &mut Vec<TreeTotals>,
     limits: &Limits,
     order: &Order,
 ) -> Option<Refusal>
     requires held { IsHeldByFile limits.now }
     requires step { InStep limits.now (H.meaning hands.old.sum) (M.meaning hands.old.halt)
-        acts.old.items trees.old }
+        acts.old.items trees.old.items }
     requires sum_spare { 9 ≤ (H.meaning hands.old.sum).spare }
     requires halt_spare { 1 ≤ (M.meaning hands.old.halt).spare }
     requires room { vec_len acts.old + 10 ≤ vec_capacity acts.old }
-    requires fits { (tree : ℕ) → (totals_at tree trees.old).exposure < 2 ^ 99 }
+    requires fits { (tree : ℕ) → (totals_at tree trees.old.items).exposure < 2 ^ 99 }
     ensures step { InStep limits.now (H.meaning hands.new.sum) (M.meaning hands.new.halt)
-        acts.new.items trees.new }
+        acts.new.items trees.new.items }
     ensures sum_origin { H.SameOrigin hands.old.sum hands.new.sum }
     ensures halt_origin { M.SameOrigin hands.old.halt hands.new.halt }
     ensures room { vec_capacity acts.new ≡ vec_capacity acts.old }
     ensures few { vec_len acts.new ≤ vec_len acts.old + 10 }
     ensures asks { Asks limits.now (order_value order.now) acts.old.items acts.new.items
-        trees.old trees.new result }
+        trees.old.items trees.new.items result }
 {
     match find_rows(limits, order) {
         Err(why) => Some(why),

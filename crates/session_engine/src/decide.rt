@@ -62,7 +62,7 @@ pub(crate) fn decide<H: Hand, M: Hand>(
     let refusal = ask_order(
         hands,
         &mut state.acts,
-        state.trees.as_mut_slice(),
+        &mut state.trees,
         limits,
         order,
     );

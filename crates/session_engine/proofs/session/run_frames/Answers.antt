@@ -5,8 +5,7 @@ use Rattle.std.specs.BTreeSet.{contains}
 use Rattle.std.specs.Ordering.{nat_cmp}
 use Rattle.std.specs.Cmp.Lexicographic.{slice_cmp}
 use Rattle.std.proofs.lemmas.List.{length-take}
-use Rattle.session_engine.specs.LimitsOf.{limits_value}
-use Rattle.session_engine.proofs.RunLemmas.{runs_opening}
+use Rattle.session_engine.proofs.RunLemmas.{runs_opening, in_step_opening}
 use Rattle.session_engine.proofs.FollowLemmas.{follows_source, read_fault_failed, no_write_fault}
 use Rattle.session_engine.proofs.FollowLemmas.{whole_is_whole, ended_at_whole}
 use Rattle.session_engine.specs.Runs.{StopsBefore, end_after}
@@ -16,18 +15,25 @@ pub take_frames-requires-clause-few : goal.take_frames-requires-clause-few
 take_frames-requires-clause-few g c =
     rw c.input_of.ensures (omega (arith, length-take 33554432 c.deref.result.now))
 
+pub take_frames-requires-clause-step : goal.take_frames-requires-clause-step
+take_frames-requires-clause-step g c =
+    in_step_opening c.args.limits.now (g.H.Hand.meaning c.args.hands.now.sum)
+    (g.M.Hand.meaning c.args.hands.now.halt) c.args.state.now.acts.items c.in-Ok.trees.items
+    c.requires.sum c.requires.halt c.requires.sum_idle c.requires.halt_idle c.requires.acts
+    c.in-Ok.ensures
+
 pub take_frames-requires-clause-runs : goal.take_frames-requires-clause-runs
 take_frames-requires-clause-runs g c =
-    runs_opening (limits_value c.args.limits.now) c.input_of.result.now
+    runs_opening c.args.limits.now c.input_of.result.now
     (contains (slice_cmp nat_cmp) c.args.state.now.ids) c.args.state.now.acts.items
-    c.args.state.now.totals
+    c.in-Ok.trees.items c.args.state.now.totals
     (g.V.Sink.held c.args.sinks.now.venue) (g.C.Sink.held c.args.sinks.now.client)
-    (λ id. rw c.requires.ids refl) c.requires.acts c.requires.totals
+    (λ id. rw c.requires.ids refl) c.requires.acts c.in-Ok.ensures c.requires.totals
 
 pub returns-clause-follows : goal.returns-clause-follows
 returns-clause-follows g c = λ by_input.
     let got = c.fetch_up_to-fetched.result.bytes.items in
-    let P : List ℕ → Type 0 = λ l. StopsBefore (limits_value c.args.limits.now) l c.in-Found.place
+    let P : List ℕ → Type 0 = λ l. StopsBefore c.args.limits.now l c.in-Found.place
     c.in-Found.next c.take_frames.new.state.acts.items
     (g.V.Sink.held c.args.sinks.now.venue) (g.V.Sink.held c.take_frames.new.sinks.venue)
     (g.C.Sink.held c.args.sinks.now.client) (g.C.Sink.held c.take_frames.new.sinks.client) in
@@ -35,7 +41,7 @@ returns-clause-follows g c = λ by_input.
     ∙ ap (take 33554432) c.deref.ensures.value in
     let end_is : c.end_after.result ≡ end_after c.fetch_up_to-fetched.result.end
     (nat_lt 33554432 (length got)) c.in-Found.place c.in-Found.next = search rules in
-    follows_source c.frame_stays.ensures (limits_value c.args.limits.now)
+    follows_source c.frame_stays.ensures c.args.limits.now
     (g.S.Source.left c.args.source.now) (g.S.Source.left c.fetch_up_to-fetched.new.source)
     got (g.S.Source.is_ended c.fetch_up_to-fetched.new.source ≡ true)
     c.fetch_up_to-fetched.result.end (nat_lt 33554432 (length got)) c.in-Found.place

@@ -3,19 +3,19 @@ use Rattle.std.proofs.Common.{◌≡◌, ◌≤◌, ◌<◌, ◌-◌, length, ve
 use Rattle.std.specs.BTreeSet.{contains}
 use Rattle.std.specs.Ordering.{nat_cmp}
 use Rattle.std.specs.Cmp.Lexicographic.{slice_cmp}
-use Rattle.session_engine.specs.LimitsOf.{limits_value}
 use Rattle.session_engine.specs.Stands.{InStep}
 use Rattle.session_engine.specs.Runs.{RunsTo}
 use Rattle.session_engine.proofs.session.take_frames.Given as goal
 
 abbrev pub invariant-loop-frame : goal.invariant-loop-frame
 invariant-loop-frame g l = record {
-  step : InStep (g.H.Hand.meaning l.hand) l.state.acts.items l.state.totals;
-  quota : (g.H.Hand.meaning l.hand).quota ≡ l.limits.quota;
-  origin : g.H.Hand.SameOrigin l.initial.hand l.hand;
+  step : InStep l.limits (g.H.Hand.meaning l.hands.sum) (g.M.Hand.meaning l.hands.halt)
+      l.state.acts.items l.state.trees.items;
+  sum_origin : g.H.Hand.SameOrigin l.initial.hands.sum l.hands.sum;
+  halt_origin : g.M.Hand.SameOrigin l.initial.hands.halt l.hands.halt;
   room : vec_len l.state.acts < vec_capacity l.state.acts;
-  runs : RunsTo (limits_value l.limits) l.bytes l.place (contains (slice_cmp nat_cmp) l.state.ids)
-      l.state.acts.items l.state.totals
+  runs : RunsTo l.limits l.bytes l.place (contains (slice_cmp nat_cmp) l.state.ids)
+      l.state.acts.items l.state.trees.items l.state.totals
       (g.V.Sink.held l.initial.sinks.venue) (g.V.Sink.held l.sinks.venue)
       (g.C.Sink.held l.initial.sinks.client) (g.C.Sink.held l.sinks.client);
   venue_later : g.V.Sink.faults l.initial.sinks.venue ≤ g.V.Sink.faults l.sinks.venue;
