@@ -118,9 +118,7 @@ fn reject_request<C: Sink>(
     ensures name { C.name client.new ≡ C.name client.old }
 {
     let envelope = read_envelope(bytes, frame);
-    if let Some(sender) = envelope.sender {
-        *client_id = sender;
-    }
+    *client_id = envelope.sender.unwrap_or(*client_id);
     state.acts.push_reserved(Act::Refused {
         frame: state.totals.frames,
         code: FAULT_CODE,
