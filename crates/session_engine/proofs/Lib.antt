@@ -9,6 +9,7 @@ pub mod MovedSessions
 pub mod OrderFacts
 pub mod PlacedFollows
 pub mod Places
+pub mod Prices
 pub mod ReachLemmas
 pub mod RunLemmas
 pub mod StepLemmas
