@@ -178,8 +178,12 @@ module _ (limits : LimitsValue) (rows : OrderRows) (order : OrderValue) (sum hal
   symbol_in = omega (arith, are.symbol)
 
   leg_is : (tree new most : ℕ) → tree < halt_tree limits → new ≤ LEAF
-      → IsLegOf sum (record { tree = tree; old = (totals_at tree trees).last; new = new;
-      limit = most })
+      → IsLegOf sum (record {
+        tree = tree;
+        old = (totals_at tree trees).last;
+        new = new;
+        limit = most;
+      })
   leg_is tree new most inside capped = record {
     in_range = omega (arith, inside, step.sum_hand.trees);
     last = step.lasts tree ∙ sym (last_post-below (halt_tree limits) tree inside acts)

@@ -1,6 +1,8 @@
--- A worked row, computed by the definitions: one order at its limit.
-use Rattle.std.proofs.Common.{◌≡◌, List, [], ◌∷◌, ◌++◌, refl, codes}
-use Rattle.std.specs.Prelude.{Some, true, false}
+-- Worked rows, computed by the definitions: one order at each limit and above it, and names that the
+-- limits don't have.
+use Rattle.std.proofs.Common.{◌≡◌, ℕ, List, [], ◌∷◌, ◌++◌, refl, codes}
+use Rattle.std.specs.Prelude.{Some, None, true, false, drop}
+use Rattle.risk_journal.specs.declared.acts.Act.{Act}
 use Rattle.std.specs.Fmt.{digits}
 use Rattle.fix_fields.specs.Fields.{FieldValue, field, soh}
 use Rattle.fix_fields.specs.Messages.{message_text}
@@ -20,17 +22,40 @@ fields =
     (codes "1") ∷ field 38 (codes "100")
     ∷ field 40 (codes "2") ∷ field 44 (codes "10.0000") ∷ field 60 (codes "20240102-10:00:00") ∷ []
 
+-- limits with one account and two symbols: the firm's limit, and the first symbol's
+abbrev limits_of : ℕ → ℕ → LimitsValue
+limits_of firm symbol = record {
+  firm = firm;
+  accounts = record { name = codes "ACC"; limit = 100000 } ∷ [];
+  symbols =
+      record { name = codes "XYZ"; limit = symbol; low = 10000; high = 120000; size = 100000 }
+      ∷ record { name = codes "ABC"; limit = 100000; low = 10000; high = 120000; size = 100000 }
+      ∷ [];
+  trip = None;
+  quota = 50000;
+  repeat = 0;
+  off = [];
+}
+
 abbrev limits : LimitsValue
-limits = record { firm = 1000; quota = 50000 }
+limits = limits_of 1000 100000
+
+-- the halt root, and three roots of this value after one post in each tree
+abbrev reads_of : ℕ → List SeenAt
+reads_of value =
+    record { stamp = 0; place = 0; value = 0 } ∷ record { stamp = 1; place = 1; value = value }
+    ∷ record { stamp = 1; place = 1; value = value }
+    ∷ record { stamp = 1; place = 1; value = value } ∷ []
 
 abbrev reads : List SeenAt
-reads = record { stamp = 1; place = 1; value = 1000 } ∷ []
+reads = reads_of 1000
 
 abbrev frames : List FrameValue
 frames = record { place = 0; end = 136; fields = Some fields } ∷ []
 
-acts_of_row : (after_frames limits (opening reads) frames).acts ≡ Post 0 1 1000 ∷ Read 0 1 1 1000 ∷
-    Sent 0 ∷ []
+acts_of_row : (after_frames limits (opening reads) frames).acts
+    ≡ Post 0 1 1000 ∷ Post 1 1 1000 ∷ Post 2 1 1000
+    ∷ Read 4 0 0 0 ∷ Read 0 1 1 1000 ∷ Read 1 1 1 1000 ∷ Read 2 1 1 1000 ∷ Sent 0 ∷ []
 acts_of_row = refl
 
 abbrev expected : List FieldValue
@@ -45,9 +70,14 @@ venue_of_row : (after_frames limits (opening reads) frames).venue ≡ message_te
 unfolding digits
 venue_of_row = refl
 
-journal_of_row : journal_text ((Post 0 1 1000 ∷ Read 0 1 1 1000 ∷ Sent 0 ∷ Ended Whole ∷ []) ∷ [])
-    ((record { session = 0; index = 1; value = 1000 } ∷ []) ∷ [])
-    ≡ codes "kind,session,a,b,c,d\npost,0,0,1,1000,\nread,0,0,1,1,1000\nsent,0,0,,,\nended,0,0,,,\nline,0,0,1,1,1000\n"
+-- the firm's tree, the account's, both symbols', and the halt tree
+journal_of_row : journal_text
+    ((Post 0 1 1000 ∷ Post 1 1 1000 ∷ Post 2 1 1000 ∷ Read 4 0 0 0 ∷ Read 0 1 1 1000
+    ∷ Read 1 1 1 1000 ∷ Read 2 1 1 1000 ∷ Sent 0 ∷ Ended Whole ∷ []) ∷ [])
+    ((record { session = 0; index = 1; value = 1000 } ∷ [])
+    ∷ (record { session = 0; index = 1; value = 1000 } ∷ [])
+    ∷ (record { session = 0; index = 1; value = 1000 } ∷ []) ∷ [])
+    ≡ codes "kind,session,a,b,c,d\npost,0,0,1,1000,\npost,0,1,1,1000,\npost,0,2,1,1000,\nread,0,4,0,0,0\nread,0,0,1,1,1000\nread,0,1,1,1,1000\nread,0,2,1,1,1000\nsent,0,0,,,\nended,0,0,,,\nline,0,0,1,1,1000\nline,0,1,1,1,1000\nline,0,2,1,1,1000\n"
 unfolding digits
 journal_of_row = refl
 
@@ -69,15 +99,17 @@ dearer =
     ∷ field 40 (codes "2") ∷ field 44 (codes "10.0001") ∷ field 60 (codes "20240102-10:00:00") ∷ []
 
 abbrev above : List SeenAt
-above = record { stamp = 1; place = 1; value = 1001 } ∷ []
+above = reads_of 1001
 
 abbrev after_dearer : SessionValue
 after_dearer = after_frames limits (opening above)
     (record { place = 0; end = 136; fields = Some dearer } ∷ [])
 
--- an order above the limit takes its post back and is refused
-acts_refused : after_dearer.acts ≡ Post 0 1 1001 ∷ Read 0 1 1 1001 ∷ Post 0 2 0 ∷ Refused 0 1 0 0 ∷
-    []
+-- an order above the firm's limit takes its posts back and is refused
+acts_refused : after_dearer.acts
+    ≡ Post 0 1 1001 ∷ Post 1 1 1001 ∷ Post 2 1 1001
+    ∷ Read 4 0 0 0 ∷ Read 0 1 1 1001 ∷ Read 1 1 1 1001 ∷ Read 2 1 1 1001
+    ∷ Post 0 2 0 ∷ Post 1 2 0 ∷ Post 2 2 0 ∷ Refused 0 1 0 0 ∷ []
 acts_refused = refl
 
 client_refused : after_dearer.client ≡
@@ -111,3 +143,45 @@ is_one_of_the_stage = refl
 -- a heartbeat isn't one of this stage
 is_another : is_taken_order (opening []) (field 35 (codes "0") ∷ []) ≡ false
 is_another = refl
+
+-- the fields of an order with this account and this symbol
+abbrev fields_for : List ℕ → List ℕ → List FieldValue
+fields_for account symbol =
+    field 35 (codes "D") ∷ field 49 (codes "C1") ∷ field 56 (codes "GATE") ∷ field 34
+    (codes "1") ∷ field 52 (codes "20240102-10:00:00")
+    ∷ field 11 (codes "a1") ∷ field 1 account ∷ field 55 symbol ∷ field 54
+    (codes "1") ∷ field 38 (codes "1")
+    ∷ field 40 (codes "2") ∷ field 44 (codes "10.00") ∷ field 60 (codes "20240102-10:00:00") ∷ []
+
+-- the acts of such an order, where the first symbol's limit is 0
+abbrev acts_for : List ℕ → List ℕ → List SeenAt → List Act
+acts_for account symbol seen = (after_frames (limits_of 5000 0) (opening seen)
+    (record { place = 0; end = 136; fields = Some (fields_for account symbol) } ∷ [])).acts
+
+-- the smallest limit refuses the smallest order
+acts_of_symbol : acts_for (codes "ACC") (codes "XYZ") (reads_of 10)
+    ≡ Post 0 1 10 ∷ Post 1 1 10 ∷ Post 2 1 10
+    ∷ Read 4 0 0 0 ∷ Read 0 1 1 10 ∷ Read 1 1 1 10 ∷ Read 2 1 1 10
+    ∷ Post 0 2 0 ∷ Post 1 2 0 ∷ Post 2 2 0 ∷ Refused 0 3 0 0 ∷ []
+acts_of_symbol = refl
+
+-- and the other symbol has a tree of its own
+acts_of_other : acts_for (codes "ACC") (codes "ABC") (reads_of 10)
+    ≡ Post 0 1 10 ∷ Post 1 1 10 ∷ Post 3 1 10
+    ∷ Read 4 0 0 0 ∷ Read 0 1 1 10 ∷ Read 1 1 1 10 ∷ Read 3 1 1 10 ∷ Sent 0 ∷ []
+acts_of_other = refl
+
+-- somebody has halted
+acts_halted : acts_for (codes "ACC") (codes "ABC")
+    (record { stamp = 1; place = 1; value = 1 } ∷ drop 1 (reads_of 10))
+    ≡ Post 0 1 10 ∷ Post 1 1 10 ∷ Post 3 1 10
+    ∷ Read 4 1 1 1 ∷ Read 0 1 1 10 ∷ Read 1 1 1 10 ∷ Read 3 1 1 10
+    ∷ Post 0 2 0 ∷ Post 1 2 0 ∷ Post 3 2 0 ∷ Refused 0 4 0 0 ∷ []
+acts_halted = refl
+
+-- an unknown account comes before an unknown symbol
+acts_of_unknown : acts_for (codes "ACD") (codes "XYW") [] ≡ Refused 0 8 0 0 ∷ []
+acts_of_unknown = refl
+
+acts_of_unknown_symbol : acts_for (codes "ACC") (codes "XYW") [] ≡ Refused 0 9 0 0 ∷ []
+acts_of_unknown_symbol = refl

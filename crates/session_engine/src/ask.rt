@@ -38,12 +38,7 @@ fn value_with(own: &TreeTotals, order: &Order) -> u128
 }
 
 /// What an order of these rows asks of its trees; nothing where a value is more than a leaf holds.
-fn ask_for(
-    limits: &Limits,
-    rows: &OrderRows,
-    trees: &Vec<TreeTotals>,
-    order: &Order,
-) -> Option<Ask>
+fn ask_for(limits: &Limits, rows: &OrderRows, trees: &Vec<TreeTotals>, order: &Order) -> Option<Ask>
     requires held { IsHeldByFile limits.now }
     requires account { rows.now.account < length limits.now.accounts }
     requires symbol { rows.now.symbol < length limits.now.symbols }
@@ -92,14 +87,15 @@ fn count_posts<H: Hand>(sum: &H, quota: u32, trees: &[u32; 3]) -> [u32; 3]
     ]
 }
 
+/// The act of a post.
+fn post_of(tree: u32, index: u32, value: u64) -> Act
+    ensures { result ≡ Act.Post tree index value }
+{
+    Act::Post { tree, index, value }
+}
+
 /// Tells posts in three trees, so many after those made.
-fn tell_posts(
-    acts: &mut Vec<Act>,
-    trees: &[u32; 3],
-    made: &[u32; 3],
-    more: u32,
-    values: &[u64; 3],
-)
+fn tell_posts(acts: &mut Vec<Act>, trees: &[u32; 3], made: &[u32; 3], more: u32, values: &[u64; 3])
     requires room { vec_len acts.old + 3 ≤ vec_capacity acts.old }
     requires firm { slice_index made.now 0 + more < 2 ^ 32 }
     requires account { slice_index made.now 1 + more < 2 ^ 32 }
@@ -108,24 +104,12 @@ fn tell_posts(
         ≡ acts.old.items ++ posts_told trees.now made.now more values.now }
     ensures room { vec_capacity acts.new ≡ vec_capacity acts.old }
 {
-    acts.push_reserved(Act::Post {
-        tree: trees[0],
-        index: made[0] + more,
-        value: values[0],
-    });
-    acts.push_reserved(Act::Post {
-        tree: trees[1],
-        index: made[1] + more,
-        value: values[1],
-    });
-    acts.push_reserved(Act::Post {
-        tree: trees[2],
-        index: made[2] + more,
-        value: values[2],
-    });
+    acts.push_reserved(post_of(trees[0], made[0] + more, values[0]));
+    acts.push_reserved(post_of(trees[1], made[1] + more, values[1]));
+    acts.push_reserved(post_of(trees[2], made[2] + more, values[2]));
 }
 
-/// Tells the read of a root. Its place in the tree's history is not known here, and told as 0.
+/// The act of a read of a root. Its place in the tree's history is not known here, and told as 0.
 fn read_of(tree: u32, root: &Seen) -> Act
     ensures { result ≡ Act.Read tree root.now.stamp 0 root.now.value }
 {
@@ -187,7 +171,13 @@ fn keep_in(trees: &mut Vec<TreeTotals>, tree: u32, exposure: u128, value: u64)
 }
 
 /// Keeps in its three trees that an order was sent.
-fn keep_sent(trees: &mut Vec<TreeTotals>, limits: &Limits, rows: &OrderRows, ask: &Ask, order: &Order)
+fn keep_sent(
+    trees: &mut Vec<TreeTotals>,
+    limits: &Limits,
+    rows: &OrderRows,
+    ask: &Ask,
+    order: &Order,
+)
     requires held { IsHeldByFile limits.now }
     requires rows { rows_of limits.now (order_value order.now) ≡ Ok rows.now }
     requires ask { ask.now

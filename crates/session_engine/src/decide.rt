@@ -59,13 +59,7 @@ pub(crate) fn decide<H: Hand, M: Hand>(
     ensures err { OnErr result (state.new.acts.items ≡ state.old.acts.items) }
 {
     add_id(&mut state.ids, order.id)?;
-    let refusal = ask_order(
-        hands,
-        &mut state.acts,
-        &mut state.trees,
-        limits,
-        order,
-    );
+    let refusal = ask_order(hands, &mut state.acts, &mut state.trees, limits, order);
     match refusal {
         None => tell_sent(&mut state.acts, &mut state.totals),
         Some(refusal) => {
