@@ -12,6 +12,7 @@ pub mod Places
 pub mod Prices
 pub mod ReachLemmas
 pub mod RunLemmas
+pub mod SoundLemmas
 pub mod StepLemmas
 pub mod TakenLemmas
 pub mod Within

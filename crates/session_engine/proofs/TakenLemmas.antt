@@ -133,7 +133,7 @@ takes_passed limits fields session before after own passes taken steps = (
 )
 
 -- a note of the frame
-abbrev noted_act : Note → ℕ → Act
+abbrev pub noted_act : Note → ℕ → Act
 noted_act what frame = Noted frame (note_code what) 0 0
 
 noted_is : (limits : LimitsValue) (session : SessionValue) (before after : Kept) (what : Note)

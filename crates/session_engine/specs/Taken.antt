@@ -14,6 +14,7 @@ use Rattle.fix_fields.specs.declared.frame.Frame.{Frame}
 use Rattle.fix_orders.specs.declared.message.Message.TheVariants as message
 use Rattle.fix_orders.specs.declared.message.NewOrder.{NewOrder}
 use Rattle.fix_orders.specs.Reading.{read_of}
+use Rattle.risk_board.specs.Hands.{HandValue}
 use Rattle.risk_journal.specs.declared.acts.Act.{Act}
 use Rattle.session_engine.specs.declared.decide.State.{State}
 use Rattle.session_engine.specs.declared.refusal.Refusal.{Refusal}
@@ -21,7 +22,7 @@ use Rattle.session_engine.specs.declared.totals.Totals.{Totals}
 use Rattle.session_engine.specs.declared.totals.TreeTotals.{TreeTotals}
 use Rattle.session_engine.specs.OrderTrees.{OrderValue, rows_of}
 use Rattle.session_engine.specs.Session.{LimitsValue, SessionValue, is_taken}
-use Rattle.session_engine.specs.Stands.{StandsFor, totals_at}
+use Rattle.session_engine.specs.Stands.{StandsFor, InStep, totals_at}
 use Rattle.session_engine.specs.Reaches.{Steps}
 use Rattle.session_engine.specs.Answers.{forward_text, refusal_text}
 
@@ -161,6 +162,12 @@ LeavesSound limits bytes frame before =
     (fields : List FieldValue) → HasFieldsIn bytes frame fields
     → (session : SessionValue) → StandsAs limits before session
     → is_taken limits session (Some fields) ≡ false
+
+-- hands that are in step with the acts before are in step with those after
+abbrev pub StayInStep : List Act → List Act → List TreeTotals → List TreeTotals → Type 0
+StayInStep acts acts_after trees trees_after =
+    (limits : LimitsValue) (sum halt : HandValue) → InStep limits sum halt acts trees
+    → InStep limits sum halt acts_after trees_after
 
 -- the counts after one frame more
 pub record CountsGrow (trees trees_after : List TreeTotals) (totals totals_after : Totals)

@@ -11,7 +11,7 @@ ghost use Rattle.gate_ports.specs.Faults.{Rose};
 ghost use Rattle.session_engine.specs.Answers.{reject_text, no_time};
 ghost use Rattle.session_engine.specs.Session.{LimitsValue, asks, is_request};
 ghost use Rattle.session_engine.specs.Taken.{HasSmallCounts, HasFewMessages, CountsGrow};
-ghost use Rattle.session_engine.specs.Taken.{TakesSound, kept_by};
+ghost use Rattle.session_engine.specs.Taken.{TakesSound, StayInStep, kept_by};
 
 use crate::answer::{Sinks, Step, give_written, venue_id};
 use crate::decide::State;
@@ -103,7 +103,8 @@ fn reject_request<C: Sink>(
     requires counts { HasSmallCounts state.old.trees.items state.old.totals }
     requires few { HasFewMessages state.old.totals }
     ensures room { vec_len state.new.acts < vec_capacity state.new.acts }
-    ensures trees { state.new.trees ≡ state.old.trees }
+    ensures step { StayInStep state.old.acts.items state.new.acts.items
+        state.old.trees.items state.new.trees.items }
     ensures taken { result ≡ Step.Taken → (limits : LimitsValue) (venue : Option (List ℕ))
         → TakesSound limits bytes.now frame.now
         (kept_by state.old client_id.old venue (C.held client.old))
@@ -150,7 +151,8 @@ fn return_report<V: Sink>(
     requires counts { HasSmallCounts state.old.trees.items state.old.totals }
     requires few { HasFewMessages state.old.totals }
     ensures room { vec_len state.new.acts < vec_capacity state.new.acts }
-    ensures trees { state.new.trees ≡ state.old.trees }
+    ensures step { StayInStep state.old.acts.items state.new.acts.items
+        state.old.trees.items state.new.trees.items }
     ensures taken { result ≡ Step.Taken
         → (limits : LimitsValue) (client_id : List ℕ) (client : Option (List ℕ))
         → TakesSound limits bytes.now frame.now
@@ -197,7 +199,8 @@ pub(crate) fn reject_message<V: Sink, C: Sink>(
     requires counts { HasSmallCounts state.old.trees.items state.old.totals }
     requires few { HasFewMessages state.old.totals }
     ensures room { vec_len state.new.acts < vec_capacity state.new.acts }
-    ensures trees { state.new.trees ≡ state.old.trees }
+    ensures step { StayInStep state.old.acts.items state.new.acts.items
+        state.old.trees.items state.new.trees.items }
     ensures taken { result ≡ Step.Taken → (limits : LimitsValue)
         → TakesSound limits bytes.now frame.now
         (kept_by state.old sinks.old.client_id (V.held sinks.old.venue) (C.held sinks.old.client))

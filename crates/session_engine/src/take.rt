@@ -1,5 +1,5 @@
 //! Taking a frame.
-ghost use Rattle.std.specs.Prelude.{◌≡◌, ℕ, ◌+◌, ◌^◌, ◌≤◌, ◌<◌, List, [], ◌∷◌, ◌++◌, Ok, vec_len, vec_capacity, OnOk, OnErr, IfOk, true, false, ◌⊎◌};
+ghost use Rattle.std.specs.Prelude.{◌≡◌, ℕ, ◌+◌, ◌^◌, ◌≤◌, ◌<◌, List, [], ◌∷◌, ◌++◌, Ok, vec_len, vec_capacity, OnOk, Option, true, false, ◌⊎◌};
 ghost use Rattle.std.specs.BTreeSet.{contains};
 ghost use Rattle.fix_fields.specs.Places.{IsSoundIn};
 ghost use Rattle.gate_ports.specs.Faults.{Rose};

@@ -7,6 +7,7 @@ use Rattle.std.specs.Option.{unwrap_or}
 use Rattle.fix_orders.specs.declared.envelope.Envelope.{Envelope}
 use Rattle.session_engine.specs.Stands.{refused_totals}
 use Rattle.session_engine.specs.Taken.{Kept, kept_by}
+use Rattle.session_engine.proofs.InStepLemmas.{in_step_after_fault}
 use Rattle.session_engine.proofs.TakenLemmas.{takes_rejected}
 use Rattle.session_engine.proofs.reject.reject_request.Goals as goal
 
@@ -36,3 +37,9 @@ returns-clause-taken g c = λ taken limits venue fields has session own.
       venue = refl;
       client = c.give_reject.ensures.taken taken fields has;
     })
+
+pub returns-clause-step : goal.returns-clause-step
+returns-clause-step g c = λ limits sum halt step.
+    rw c.push_reserved.ensures.items
+    (in_step_after_fault limits sum halt c.args.state.now.acts.items c.args.state.now.trees.items
+    _ _ _ _ step)

@@ -7,6 +7,7 @@ use Rattle.std.specs.Io.KnownBytes.{Appends}
 use Rattle.session_engine.specs.Answers.{reject_text}
 use Rattle.session_engine.specs.Stands.{sent_totals}
 use Rattle.session_engine.specs.Taken.{Kept, kept_by}
+use Rattle.session_engine.proofs.InStepLemmas.{in_step_after_noted}
 use Rattle.session_engine.proofs.TakenLemmas.{takes_returned}
 use Rattle.session_engine.proofs.reject.return_report.Goals as goal
 
@@ -36,3 +37,9 @@ returns-clause-taken g c = λ taken limits client_id client fields has session o
       client = refl;
       venue = subst P c.venue_id.ensures (c.give_reject.ensures.taken taken fields has);
     })
+
+pub returns-clause-step : goal.returns-clause-step
+returns-clause-step g c = λ limits sum halt step.
+    rw c.push_reserved.ensures.items
+    (in_step_after_noted limits sum halt c.args.state.now.acts.items c.args.state.now.trees.items
+    _ _ _ _ step)
