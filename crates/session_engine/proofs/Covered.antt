@@ -28,11 +28,18 @@ use Rattle.session_engine.specs.Trees.{LimitsValue, halt_tree, account_tree, sym
 use Rattle.session_engine.specs.Trees.{tree_limits, limit_of, account_limits, symbol_limits}
 use Rattle.session_engine.specs.OrderTrees.{OrderValue, rows_of, trees_by, counts_in, exposure_of}
 use Rattle.session_engine.specs.OrderTrees.{exposure_in, exposures_in, units_up, value_in}
+use Rattle.fix_orders.specs.declared.message.FieldFault.{FieldFault}
+use Rattle.fix_orders.specs.declared.message.Message.{Message}
+use Rattle.fix_orders.specs.declared.message.Message.TheVariants as message
+use Rattle.fix_orders.specs.Reading.{read_of}
+use Rattle.session_engine.specs.declared.note.Note.TheVariants as note
+use Rattle.session_engine.specs.Reserves.{order_of}
 use Rattle.session_engine.specs.Session.{SessionValue, Leg, opening, next_read, after_frames}
 use Rattle.session_engine.specs.Session.{after_frame, after_rows, after_checks, after_verdict}
-use Rattle.session_engine.specs.Session.{early_refusal, legs_of, order_of, client_after, verdict_of}
+use Rattle.session_engine.specs.Session.{early_refusal, legs_of, verdict_of, named, asks}
+use Rattle.session_engine.specs.Session.{after_message, after_fault, after_result}
 use Rattle.session_engine.specs.Session.{post_new, read_root, roots_of}
-use Rattle.session_engine.specs.Answers.{code_of}
+use Rattle.session_engine.specs.Answers.{code_of, fault_code, note_code}
 use Rattle.session_engine.specs.Stands.{read_act}
 use Rattle.session_engine.specs.Admitted.{Standing, nothing, after_event, after_post, after_read}
 use Rattle.session_engine.specs.Admitted.{CoversOrders, IsCovered}
@@ -448,6 +455,15 @@ even_after_note limits limit tree acts orders frame code one two even =
     even_after limits limit tree acts (Refused frame code one two ∷ []) [] orders refl
     (even.admitted ∙ sym posted, even.worth ∙ sym posted)
 
+-- a note changes nothing
+even_after_noted : (limits : LimitsValue) (limit tree : ℕ) (acts : List Act)
+    (orders : List OrderValue) (frame code one two : ℕ) → IsEven limits limit tree acts orders
+    → IsEven limits limit tree (acts ++ Noted frame code one two ∷ []) orders
+even_after_noted limits limit tree acts orders frame code one two even =
+    let posted = posted_from limit tree nothing acts in
+    even_after limits limit tree acts (Noted frame code one two ∷ []) [] orders refl
+    (even.admitted ∙ sym posted, even.worth ∙ sym posted)
+
 -- one tree with a limit, from frame to frame
 module _ (limits : LimitsValue) (limit tree : ℕ) (at : limit_of limits tree ≡ Some limit) where
   abbrev StaysEven : SessionValue → Type 0
@@ -491,13 +507,46 @@ module _ (limits : LimitsValue) (limit tree : ℕ) (at : limit_of limits tree �
   even_after_rows fields order (Ok rows) session known even =
       even_after_checks fields order rows session _ known even
 
+  even_after_message : (fields : List FieldValue) (whole : Message) (session : SessionValue)
+      → StaysEven session → StaysEven (after_message limits fields whole session)
+  even_after_message fields (message.New order) session even =
+      even_after_rows fields (order_of limits order) (rows_of limits (order_of limits order))
+      session refl even
+  even_after_message fields (message.Cancel request) session even = even
+  even_after_message fields (message.Replace request) session even = even
+  even_after_message fields (message.Report report) session even = even
+  even_after_message fields (message.CancelReject report) session even = even
+  even_after_message fields message.Admin session even = even
+  even_after_message fields message.Other session even =
+      even_after_noted limits limit tree session.acts session.orders session.frames
+      (note_code note.OtherType) 0 0 even
+
+  even_after_fault : (request : Bool) (fields : List FieldValue) (fault : FieldFault)
+      (session : SessionValue) → StaysEven session
+      → StaysEven (after_fault request fields fault session)
+  even_after_fault true fields fault session even =
+      even_after_note limits limit tree session.acts session.orders session.frames
+      fault_code fault.tag fault.reason even
+  even_after_fault false fields fault session even =
+      even_after_noted limits limit tree session.acts session.orders session.frames
+      (note_code note.FaultyField) fault.tag fault.reason even
+
+  even_after_result : (request : Bool) (fields : List FieldValue)
+      (read : Result Message FieldFault) (session : SessionValue) → StaysEven session
+      → StaysEven (after_result limits request fields read session)
+  even_after_result request fields (Ok whole) session even =
+      even_after_message fields whole session even
+  even_after_result request fields (Err fault) session even =
+      even_after_fault request fields fault session even
+
   even_after_frame : (fields : Option (List FieldValue)) (session : SessionValue)
       → StaysEven session → StaysEven (after_frame limits fields session)
-  even_after_frame None session even = even
+  even_after_frame None session even =
+      even_after_noted limits limit tree session.acts session.orders session.frames
+      (note_code note.NotSound) 0 0 even
   even_after_frame (Some fields) session even =
-      let named : SessionValue =
-      record session { client_id = client_after fields session.client_id } in
-      even_after_rows fields (order_of fields) (rows_of limits (order_of fields)) named refl even
+      even_after_result (asks fields) fields (read_of fields)
+      (named (asks fields) fields session) even
 
   even_after_frames : (frames : List FrameValue) (session : SessionValue) → StaysEven session
       → StaysEven (after_frames limits session frames)

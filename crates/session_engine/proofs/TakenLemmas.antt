@@ -30,7 +30,7 @@ use Rattle.session_engine.specs.Answers.{note_code, fault_code}
 use Rattle.session_engine.specs.OrderTrees.{OrderValue, exposure_of, counts_in, rows_of}
 use Rattle.session_engine.specs.Reserves.{order_of}
 use Rattle.session_engine.specs.Session.{LimitsValue, SessionValue, is_taken, is_taken_read}
-use Rattle.session_engine.specs.Session.{after_frame, after_read, asks, named, client_after}
+use Rattle.session_engine.specs.Session.{after_frame, after_result, asks, named, client_after}
 use Rattle.session_engine.specs.Session.{after_noting, after_rejecting, after_returning}
 use Rattle.session_engine.specs.Stands.{StandsFor, Decides, SendsIn, sent_tree, totals_at}
 use Rattle.session_engine.specs.Stands.{sent_totals, refused_totals}
@@ -65,12 +65,12 @@ frame_by : (limits : LimitsValue) (fields : List FieldValue) (request : Bool)
     (read : Result Message FieldFault) (session : SessionValue) → asks fields ≡ request
     → read_of fields ≡ read
     → after_frame limits (Some fields) session
-    ≡ counted session.frames (after_read limits request fields read (named request fields session))
+    ≡ counted session.frames (after_result limits request fields read (named request fields session))
 frame_by limits fields request read session asks_are read_is =
     ap (λ r. counted session.frames
-    (after_read limits (asks fields) fields r (named (asks fields) fields session))) read_is
+    (after_result limits (asks fields) fields r (named (asks fields) fields session))) read_is
     ∙ ap (λ b. counted session.frames
-    (after_read limits b fields read (named b fields session))) asks_are
+    (after_result limits b fields read (named b fields session))) asks_are
 
 -- a step that reads nothing
 steps_quiet : (limits : LimitsValue) (fields : Option (List FieldValue))

@@ -263,10 +263,10 @@ after_message limits fields message.Admin session = session
 after_message limits fields message.Other session = after_noting note.OtherType session
 
 -- what was read of a sound frame, which is a request or isn't one
-abbrev pub after_read : LimitsValue → Bool → List FieldValue → Result Message FieldFault
+abbrev pub after_result : LimitsValue → Bool → List FieldValue → Result Message FieldFault
     → SessionValue → SessionValue
-after_read limits request fields (Ok whole) session = after_message limits fields whole session
-after_read limits request fields (Err fault) session = after_fault request fields fault session
+after_result limits request fields (Ok whole) session = after_message limits fields whole session
+after_result limits request fields (Err fault) session = after_fault request fields fault session
 
 -- a sound frame is a request
 abbrev pub asks : List FieldValue → Bool
@@ -276,7 +276,7 @@ asks fields = is_request (kind_of (value_of 35 fields))
 abbrev pub after_content : LimitsValue → Option (List FieldValue) → SessionValue → SessionValue
 after_content limits None session = after_noting note.NotSound session
 after_content limits (Some fields) session =
-    after_read limits (asks fields) fields (read_of fields) (named (asks fields) fields session)
+    after_result limits (asks fields) fields (read_of fields) (named (asks fields) fields session)
 
 -- a frame
 abbrev pub after_frame : LimitsValue → Option (List FieldValue) → SessionValue → SessionValue

@@ -18,7 +18,9 @@ use crate::decide::State;
 use crate::hands::Hands;
 use crate::take::take_frame;
 use crate::totals::{Totals, zero_trees};
-use fix_fields::{Found, Id, Writer, frame_is_within, frame_stays, next_frame};
+use fix_fields::{
+    Found, Id, Writer, found_stays, frame_is_within, frame_stays, next_frame,
+};
 use fold_law::Memory;
 use gate_ports::{FetchEnd, Sink, Source, fetch_up_to};
 use limit_table::Limits;
@@ -268,6 +270,7 @@ fn run_frames<H: Hand, M: Hand, S: Source, V: Sink, C: Sink>(
     ensures client_name { C.name sinks.new.client ≡ C.name sinks.old.client }
 {
     frame_stays();
+    found_stays();
     match zero_trees(alloc, limits) {
         Ok(trees) => state.trees = trees,
         Err(Memory) => return End::Memory,
