@@ -1,13 +1,13 @@
 -- What is asked for an order's legs, and what the hands and the acts tell of it.
-use Rattle.std.proofs.Common.{◌≡◌, ◌≢◌, ℕ, ◌+◌, ◌-◌, ◌≤◌, ◌<◌, ◌==◌, List, [], ◌∷◌, ◌++◌, length}
-use Rattle.std.proofs.Common.{refl, sym, ap, ◌∙◌, subst, arith, Bool, true, false, cond, ◌||◌, ◌^◌}
+use Rattle.std.proofs.Common.{◌≡◌, ◌≢◌, ℕ, ◌+◌, ◌≤◌, ◌<◌, ◌==◌, List, [], ◌∷◌, ◌++◌}
+use Rattle.std.proofs.Common.{refl, sym, ap, ◌∙◌, subst, arith, Bool, true, false, cond, ◌||◌}
 use Rattle.std.proofs.Common.{append_assoc}
-use Rattle.std.specs.Prelude.{Option, Some, None, Result, Ok, Err, nat_lt, slice_index, fold, All}
-use Rattle.std.specs.Prelude.{AllPairs, IsTrue}
+use Rattle.std.specs.Prelude.{Option, Some, None, Ok, nat_lt, fold, All}
+use Rattle.std.specs.Prelude.{AllPairs, IsTrue, ◌↔◌}
 use Rattle.std.specs.List.{list_any}
 use Rattle.std.proofs.lemmas.List.Elements.{All-cons, All-nil}
 use Rattle.std.proofs.lemmas.List.Kept.{AllPairs-cons}
-use Rattle.std.proofs.lemmas.Bool.{eqb-true, true≢false}
+use Rattle.std.proofs.lemmas.Bool.{eqb-true, true≢false, false_from_ne_true}
 use Rattle.std.proofs.lemmas.Bool.Decides.{nat_tests}
 use Rattle.fold_law.specs.declared.limits.TheConstants.{LEAF}
 use Rattle.risk_board.specs.Calls.{post_count}
@@ -22,7 +22,7 @@ use Rattle.admit_core.specs.declared.ask.Verdict.{Verdict}
 use Rattle.admit_core.specs.declared.ask.Verdict.TheVariants as verdict
 use Rattle.admit_core.specs.Asks.{IsLegOf, AreApart, is_short, leg_at, Leg as CoreLeg}
 use Rattle.admit_core.specs.Asks.{legs_of as core_legs, last_post as last_call}
-use Rattle.admit_core.specs.Calls.{with_calls, root_at}
+use Rattle.admit_core.specs.Calls.{with_calls}
 use Rattle.admit_core.specs.Admission.{asking_calls, retracting_calls, calls_by, halt_calls_by}
 use Rattle.admit_core.specs.Admission.{halt_read}
 use Rattle.admit_core.specs.Verdicts.{is_above, verdict_of as core_verdict}
@@ -36,6 +36,7 @@ use Rattle.session_engine.specs.OrderTrees.{exposure_of}
 use Rattle.session_engine.specs.Session.{Leg, early_refusal, verdict_of}
 use Rattle.session_engine.specs.Stands.{InStep, Roots, legs_by, totals_at, posts_after, read_acts}
 use Rattle.session_engine.specs.Stands.{asked_acts, retracted_acts, SendsIn, sent_tree, roots_read}
+use Rattle.session_engine.specs.Stands.{IsJudged, AsksSent, AsksLate, early_at, early_by}
 use Rattle.session_engine.specs.Asking.{ask_of, refusal_by, is_quota, roots_by, made_in}
 use Rattle.session_engine.specs.Asking.{made_in_all}
 use Rattle.session_engine.specs.Asking.{posts_told, reads_told}
@@ -515,3 +516,102 @@ module _ (limits : LimitsValue) (rows : OrderRows) (order : OrderValue) (sum hal
       append_none : (calls : List Call) → calls ++ [] ≡ calls
       append_none [] = refl
       append_none (call ∷ calls) = ap (λ more. call ∷ more) (append_none calls)
+
+  -- where the values fit a leaf
+  pub fits_from : (nothing : Type 0) → (nothing → ⊥) → (nothing ↔ (has_capped legs ≡ true))
+      → has_capped legs ≡ false
+  fits_from nothing there exactly = false_from_ne_true (has_capped legs)
+      (λ capped. there (exactly.1 capped))
+
+  -- what is known of an order that was posted: its values fit, and enough posts were left
+  pub record IsPosted (ask : Ask) (outcome : Outcome) (made : List ℕ) : Type 0 where
+    pub is : ask ≡ ask_of legs
+    pub fits : has_capped legs ≡ false
+    pub read : outcome.verdict ≢ verdict.Quota
+    pub enough : has_short limits acts legs ≡ false
+    pub left : HaveLeft
+    pub made_is : made ≡ counted
+
+  pub is_posted : (ask : Ask) (outcome : Outcome) (made : List ℕ) → ask ≡ ask_of legs
+      → has_capped legs ≡ false → is_quota outcome.verdict ≡ false
+      → ((outcome.verdict ≡ verdict.Quota) ↔ IsTrue (is_short sum ask))
+      → made ≡ made_in_all sum ask.trees → IsPosted ask outcome made
+  is_posted ask outcome made is fits unless_quota exactly made_is =
+      let read = quota_isnt outcome.verdict unless_quota in
+      let enough = false_from_ne_true (has_short limits acts legs)
+      (λ short. read (exactly.1 (short_same ask is ∙ short))) in
+      let left = have_left enough in
+      record {
+        is = is;
+        fits = fits;
+        read = read;
+        enough = enough;
+        left = left;
+        made_is = made_is ∙ made_are ask is left;
+      }
+
+  -- too few posts were left
+  pub asks_quota : (ask : Ask) (outcome : Outcome) → ask ≡ ask_of legs → has_capped legs ≡ false
+      → rows_of limits order ≡ Ok rows → is_quota outcome.verdict ≡ true
+      → ((outcome.verdict ≡ verdict.Quota) ↔ IsTrue (is_short sum ask))
+      → early_by limits acts trees order ≡ Some refusal.Quota
+  asks_quota ask outcome is fits known quota exactly =
+      ap (early_at limits acts trees order) known
+      ∙ quota_early fits (sym (short_same ask is) ∙ exactly.0 (quota_is outcome.verdict quota))
+
+  module _ (ask : Ask) (outcome : Outcome) (made : List ℕ) (p : IsPosted ask outcome made)
+      (known : rows_of limits order ≡ Ok rows)
+      (judged : outcome.verdict ≢ verdict.Quota
+      → outcome.verdict ≡ core_verdict ask outcome.halt outcome.roots)
+      (posted read : List Act) (posted_is : posted ≡ acts ++ posts_told ask.trees made 1 ask.new)
+      (halt_number : ℕ) (number_is : halt_number ≡ halt_tree limits)
+      (read_is : read ≡ posted ++ reads_told halt_number ask.trees (roots_by outcome)) where
+    asked : read ≡ asked_acts limits rows legs (roots_by outcome) acts
+    asked = told_asked ask made (roots_by outcome) posted read p.is p.made_is posted_is
+        (read_is ∙ ap (λ n. posted ++ reads_told n ask.trees (roots_by outcome)) number_is)
+
+    abbrev judged_as : (why : Option Refusal) → refusal_by outcome.verdict ≡ why
+        → IsJudged limits order acts trees why
+    judged_as why is = record {
+      rows = rows;
+      rows_are = known;
+      roots = roots_by outcome;
+      early = none_early p.fits p.enough;
+      verdict_is = sym (verdict_same ask outcome p.is (judged p.read)) ∙ is;
+    }
+
+    -- an order that was sent
+    pub sent_step : (trees_after : List TreeTotals) → refusal_by outcome.verdict ≡ None
+        → SendsIn limits order trees trees_after
+        → InStep limits (with_calls (calls_by outcome.verdict ask outcome.roots) sum)
+        (with_calls (halt_calls_by outcome.verdict outcome.halt) halt) read trees_after
+    sent_step trees_after none sends =
+        rw asked (step_sent ask outcome trees_after p.is p.fits (sent_is outcome.verdict none) known
+        sends)
+
+    pub sent_asks : (trees_after : List TreeTotals) → refusal_by outcome.verdict ≡ None
+        → SendsIn limits order trees trees_after
+        → AsksSent limits order acts read trees trees_after
+    sent_asks trees_after none sends = record {
+      judged = judged_as None none;
+      acts_are = asked;
+      kept = sends;
+    }
+
+    -- an order that was refused by its roots
+    module _ (why : Refusal) (is : refusal_by outcome.verdict ≡ Some why) (back : List Act)
+        (back_is : back ≡ read ++ posts_told ask.trees made 2 ask.old) where
+      retracted : back ≡ retracted_acts limits rows legs (roots_by outcome) acts
+      retracted = told_retracted ask made (roots_by outcome) read back p.is p.made_is asked back_is
+
+      pub late_step : InStep limits (with_calls (calls_by outcome.verdict ask outcome.roots) sum)
+          (with_calls (halt_calls_by outcome.verdict outcome.halt) halt) back trees
+      late_step =
+          rw retracted (step_late ask outcome p.is p.read (sent_isnt outcome.verdict why is))
+
+      pub late_asks : AsksLate limits order acts back trees trees why
+      late_asks = record {
+        judged = judged_as (Some why) is;
+        acts_are = retracted;
+        kept = refl;
+      }

@@ -1,4 +1,5 @@
--- The calls, the posts and the last posts of acts one after another, and of the hands that made them.
+-- The calls, the posts and the last posts of acts one after another, and of the hands that made
+-- them.
 use Rattle.std.proofs.Common.{◌≡◌, ℕ, ◌+◌, ◌≤◌, ◌<◌, ◌==◌, List, [], ◌∷◌, ◌++◌, refl, sym, ap, ◌∙◌}
 use Rattle.std.proofs.Common.{arith, true, false, Bool, cond}
 use Rattle.std.specs.Prelude.{count_by, fold, nat_lt}

@@ -1,6 +1,6 @@
 -- What is kept of each tree after an order was sent.
-use Rattle.std.proofs.Common.{◌≡◌, ℕ, ◌+◌, ◌<◌, ◌==◌, List, [], ◌∷◌, length, refl, sym, ap, ◌∙◌}
-use Rattle.std.proofs.Common.{arith, Bool, true, false, cond, ◌||◌}
+use Rattle.std.proofs.Common.{◌≡◌, ℕ, ◌+◌, ◌<◌, ◌==◌, List, length, refl, sym, ap, ◌∙◌}
+use Rattle.std.proofs.Common.{arith, Bool, true, false, cond}
 use Rattle.std.specs.Prelude.{Ok, slice_index, slice_set}
 use Rattle.admit_core.specs.declared.ask.Ask.{Ask}
 use Rattle.std.specs.List.{list_any}
@@ -10,7 +10,7 @@ use Rattle.session_engine.specs.declared.rows.OrderRows.{OrderRows}
 use Rattle.session_engine.specs.declared.totals.TreeTotals.{TreeTotals}
 use Rattle.session_engine.specs.Counted.{no_tree}
 use Rattle.session_engine.specs.Trees.{LimitsValue, halt_tree, account_tree, symbol_tree}
-use Rattle.session_engine.specs.OrderTrees.{OrderValue, rows_of, trees_by, counts_in, units_up}
+use Rattle.session_engine.specs.OrderTrees.{OrderValue, rows_of, trees_by, units_up}
 use Rattle.session_engine.specs.OrderTrees.{exposure_of}
 use Rattle.session_engine.specs.Stands.{totals_at, SendsIn, sent_tree}
 use Rattle.session_engine.proofs.AskLemmas.{chosen}

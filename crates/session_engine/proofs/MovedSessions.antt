@@ -3,7 +3,7 @@ use Rattle.std.proofs.Common.{◌≡◌, ℕ, ◌+◌, ◌-◌, ◌≤◌, List,
 use Rattle.std.proofs.Common.{refl, sym, ap, ◌∙◌, arith, length-append, length-drop}
 use Rattle.std.proofs.Common.{Option, Some, None}
 use Rattle.std.proofs.Common.{nat_lt, ◌||◌, if◌then◌else◌}
-use Rattle.std.specs.Prelude.{Result, Ok, Err}
+use Rattle.std.specs.Prelude.{Result, Ok, Err, Bool, true, false}
 use Rattle.std.specs.List.{list_any}
 use Rattle.std.proofs.lemmas.List.{map-append}
 use Rattle.fix_fields.specs.Fields.{FieldValue}
@@ -22,7 +22,7 @@ use Rattle.session_engine.specs.Answers.{code_of, fault_code, note_code}
 use Rattle.session_engine.specs.declared.rows.OrderRows.{OrderRows}
 use Rattle.session_engine.specs.Trees.{LimitsValue, account_tree, symbol_tree}
 use Rattle.session_engine.specs.OrderTrees.{OrderValue, rows_of}
-use Rattle.session_engine.specs.Session.{SessionValue, Leg, with_post, after_rows}
+use Rattle.session_engine.specs.Session.{SessionValue, Leg, after_rows}
 use Rattle.risk_journal.specs.ActLists.{SeenAt}
 use Rattle.session_engine.specs.Session.{next_read}
 use Rattle.session_engine.specs.Session.{with_act, after_posting, after_reading, legs_of}
@@ -264,7 +264,8 @@ with_rows place limits fields order (Ok rows) session =
     let legs = legs_of limits rows session order in
     let refusal = early_refusal limits session.acts legs in
     let legs_moved = legs_of limits rows (moved place session) order in
-    let refusal_moved : early_refusal limits (map (placed place) session.acts) legs_moved ≡ refusal =
+    let refusal_moved : early_refusal limits (map (placed place) session.acts) legs_moved ≡ refusal
+    =
     ap (early_refusal limits (map (placed place) session.acts))
     (legs_of-moved place limits rows session order)
     ∙ early_refusal-moved place limits session.acts legs in

@@ -1,13 +1,14 @@
--- Among different names a name has one place, and the trees of an order are different trees of sums.
-use Rattle.std.proofs.Common.{◌≡◌, ◌≢◌, ℕ, zero, suc, ◌+◌, ◌<◌, ◌==◌, List, [], ◌∷◌, length, map}
+-- Among different names a name has one place, and the trees of an order are different trees of
+-- sums.
+use Rattle.std.proofs.Common.{◌≡◌, ℕ, zero, suc, ◌+◌, ◌<◌, ◌==◌, List, [], ◌∷◌, length}
 use Rattle.std.proofs.Common.{refl, sym, ap, ◌∙◌, arith, Bool, true, false, Option, Some, None}
-use Rattle.std.proofs.Common.{cond, inl, inr}
-use Rattle.std.specs.Prelude.{Result, Ok, Err, slice_get, nat_lt}
+use Rattle.std.proofs.Common.{cond}
+use Rattle.std.specs.Prelude.{Ok, slice_get, nat_lt}
 use Rattle.std.specs.Option.{option_map}
 use Rattle.std.specs.List.{IsDistinct, AllByRecursion}
 use Rattle.std.specs.Str.{bytes_eq}
 use Rattle.std.specs.Cmp.Lexicographic.{bytes_decides}
-use Rattle.std.proofs.lemmas.Bool.{cases_Bool, false_from_ne_true, true≢false, ne_eqb, eq-eqb}
+use Rattle.std.proofs.lemmas.Bool.{false_from_ne_true, true≢false, ne_eqb, eq-eqb}
 use Rattle.std.proofs.lemmas.Bool.Decides.{nat_tests}
 use Rattle.std.proofs.lemmas.List.{length-map}
 use Rattle.std.proofs.lemmas.Map.Keys.{IsDistinct-head, IsDistinct-tail}
@@ -16,8 +17,6 @@ use Rattle.limit_table.specs.Kinds.{same_text}
 use Rattle.limit_table.specs.Places.{IsPlaceOf, account_names, symbol_names}
 use Rattle.limit_table.specs.Files.{IsHeldByFile}
 use Rattle.limit_table.proofs.FileLimits.{held_is_file_limits}
-use Rattle.session_engine.specs.declared.refusal.Refusal.{Refusal}
-use Rattle.session_engine.specs.declared.refusal.Refusal.TheVariants.{UnknownAccount, UnknownSymbol}
 use Rattle.session_engine.specs.declared.rows.OrderRows.{OrderRows}
 use Rattle.session_engine.specs.Trees.{LimitsValue, halt_tree, account_tree, symbol_tree}
 use Rattle.session_engine.specs.OrderTrees.{OrderValue, place_among, rows_at, rows_of}
@@ -154,7 +153,8 @@ pub record TreeTests (limits : LimitsValue) (rows : OrderRows) : Type 0 where
   pub halt_above : nat_lt (halt_tree limits) (halt_tree limits) ≡ false
 
 apart : (a b : ℕ) → a < b → ((a == b) ≡ false) × ((b == a) ≡ false)
-apart a b less = (ne_eqb a b (λ e. absurd (omega (arith, e))), ne_eqb b a (λ e. absurd (omega (arith, e))))
+apart a b less =
+    (ne_eqb a b (λ e. absurd (omega (arith, e))), ne_eqb b a (λ e. absurd (omega (arith, e))))
 
 below : (a b : ℕ) → a < b → nat_lt a b ≡ true
 below a b less = grind (arith, nat_tests)

@@ -1,5 +1,5 @@
--- Worked rows, computed by the definitions: one order at each limit and above it, and names that the
--- limits don't have.
+-- Worked rows, computed by the definitions: one order at each limit and above it, and names that
+-- the limits don't have.
 use Rattle.std.proofs.Common.{◌≡◌, ℕ, List, [], ◌∷◌, ◌++◌, refl, codes}
 use Rattle.std.specs.Prelude.{Some, None, true, false, drop}
 use Rattle.risk_journal.specs.declared.acts.Act.{Act}

@@ -35,7 +35,8 @@ code_of Cap = 6
 code_of UnknownAccount = 8
 code_of UnknownSymbol = 9
 
--- OrdRejReason (103): 0 broker or exchange option, 1 unknown symbol, 3 order exceeds limit, 99 other
+-- OrdRejReason (103): 0 broker or exchange option, 1 unknown symbol, 3 order exceeds limit, 99
+-- other
 abbrev pub order_reason_of : Refusal → ℕ
 order_reason_of Firm = 3
 order_reason_of Account = 3

@@ -78,4 +78,5 @@ posts_told trees made more values =
 abbrev pub reads_told : ℕ → List ℕ → Roots → List Act
 reads_told halt trees roots =
     read_act halt roots.halt ∷ read_act (slice_index trees 0) roots.firm
-    ∷ read_act (slice_index trees 1) roots.account ∷ read_act (slice_index trees 2) roots.symbol ∷ []
+    ∷ read_act (slice_index trees 1) roots.account
+    ∷ read_act (slice_index trees 2) roots.symbol ∷ []

@@ -1,5 +1,5 @@
 -- The two hands of a session: one on the trees of sums, one on the halt tree.
-use Rattle.std.specs.Prelude.{◌≡◌, ℕ, ◌≤◌}
+use Rattle.std.specs.Prelude.{◌≡◌, ◌≤◌}
 use Rattle.fold_law.specs.declared.limits.TheConstants.{LEAF}
 use Rattle.risk_board.specs.Hands.{HandValue}
 use Rattle.session_engine.specs.Trees.{LimitsValue, halt_tree}

@@ -89,8 +89,8 @@ after_reading tree session =
       reads = drop 1 session.reads;
     }
 
--- a tree that an order counts in: its limit, the value last posted, the value with the order, and the
--- refusal where the root is above the limit
+-- a tree that an order counts in: its limit, the value last posted, the value with the order, and
+-- the refusal where the root is above the limit
 pub record Leg : Type 0 where
   pub tree : ℕ
   pub limit : ℕ
@@ -149,8 +149,8 @@ roots_of limits legs = halt_tree limits ∷ map (λ leg. leg.tree) legs
 abbrev pub read_root : SessionValue → ℕ → SessionValue
 read_root session tree = after_reading tree session
 
--- why the roots that were read refuse the order, if they do: somebody has halted, or a root is above
--- its limit
+-- why the roots that were read refuse the order, if they do: somebody has halted, or a root is
+-- above its limit
 abbrev pub verdict_of : List Leg → List SeenAt → Option Refusal
 verdict_of legs reads =
     if nat_lt 0 (next_read reads).value then Some refusal.Halt else first_above legs (drop 1 reads)

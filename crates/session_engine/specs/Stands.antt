@@ -25,8 +25,8 @@ use Rattle.session_engine.specs.Ids.{AddsId, SameIds}
 abbrev pub totals_at : ℕ → List TreeTotals → TreeTotals
 totals_at tree trees = slice_index_or trees tree no_tree
 
--- Both hands made the calls that the acts tell, and what is kept as last posted in a tree is what the
--- acts last posted there.
+-- Both hands made the calls that the acts tell, and what is kept as last posted in a tree is what
+-- the acts last posted there.
 pub record InStep (limits : LimitsValue) (sum halt : HandValue) (acts : List Act)
     (trees : List TreeTotals) : Type 0 where
   pub sum_hand : IsSumHand limits sum
@@ -162,7 +162,8 @@ Decides limits order has has_after acts acts_after trees trees_after totals tota
     (asked : List Act) × Asks limits order acts asked trees trees_after None
     × (acts_after ≡ asked ++ Sent totals.frames ∷ [])
     × (totals_after ≡ sent_totals totals) × AddsId has has_after order.id
-Decides limits order has has_after acts acts_after trees trees_after totals totals_after (Some why) =
+Decides limits order has has_after acts acts_after trees trees_after totals totals_after
+    (Some why) =
     (asked : List Act) × Asks limits order acts asked trees trees_after (Some why)
     × (acts_after ≡ asked ++ Refused totals.frames (code_of why) 0 0 ∷ [])
     × (totals_after ≡ refused_totals totals) × SameIds has has_after

@@ -29,7 +29,8 @@ fn exposure_of(order: &Order) -> u128
     u128::from(order.quantity) * u128::from(order.price)
 }
 
-/// What the orders sent are worth in a tree with one more, in whole currency units, rounded up once.
+/// What the orders sent are worth in a tree with one more, in whole currency units, rounded up
+/// once.
 fn value_with(own: &TreeTotals, order: &Order) -> u128
     requires fits { own.now.exposure < 2 ^ 99 }
     ensures { result ≡ units_up (own.now.exposure + exposure_of (order_value order.now)) }
@@ -192,8 +193,8 @@ fn keep_sent(
     keep_in(trees, ask.trees[2], exposure, ask.new[2]);
 }
 
-/// Posts and reads for an order of these rows, and keeps and tells what was done. It is refused before
-/// that where a value is more than a leaf holds, and then where too few posts are left.
+/// Posts and reads for an order of these rows, and keeps and tells what was done. It is refused
+/// before that where a value is more than a leaf holds, and then where too few posts are left.
 fn ask_in<H: Hand, M: Hand>(
     hands: &mut Hands<H, M>,
     acts: &mut Vec<Act>,

@@ -1,5 +1,9 @@
-//! A session: it takes its frames one after another, asks its hands about each order, and writes what it
-//! sends to the venue and what it answers to the client.
+//! A session: it takes its frames one after another, asks its hands about each order, and writes
+//! what it sends to the venue and what it answers to the client.
+//!
+//! An order counts in three trees: the firm's, its account's and its symbol's. The session posts in
+//! the three what its orders are worth there with this one, and reads the halt root and the three
+//! roots after that; where the order is refused by a root, it posts the old values again.
 #![tactic(auto)]
 
 mod answer;

@@ -3,8 +3,8 @@ ghost use Rattle.std.specs.Prelude.{◌≤◌};
 
 use fix_fields::Id;
 
-/// A limit order to buy: its ClOrdID (11), its Account (1), its Symbol (55), its OrderQty (38) in whole
-/// units and its Price (44) in ten-thousandths of a currency unit.
+/// A limit order to buy: its ClOrdID (11), its Account (1), its Symbol (55), its OrderQty (38) in
+/// whole units and its Price (44) in ten-thousandths of a currency unit.
 #[derive(Clone, Copy, Debug)]
 pub(crate) struct Order {
     pub id: Id,

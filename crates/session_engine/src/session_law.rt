@@ -13,7 +13,8 @@ ghost use Rattle.session_engine.specs.Follows.{FollowsInput};
 ghost use Rattle.session_engine.specs.Session.{after_frames, opening};
 ghost use Rattle.session_engine.specs.Trees.{LimitsValue};
 
-/// After any frames and any reads, in each tree with a limit, what the orders sent are worth is admitted.
+/// After any frames and any reads, in each tree with a limit, what the orders sent are worth is
+/// admitted.
 pub fn sent_orders_are_covered()
     ensures { (limits : LimitsValue) (reads : List SeenAt) (frames : List FrameValue)
         → CoversOrders limits (after_frames limits (opening reads) frames) }

@@ -1,5 +1,5 @@
-//! One session over plain boards and ports in memory, with ample memory: how it ends where a port fails,
-//! and each refusal once, with its acts and its message.
+//! One session over plain boards and ports in memory, with ample memory: how it ends where a port
+//! fails, and each refusal once, with its acts and its message.
 ghost use Rattle.std.specs.Prelude.{◌≡◌, ◌≤◌, length, IfOk};
 ghost use Rattle.limit_table.specs.Files.{IsHeldByFile};
 
@@ -52,8 +52,8 @@ const HUGE: &[u8] =
 const FORWARD: &[u8] =
     b"8=FIX.4.4\x019=116\x0135=D\x0149=GATE\x0156=VENUE\x0134=1\x0152=20240102-10:00:00\x0111=a1\x011=ACC\x0155=XYZ\x0154=1\x0138=100\x0140=2\x0144=10.0000\x0160=20240102-10:00:00\x0110=193\x01";
 
-/// What a session over these limits and this input does. The read and the write of these numbers fail,
-/// from 0.
+/// What a session over these limits and this input does. The read and the write of these numbers
+/// fail, from 0.
 #[derive(Clone, Copy)]
 struct Row {
     name: &'static str,
@@ -216,7 +216,7 @@ fn sessions_end_by_their_ports(rt: HostRuntime) -> Result<(), Fail> {
 }
 
 #[test]
-fn each_refusal_is_told_and_answered(rt: HostRuntime) -> Result<(), Fail> {
+fn refusals_by_a_root_post_back_and_are_answered(rt: HostRuntime) -> Result<(), Fail> {
     let rows = [
         refused(
             "the firm's root is above",
@@ -242,6 +242,24 @@ fn each_refusal_is_told_and_answered(rt: HostRuntime) -> Result<(), Fail> {
             3,
             b"8=FIX.4.4\x019=132\x0135=8\x0149=GATE\x0156=C1\x0134=1\x0152=20240102-10:00:00\x0137=NONE\x0111=a1\x0117=G1\x01150=8\x0139=8\x01103=3\x011=ACC\x0155=XYZ\x0154=1\x0138=100\x01151=0\x0114=0\x016=0\x0158=SYMBOL\x0110=208\x01",
         ),
+        Row {
+            halted: true,
+            ..refused(
+                "somebody has halted",
+                SMALL_SYMBOL,
+                ORDER,
+                12,
+                4,
+                b"8=FIX.4.4\x019=130\x0135=8\x0149=GATE\x0156=C1\x0134=1\x0152=20240102-10:00:00\x0137=NONE\x0111=a1\x0117=G1\x01150=8\x0139=8\x01103=0\x011=ACC\x0155=XYZ\x0154=1\x0138=100\x01151=0\x0114=0\x016=0\x0158=HALT\x0110=030\x01",
+            )
+        },
+    ];
+    runs_all(&rt, rt.alloc(), &rows)
+}
+
+#[test]
+fn refusals_before_any_post_are_answered(rt: HostRuntime) -> Result<(), Fail> {
+    let rows = [
         refused(
             "too few posts are left",
             ONE_POST,
@@ -274,17 +292,6 @@ fn each_refusal_is_told_and_answered(rt: HostRuntime) -> Result<(), Fail> {
             9,
             b"8=FIX.4.4\x019=140\x0135=8\x0149=GATE\x0156=C1\x0134=1\x0152=20240102-10:00:00\x0137=NONE\x0111=a1\x0117=G1\x01150=8\x0139=8\x01103=1\x011=ACC\x0155=XYZ\x0154=1\x0138=100\x01151=0\x0114=0\x016=0\x0158=UNKNOWN SYMBOL\x0110=029\x01",
         ),
-        Row {
-            halted: true,
-            ..refused(
-                "somebody has halted",
-                SMALL_SYMBOL,
-                ORDER,
-                12,
-                4,
-                b"8=FIX.4.4\x019=130\x0135=8\x0149=GATE\x0156=C1\x0134=1\x0152=20240102-10:00:00\x0137=NONE\x0111=a1\x0117=G1\x01150=8\x0139=8\x01103=0\x011=ACC\x0155=XYZ\x0154=1\x0138=100\x01151=0\x0114=0\x016=0\x0158=HALT\x0110=030\x01",
-            )
-        },
     ];
     runs_all(&rt, rt.alloc(), &rows)
 }

@@ -1,5 +1,5 @@
 -- What is asked is the legs.
-use Rattle.std.proofs.Common.{◌≡◌, ap, ◌∙◌, arith}
+use Rattle.std.proofs.Common.{ap, ◌∙◌}
 use Rattle.std.specs.Prelude.{slice_index_or}
 use Rattle.session_engine.specs.Asking.{ask_of}
 use Rattle.session_engine.specs.Orders.{order_value}

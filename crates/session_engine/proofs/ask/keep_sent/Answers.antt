@@ -1,11 +1,7 @@
 -- The order is kept in three different trees.
-use Rattle.std.proofs.Common.{◌≡◌, ℕ, ◌+◌, List, length, ap, ◌∙◌, sym, arith, refl}
-use Rattle.std.specs.Prelude.{slice_index, slice_set}
+use Rattle.std.proofs.Common.{◌≡◌, length, ap, ◌∙◌, arith}
 use Rattle.std.proofs.lemmas.List.{length-set}
-use Rattle.admit_core.specs.declared.ask.Ask.{Ask}
-use Rattle.session_engine.specs.declared.totals.TreeTotals.{TreeTotals}
 use Rattle.session_engine.specs.Orders.{order_value}
-use Rattle.session_engine.specs.Stands.{totals_at}
 use Rattle.session_engine.proofs.Places.{known_rows}
 use Rattle.session_engine.proofs.KeptLemmas.{kept_sent, kept_at}
 use Rattle.session_engine.proofs.ask.keep_sent.Goals as goal
@@ -32,8 +28,10 @@ pub returns : goal.returns
 returns c =
     let are = known_rows c.args.limits.now (order_value c.args.order.now) c.args.rows.now
     c.requires.rows in
-    kept_sent c.args.limits.now c.args.rows.now (order_value c.args.order.now) c.args.trees.now.items are
-    c.requires.count c.exposure_of-exposure.result c.keep_in.new.trees.items c.keep_in-2.new.trees.items
+    kept_sent c.args.limits.now c.args.rows.now (order_value c.args.order.now)
+    c.args.trees.now.items are
+    c.requires.count c.exposure_of-exposure.result c.keep_in.new.trees.items
+    c.keep_in-2.new.trees.items
     c.keep_in-3.new.trees.items c.requires.rows c.exposure_of-exposure.ensures.exposure
     (c.keep_in.ensures ∙ ap (kept_at 0 c.args.trees.now.items c.exposure_of-exposure.result)
     c.requires.ask)

@@ -1,5 +1,5 @@
 -- The rows are those of the look-ups.
-use Rattle.std.proofs.Common.{◌≡◌, refl, sym, ap, ◌∙◌}
+use Rattle.std.proofs.Common.{ap, ◌∙◌}
 use Rattle.std.specs.Prelude.{Some, None}
 use Rattle.limit_table.specs.Places.{symbol_names}
 use Rattle.session_engine.specs.Orders.{order_value}
