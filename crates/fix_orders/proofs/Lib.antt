@@ -10,4 +10,5 @@ pub mod Rejects
 pub mod OtherFields
 pub mod Passed
 pub mod OrderValues
+pub mod OrderHeads
 pub mod OrderRejects

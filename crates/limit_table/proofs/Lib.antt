@@ -15,3 +15,4 @@ pub mod FileLimits
 pub mod Spelled
 pub mod InRange
 mod Rows
+pub mod SymbolPrices

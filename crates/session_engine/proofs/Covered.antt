@@ -1,9 +1,9 @@
--- After each frame what a session has admitted in a tree is its last post there, and that is what
--- its orders are worth there.
-use Rattle.std.proofs.Common.{◌≡◌, ℕ, ◌+◌, ◌≤◌, ◌<◌, ◌==◌, List, [], ◌∷◌, ◌++◌, fold}
+-- After each frame what a session has admitted in a tree is its last post there, and that is what its
+-- orders are worth there.
+use Rattle.std.proofs.Common.{◌≡◌, ℕ, ◌+◌, ◌/◌, ◌≤◌, ◌<◌, ◌==◌, List, [], ◌∷◌, ◌++◌, fold, length}
 use Rattle.std.proofs.Common.{refl, ap, sym, ◌∙◌, arith, Bool, true, false, cond, min, subst}
 use Rattle.std.proofs.Common.{length-append}
-use Rattle.std.specs.Prelude.{Option, Some, None, Result, Ok, Err, nat_le, nat_lt, drop}
+use Rattle.std.specs.Prelude.{Option, Some, None, Result, Ok, Err, nat_le, nat_lt, sum_by, drop}
 use Rattle.std.specs.Prelude.{IfSome, slice_index_or}
 use Rattle.std.specs.List.{list_any}
 use Rattle.std.proofs.lemmas.List.{length-map}
@@ -18,7 +18,7 @@ use Rattle.risk_board.specs.History.Event.{Posted, Saw}
 use Rattle.risk_journal.specs.declared.acts.Act.{Act}
 use Rattle.risk_journal.specs.declared.acts.Act.TheVariants.{Post, Read, Sent, Refused, Noted}
 use Rattle.risk_journal.specs.declared.acts.Act.TheVariants.{Ended}
-use Rattle.risk_journal.specs.ActLists.{SeenAt, last_post, latest, events_of}
+use Rattle.risk_journal.specs.ActLists.{SeenAt, last_post, latest, posts_in, events_of}
 use Rattle.limit_table.specs.declared.kind.AccountRow.{AccountRow}
 use Rattle.limit_table.specs.declared.kind.SymbolRow.{SymbolRow}
 use Rattle.session_engine.specs.declared.refusal.Refusal.{Refusal}
@@ -28,15 +28,22 @@ use Rattle.session_engine.specs.Trees.{LimitsValue, halt_tree, account_tree, sym
 use Rattle.session_engine.specs.Trees.{tree_limits, limit_of, account_limits, symbol_limits}
 use Rattle.session_engine.specs.OrderTrees.{OrderValue, rows_of, trees_by, counts_in, exposure_of}
 use Rattle.session_engine.specs.OrderTrees.{exposure_in, exposures_in, units_up, value_in}
+use Rattle.fix_orders.specs.declared.message.FieldFault.{FieldFault}
+use Rattle.fix_orders.specs.declared.message.Message.{Message}
+use Rattle.fix_orders.specs.declared.message.Message.TheVariants as message
+use Rattle.fix_orders.specs.Reading.{read_of}
+use Rattle.session_engine.specs.declared.note.Note.TheVariants as note
+use Rattle.session_engine.specs.Reserves.{order_of}
 use Rattle.session_engine.specs.Session.{SessionValue, Leg, opening, next_read, after_frames}
 use Rattle.session_engine.specs.Session.{after_frame, after_rows, after_checks, after_verdict}
-use Rattle.session_engine.specs.Session.{legs_of, order_of, client_after, verdict_of}
+use Rattle.session_engine.specs.Session.{early_refusal, legs_of, verdict_of, named, asks}
+use Rattle.session_engine.specs.Session.{after_message, after_fault, after_result}
 use Rattle.session_engine.specs.Session.{post_new, read_root, roots_of}
-use Rattle.session_engine.specs.Answers.{code_of}
+use Rattle.session_engine.specs.Answers.{code_of, fault_code, note_code}
 use Rattle.session_engine.specs.Stands.{read_act}
 use Rattle.session_engine.specs.Admitted.{Standing, nothing, after_event, after_post, after_read}
 use Rattle.session_engine.specs.Admitted.{CoversOrders, IsCovered}
-use Rattle.session_engine.proofs.Places.{TreeTests, tree_tests, known_rows}
+use Rattle.session_engine.proofs.Places.{AreRows, TreeTests, tree_tests, known_rows}
 use Rattle.session_engine.proofs.StepLemmas.{snocs}
 
 -- an event that counts or doesn't, in front of others
@@ -104,8 +111,8 @@ posted_from limit tree start (Refused frame code one two ∷ acts) =
 posted_from limit tree start (Noted frame code one two ∷ acts) = posted_from limit tree start acts
 posted_from limit tree start (Ended end ∷ acts) = posted_from limit tree start acts
 
--- What holds after each frame: what is posted in the tree is admitted, and it is what the orders
--- are worth there.
+-- What holds after each frame: what is posted in the tree is admitted, and it is what the orders are
+-- worth there.
 record IsEven (limits : LimitsValue) (limit tree : ℕ) (acts : List Act) (orders : List OrderValue)
     : Type 0 where
   admitted : (standing_of limit tree acts).admitted ≡ last_post tree acts
@@ -448,6 +455,15 @@ even_after_note limits limit tree acts orders frame code one two even =
     even_after limits limit tree acts (Refused frame code one two ∷ []) [] orders refl
     (even.admitted ∙ sym posted, even.worth ∙ sym posted)
 
+-- a note changes nothing
+even_after_noted : (limits : LimitsValue) (limit tree : ℕ) (acts : List Act)
+    (orders : List OrderValue) (frame code one two : ℕ) → IsEven limits limit tree acts orders
+    → IsEven limits limit tree (acts ++ Noted frame code one two ∷ []) orders
+even_after_noted limits limit tree acts orders frame code one two even =
+    let posted = posted_from limit tree nothing acts in
+    even_after limits limit tree acts (Noted frame code one two ∷ []) [] orders refl
+    (even.admitted ∙ sym posted, even.worth ∙ sym posted)
+
 -- one tree with a limit, from frame to frame
 module _ (limits : LimitsValue) (limit tree : ℕ) (at : limit_of limits tree ≡ Some limit) where
   abbrev StaysEven : SessionValue → Type 0
@@ -463,8 +479,7 @@ module _ (limits : LimitsValue) (limit tree : ℕ) (at : limit_of limits tree �
       (fold read_root (fold post_new session legs) (roots_of limits legs))))
   even_after_read fields order rows session known even None is =
       subst (λ (a : List Act). IsEven limits limit tree a (session.orders ++ order ∷ []))
-      (sym (snocs session.acts
-      (sent_list limits limit tree at rows order known session even _ _ _)))
+      (sym (snocs session.acts (sent_list limits limit tree at rows order known session even _ _ _)))
       (sent_even limits limit tree at rows order known session even _ _ _ is)
   even_after_read fields order rows session known even (Some why) is =
       subst (λ (a : List Act). IsEven limits limit tree a session.orders)
@@ -492,13 +507,46 @@ module _ (limits : LimitsValue) (limit tree : ℕ) (at : limit_of limits tree �
   even_after_rows fields order (Ok rows) session known even =
       even_after_checks fields order rows session _ known even
 
+  even_after_message : (fields : List FieldValue) (whole : Message) (session : SessionValue)
+      → StaysEven session → StaysEven (after_message limits fields whole session)
+  even_after_message fields (message.New order) session even =
+      even_after_rows fields (order_of limits order) (rows_of limits (order_of limits order))
+      session refl even
+  even_after_message fields (message.Cancel request) session even = even
+  even_after_message fields (message.Replace request) session even = even
+  even_after_message fields (message.Report report) session even = even
+  even_after_message fields (message.CancelReject report) session even = even
+  even_after_message fields message.Admin session even = even
+  even_after_message fields message.Other session even =
+      even_after_noted limits limit tree session.acts session.orders session.frames
+      (note_code note.OtherType) 0 0 even
+
+  even_after_fault : (request : Bool) (fields : List FieldValue) (fault : FieldFault)
+      (session : SessionValue) → StaysEven session
+      → StaysEven (after_fault request fields fault session)
+  even_after_fault true fields fault session even =
+      even_after_note limits limit tree session.acts session.orders session.frames
+      fault_code fault.tag fault.reason even
+  even_after_fault false fields fault session even =
+      even_after_noted limits limit tree session.acts session.orders session.frames
+      (note_code note.FaultyField) fault.tag fault.reason even
+
+  even_after_result : (request : Bool) (fields : List FieldValue)
+      (read : Result Message FieldFault) (session : SessionValue) → StaysEven session
+      → StaysEven (after_result limits request fields read session)
+  even_after_result request fields (Ok whole) session even =
+      even_after_message fields whole session even
+  even_after_result request fields (Err fault) session even =
+      even_after_fault request fields fault session even
+
   even_after_frame : (fields : Option (List FieldValue)) (session : SessionValue)
       → StaysEven session → StaysEven (after_frame limits fields session)
-  even_after_frame None session even = even
+  even_after_frame None session even =
+      even_after_noted limits limit tree session.acts session.orders session.frames
+      (note_code note.NotSound) 0 0 even
   even_after_frame (Some fields) session even =
-      let named : SessionValue =
-      record session { client_id = client_after fields session.client_id } in
-      even_after_rows fields (order_of fields) (rows_of limits (order_of fields)) named refl even
+      even_after_result (asks fields) fields (read_of fields)
+      (named (asks fields) fields session) even
 
   even_after_frames : (frames : List FrameValue) (session : SessionValue) → StaysEven session
       → StaysEven (after_frames limits session frames)
@@ -507,8 +555,8 @@ module _ (limits : LimitsValue) (limit tree : ℕ) (at : limit_of limits tree �
       even_after_frames frames (after_frame limits frame.fields session)
       (even_after_frame frame.fields session even)
 
--- After any frames and reads, in each tree with a limit, what the session's sent orders are worth
--- is admitted, and is its last post.
+-- After any frames and reads, in each tree with a limit, what the session's sent orders are worth is
+-- admitted, and is its last post.
 pub covers_orders : (limits : LimitsValue) (reads : List SeenAt) (frames : List FrameValue)
     → CoversOrders limits (after_frames limits (opening reads) frames)
 covers_orders limits reads frames tree inside = by_limit (limit_of limits tree) refl

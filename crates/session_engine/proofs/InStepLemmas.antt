@@ -6,7 +6,7 @@ use Rattle.std.specs.Prelude.{count_by, fold, nat_lt}
 use Rattle.std.proofs.lemmas.List.Sums.{fold-append, sum_by-append}
 use Rattle.std.proofs.lemmas.Bool.{eq-eqb}
 use Rattle.std.proofs.lemmas.List.{append-nil}
-use Rattle.risk_board.specs.Hands.{HandValue}
+use Rattle.risk_board.specs.Hands.{HandValue, KeepsHand}
 use Rattle.session_engine.specs.declared.totals.TreeTotals.{TreeTotals}
 use Rattle.session_engine.specs.Stands.{InStep}
 use Rattle.session_engine.specs.Trees.{LimitsValue, halt_tree}
@@ -215,3 +215,37 @@ module _ (limits : LimitsValue) (sum halt : HandValue) (acts : List Act)
       → InStep limits sum halt (acts ++ Refused frame code 0 0 ∷ []) trees
   in_step_after_refused frame code step =
       after_note (Refused frame code 0 0) refl refl (λ tree start. refl) step
+
+  pub in_step_after_fault : (frame code first second : ℕ) → InStep limits sum halt acts trees
+      → InStep limits sum halt (acts ++ Refused frame code first second ∷ []) trees
+  in_step_after_fault frame code first second step =
+      after_note (Refused frame code first second) refl refl (λ tree start. refl) step
+
+  pub in_step_after_noted : (frame code first second : ℕ) → InStep limits sum halt acts trees
+      → InStep limits sum halt (acts ++ Noted frame code first second ∷ []) trees
+  in_step_after_noted frame code first second step =
+      after_note (Noted frame code first second) refl refl (λ tree start. refl) step
+
+-- hands that took room are in step as before
+pub in_step_reserved : (limits : LimitsValue) (sum sum_after halt halt_after : HandValue)
+    (acts : List Act) (trees : List TreeTotals) → KeepsHand sum sum_after
+    → KeepsHand halt halt_after → InStep limits sum halt acts trees
+    → InStep limits sum_after halt_after acts trees
+in_step_reserved limits sum sum_after halt halt_after acts trees kept also step =
+    rw (kept, also) (record {
+      sum_hand = record {
+        trees = step.sum_hand.trees;
+        quota = step.sum_hand.quota;
+        cap = step.sum_hand.cap;
+      };
+      halt_hand = record {
+        trees = step.halt_hand.trees;
+        quota = step.halt_hand.quota;
+        cap = step.halt_hand.cap;
+      };
+      sum_calls = step.sum_calls;
+      halt_calls = step.halt_calls;
+      count = step.count;
+      lasts = step.lasts;
+      capped = step.capped;
+    })

@@ -14,7 +14,7 @@ use Rattle.session_engine.specs.Stands.{legs_by, totals_at}
 use Rattle.session_engine.specs.Trees.{LimitsValue, tree_limits, account_tree, symbol_tree}
 use Rattle.session_engine.specs.Trees.{account_limits, symbol_limits}
 
-map_at : {X : Type 0} (f : X → ℕ) (xs : List X) (place : ℕ) (other : X) → place < length xs
+pub map_at : {X : Type 0} (f : X → ℕ) (xs : List X) (place : ℕ) (other : X) → place < length xs
     → slice_index_or (map f xs) place 0 ≡ f (slice_index_or xs place other)
 map_at f [] place other inside = absurd (omega (arith, inside))
 map_at f (x ∷ xs) zero other inside = refl

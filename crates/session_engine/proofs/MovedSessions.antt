@@ -3,15 +3,22 @@ use Rattle.std.proofs.Common.{◌≡◌, ℕ, ◌+◌, ◌-◌, ◌≤◌, List,
 use Rattle.std.proofs.Common.{refl, sym, ap, ◌∙◌, arith, length-append, length-drop}
 use Rattle.std.proofs.Common.{Option, Some, None}
 use Rattle.std.proofs.Common.{nat_lt, ◌||◌, if◌then◌else◌}
-use Rattle.std.specs.Prelude.{Result, Ok, Err}
+use Rattle.std.specs.Prelude.{Result, Ok, Err, Bool, true, false}
 use Rattle.std.specs.List.{list_any}
 use Rattle.std.proofs.lemmas.List.{map-append}
 use Rattle.fix_fields.specs.Fields.{FieldValue}
 use Rattle.risk_journal.specs.declared.acts.Act.{Act}
-use Rattle.risk_journal.specs.declared.acts.Act.TheVariants.{Post, Read, Sent, Refused}
+use Rattle.risk_journal.specs.declared.acts.Act.TheVariants.{Post, Read, Sent, Refused, Noted}
+use Rattle.fix_orders.specs.declared.message.FieldFault.{FieldFault}
+use Rattle.fix_orders.specs.declared.message.Message.{Message}
+use Rattle.fix_orders.specs.declared.message.Message.TheVariants as message
+use Rattle.fix_orders.specs.Reading.{read_of}
+use Rattle.session_engine.specs.declared.note.Note.{Note}
+use Rattle.session_engine.specs.declared.note.Note.TheVariants as note
 use Rattle.session_engine.specs.declared.refusal.Refusal.{Refusal}
+use Rattle.session_engine.specs.Reserves.{order_of}
 use Rattle.session_engine.specs.declared.refusal.Refusal.TheVariants.{Halt}
-use Rattle.session_engine.specs.Answers.{code_of}
+use Rattle.session_engine.specs.Answers.{code_of, fault_code, note_code}
 use Rattle.session_engine.specs.declared.rows.OrderRows.{OrderRows}
 use Rattle.session_engine.specs.Trees.{LimitsValue, account_tree, symbol_tree}
 use Rattle.session_engine.specs.OrderTrees.{OrderValue, rows_of}
@@ -23,7 +30,8 @@ use Rattle.risk_journal.specs.ActLists.{posts_in}
 use Rattle.session_engine.specs.Session.{first_above, verdict_of, early_refusal, post_new, post_old}
 use Rattle.session_engine.specs.Session.{roots_of, read_root, after_sending, after_refusing}
 use Rattle.session_engine.specs.Session.{after_verdict, after_admission, after_checks, after_order}
-use Rattle.session_engine.specs.Session.{order_of, after_frame, client_after}
+use Rattle.session_engine.specs.Session.{after_noting, after_rejecting, after_returning, after_fault}
+use Rattle.session_engine.specs.Session.{after_message, after_result, after_frame, named, asks}
 use Rattle.risk_journal.specs.ActLists.{placed, reads_of}
 use Rattle.risk_journal.proofs.PlacedActs.{seen_placed, reads_of-append, posts_in-placed}
 use Rattle.risk_journal.proofs.PlacedActs.{last_post-placed}
@@ -270,18 +278,85 @@ with_rows place limits fields order (Ok rows) session =
     (checking place limits fields order legs refusal session)
 
 ordering : (place : ℕ → ℕ) (limits : LimitsValue) (fields : List FieldValue)
-    (session : SessionValue) → TakesReads place (after_order limits fields) session
-ordering place limits fields session =
-    with_rows place limits fields (order_of fields) (rows_of limits (order_of fields)) session
+    (order : OrderValue) (session : SessionValue)
+    → TakesReads place (after_order limits fields order) session
+ordering place limits fields order session =
+    with_rows place limits fields order (rows_of limits order) session
+
+noting : (place : ℕ → ℕ) (what : Note) (session : SessionValue)
+    → TakesReads place (after_noting what) session
+noting place what session = record {
+  used = 0;
+  made = made-snoc session.acts (Noted session.frames (note_code what) 0 0);
+  left = omega arith;
+  same = λ enough.
+      ap (λ acts. record (moved place (after_noting what session)) { acts = acts })
+      (acts-snoc place session.acts (Noted session.frames (note_code what) 0 0));
+}
+
+faulting : (place : ℕ → ℕ) (request : Bool) (fields : List FieldValue) (fault : FieldFault)
+    (session : SessionValue) → TakesReads place (after_fault request fields fault) session
+faulting place true fields fault session = record {
+  used = 0;
+  made = made-snoc session.acts (Refused session.frames fault_code fault.tag fault.reason);
+  left = omega arith;
+  same = λ enough.
+      ap (λ acts. record (moved place (after_rejecting fields fault session)) { acts = acts })
+      (acts-snoc place session.acts (Refused session.frames fault_code fault.tag fault.reason));
+}
+faulting place false fields fault session = record {
+  used = 0;
+  made = made-snoc session.acts
+      (Noted session.frames (note_code note.FaultyField) fault.tag fault.reason);
+  left = omega arith;
+  same = λ enough.
+      ap (λ acts. record (moved place (after_returning fields fault session)) { acts = acts })
+      (acts-snoc place session.acts
+      (Noted session.frames (note_code note.FaultyField) fault.tag fault.reason));
+}
+
+messaging : (place : ℕ → ℕ) (limits : LimitsValue) (fields : List FieldValue) (whole : Message)
+    (session : SessionValue) → TakesReads place (after_message limits fields whole) session
+messaging place limits fields (message.New order) session =
+    ordering place limits fields (order_of limits order) session
+messaging place limits fields (message.Cancel request) session = no_step place session
+messaging place limits fields (message.Replace request) session = no_step place session
+messaging place limits fields (message.Report report) session = no_step place session
+messaging place limits fields (message.CancelReject report) session = no_step place session
+messaging place limits fields message.Admin session = no_step place session
+messaging place limits fields message.Other session = noting place note.OtherType session
+
+reading_of : (place : ℕ → ℕ) (limits : LimitsValue) (request : Bool) (fields : List FieldValue)
+    (read : Result Message FieldFault) (session : SessionValue)
+    → TakesReads place (after_result limits request fields read) session
+reading_of place limits request fields (Ok whole) session =
+    messaging place limits fields whole session
+reading_of place limits request fields (Err fault) session =
+    faulting place request fields fault session
+
+-- a step, and then the count of the frame
+counting : (place : ℕ → ℕ) (step : SessionValue → SessionValue) (session : SessionValue)
+    → TakesReads place step session
+    → TakesReads place (λ own. record (step own) { frames = session.frames + 1 }) session
+counting place step session own = record {
+  used = own.used;
+  made = own.made;
+  left = own.left;
+  same = λ enough.
+      ap (λ (after : SessionValue). record after { frames = session.frames + 1 })
+      (own.same enough);
+}
 
 -- a frame takes so many reads and doesn't see their places
 pub framing : (place : ℕ → ℕ) (limits : LimitsValue) (fields : Option (List FieldValue))
     (session : SessionValue) → TakesReads place (after_frame limits fields) session
-framing place limits None session = no_step place session
+framing place limits None session =
+    let own = counting place (after_noting note.NotSound) session
+    (noting place note.NotSound session) in
+    record { used = own.used; made = own.made; left = own.left; same = own.same }
 framing place limits (Some fields) session =
-    let named : SessionValue =
-    record session { client_id = client_after fields session.client_id } in
-    let own = ordering place limits fields named in
+    let own_named : SessionValue = named (asks fields) fields session in
+    let own = reading_of place limits (asks fields) fields (read_of fields) own_named in
     record {
       used = own.used;
       made = own.made;

@@ -12,28 +12,30 @@ use Rattle.risk_journal.specs.declared.acts.Act.{Act}
 use Rattle.risk_journal.specs.declared.acts.Act.TheVariants.{Ended}
 use Rattle.risk_journal.specs.declared.acts.End.{End}
 use Rattle.session_engine.specs.Session.{LimitsValue, SessionValue, opening, after_frame}
-use Rattle.session_engine.specs.Session.{after_frames, AreTaken, is_taken}
+use Rattle.session_engine.specs.Session.{after_frames, AreTaken, is_taken, input_most}
 use Rattle.risk_journal.specs.ActLists.{placed, reads_of}
 use Rattle.session_engine.proofs.Covered.{covers_orders}
-use Rattle.session_engine.specs.Follows.{FollowsInput, StopsAt, session_of, input_most}
+use Rattle.session_engine.specs.Follows.{FollowsInput, StopsAt, session_of}
 use Rattle.risk_journal.proofs.PlacedActs.{reads_of-placed, reads_of-append}
 use Rattle.session_engine.proofs.MovedSessions.{moved, reads_made, TakesReads, one_after_another}
 use Rattle.session_engine.proofs.MovedSessions.{framing}
 
 -- a frame is of the stage whatever the places of reads
-is_taken-moved : (place : ℕ → ℕ) (session : SessionValue) (fields : Option (List FieldValue))
-    → is_taken (moved place session) fields ≡ is_taken session fields
-is_taken-moved place session None = refl
-is_taken-moved place session (Some fields) = refl
+is_taken-moved : (place : ℕ → ℕ) (limits : LimitsValue) (session : SessionValue)
+    (fields : Option (List FieldValue))
+    → is_taken limits (moved place session) fields ≡ is_taken limits session fields
+is_taken-moved place limits session None = refl
+is_taken-moved place limits session (Some fields) = refl
 
-stops_moved : (place : ℕ → ℕ) (bytes : List ℕ) (from : ℕ) (session : SessionValue) (next : Found)
-    → StopsAt bytes from session next → StopsAt bytes from (moved place session) next
-stops_moved place bytes from session (found.Frame f) (fields, stands, other) =
-    (fields, stands, is_taken-moved place session fields ∙ other)
-stops_moved place bytes from session found.End stops = tt
-stops_moved place bytes from session (found.Cut at) stops = tt
-stops_moved place bytes from session (found.Broken at) stops = tt
-stops_moved place bytes from session (found.TooLong at) stops = tt
+stops_moved : (place : ℕ → ℕ) (limits : LimitsValue) (bytes : List ℕ) (from : ℕ)
+    (session : SessionValue) (next : Found) → StopsAt limits bytes from session next
+    → StopsAt limits bytes from (moved place session) next
+stops_moved place limits bytes from session (found.Frame f) (fields, stands, other) =
+    (fields, stands, is_taken-moved place limits session fields ∙ other)
+stops_moved place limits bytes from session found.End stops = tt
+stops_moved place limits bytes from session (found.Cut at) stops = tt
+stops_moved place limits bytes from session (found.Broken at) stops = tt
+stops_moved place limits bytes from session (found.TooLong at) stops = tt
 
 -- frames take so many reads and don't see their places, and are of the stage whatever they are
 record FramesMove (place : ℕ → ℕ) (limits : LimitsValue) (frames : List FrameValue)
@@ -55,7 +57,7 @@ frames_move place limits (frame ∷ frames) session =
       takes = one_after_another place (after_frame limits frame.fields)
           (λ own. after_frames limits own frames) session one more.takes;
       taken = λ enough all. (
-        is_taken-moved place session frame.fields ∙ all.0,
+        is_taken-moved place limits session frame.fields ∙ all.0,
         subst (λ (own : SessionValue). AreTaken limits own frames) (sym (one.same (omega arith)))
             (more.taken (omega (arith, one.left)) all.1),
       );
@@ -87,8 +89,8 @@ follows_placed place limits bytes acts end venue client own =
       taken = subst (λ (x : SessionValue). AreTaken limits x own.frames) (sym opens)
           (move.taken enough own.taken);
       stops = subst
-          (λ (x : SessionValue). StopsAt first (place_after 0 own.frames) x own.next) (sym ends)
-          (stops_moved place first (place_after 0 own.frames) final own.next own.stops);
+          (λ (x : SessionValue). StopsAt limits first (place_after 0 own.frames) x own.next) (sym ends)
+          (stops_moved place limits first (place_after 0 own.frames) final own.next own.stops);
       acts_are = ap (map (placed place)) own.acts_are
           ∙ map-append (placed place) final.acts (Ended end ∷ [])
           ∙ ap (λ (x : SessionValue). x.acts ++ Ended end ∷ []) (sym ends);

@@ -92,7 +92,7 @@ within_by false own name names place earlier is =
     omega (arith, earlier before.0 before.1, before.2)
 
 -- a place is within the names
-within : (names : List Name) (name : Name) (place : ℕ) → place_among name names ≡ Some place
+pub within : (names : List Name) (name : Name) (place : ℕ) → place_among name names ≡ Some place
     → place < length names
 within [] name place is = absurd cc
 within (own ∷ names) name place is =

@@ -1,7 +1,7 @@
 -- Frame by frame, the bytes lead to a session.
 use Rattle.std.proofs.Common.{◌≡◌, ℕ, List, [], ◌∷◌, ◌++◌, refl, sym}
 use Rattle.std.proofs.Common.{ap, ◌∙◌, subst, true}
-use Rattle.std.specs.Prelude.{Some, IsTrue}
+use Rattle.std.specs.Prelude.{Option, Some, IsTrue}
 use Rattle.std.proofs.lemmas.List.{append_assoc}
 use Rattle.fix_fields.specs.Fields.{FieldValue}
 use Rattle.fix_fields.specs.Frames.{FrameValue, IsFrameAt}
@@ -10,7 +10,7 @@ use Rattle.fix_fields.specs.declared.frame.Frame.{Frame}
 use Rattle.fix_fields.specs.declared.frame.Found.{Found}
 use Rattle.session_engine.specs.Session.{LimitsValue, SessionValue, opening, after_frame}
 use Rattle.risk_journal.specs.ActLists.{SeenAt}
-use Rattle.session_engine.specs.Session.{after_frames, AreTaken, is_taken, is_taken_order}
+use Rattle.session_engine.specs.Session.{after_frames, AreTaken, is_taken}
 use Rattle.risk_journal.specs.ActLists.{reads_of}
 use Rattle.session_engine.specs.Reaches.{with_reads, Steps, SplitsTo, Reaches}
 
@@ -24,7 +24,7 @@ after_frames-snoc limits session (x ∷ frames) frame =
 
 taken-snoc : (limits : LimitsValue) (session : SessionValue) (frames : List FrameValue)
     (frame : FrameValue) → AreTaken limits session frames
-    → IsTrue (is_taken (after_frames limits session frames) frame.fields)
+    → IsTrue (is_taken limits (after_frames limits session frames) frame.fields)
     → AreTaken limits session (frames ++ frame ∷ [])
 taken-snoc limits session [] frame taken one = (one, tt)
 taken-snoc limits session (x ∷ frames) frame taken one =
@@ -82,12 +82,12 @@ reaches_opening limits bytes = record {
 
 -- one frame more
 pub reaches_next : (limits : LimitsValue) (bytes : List ℕ) (place : ℕ) (frame : Frame)
-    (fields : List FieldValue) (session next : SessionValue)
-    → Reaches limits bytes place session → StandsAt bytes place frame (Some fields)
-    → is_taken_order session fields ≡ true → Steps limits fields session next
+    (fields : Option (List FieldValue)) (session next : SessionValue)
+    → Reaches limits bytes place session → StandsAt bytes place frame fields
+    → is_taken limits session fields ≡ true → Steps limits fields session next
     → Reaches limits bytes frame.end next
 reaches_next limits bytes place frame fields session next reaches stands taken steps =
-    let one = frame_value frame (Some fields) in
+    let one = frame_value frame fields in
     let P : ℕ → Type 0 = λ p. IsFrameAt bytes p one frame.body_from frame.body_to in
     let reads : (more : List SeenAt) → opening (reads_of next.acts ++ more) ≡ opening
     (reads_of session.acts ++ (steps.seen ++ more)) =
@@ -105,9 +105,9 @@ reaches_next limits bytes place frame fields session next reaches stands taken s
       place_is = sym (place_after-snoc 0 reaches.frames one);
       reached = λ more. after_frames-snoc limits (opening (reads_of next.acts ++ more))
           reaches.frames one
-          ∙ ap (after_frame limits (Some fields)) (before more) ∙ steps.stepped more;
+          ∙ ap (after_frame limits fields) (before more) ∙ steps.stepped more;
       taken = λ more. let Q : SessionValue → Type 0 = λ s. AreTaken limits s reaches.frames in
           taken-snoc limits (opening (reads_of next.acts ++ more)) reaches.frames one
           (subst Q (sym (reads more)) (reaches.taken (steps.seen ++ more)))
-          (ap (λ s. is_taken s (Some fields)) (before more) ∙ taken);
+          (ap (λ s. is_taken limits s fields) (before more) ∙ taken);
     }

@@ -1,7 +1,7 @@
 -- What is done with an order leads from a session to the next.
 use Rattle.std.proofs.Common.{◌≡◌, ℕ, ◌+◌, ◌==◌, List, [], ◌∷◌, ◌++◌, refl, sym, ap, ◌∙◌}
 use Rattle.std.proofs.Common.{arith, true, false, Bool, ◌||◌, cond, inl, inr, subst}
-use Rattle.std.specs.Prelude.{Option, Some, None, Ok, Err, Result, fold, if◌then◌else◌}
+use Rattle.std.specs.Prelude.{sum_by, Option, Some, None, Ok, Err, Result, fold, if◌then◌else◌}
 use Rattle.std.specs.List.{list_any}
 use Rattle.std.specs.Str.{bytes_eq}
 use Rattle.std.proofs.lemmas.List.{append-nil, length-append, append_assoc}
@@ -19,17 +19,17 @@ use Rattle.session_engine.specs.declared.totals.TreeTotals.{TreeTotals}
 use Rattle.session_engine.specs.Trees.{LimitsValue, halt_tree, account_tree, symbol_tree}
 use Rattle.session_engine.specs.OrderTrees.{OrderValue, exposure_of, exposure_in, exposures_in}
 use Rattle.session_engine.specs.OrderTrees.{counts_in, rows_of, trees_by, units_up, value_in}
-use Rattle.session_engine.specs.Session.{SessionValue, Leg, order_of, legs_of}
-use Rattle.session_engine.specs.Session.{after_rows, after_checks, after_verdict}
+use Rattle.session_engine.specs.Session.{SessionValue, Leg, legs_of}
+use Rattle.session_engine.specs.Session.{after_order, after_rows, after_checks, after_verdict}
 use Rattle.session_engine.specs.Session.{after_sending, after_refusing, post_new, post_old, read_root}
-use Rattle.session_engine.specs.Session.{early_refusal, verdict_of, roots_of, client_after}
+use Rattle.session_engine.specs.Session.{early_refusal, verdict_of, roots_of}
 use Rattle.session_engine.specs.Answers.{code_of}
 use Rattle.session_engine.specs.Ids.{AddsId, SameIds}
 use Rattle.session_engine.specs.Stands.{StandsFor, Decides, totals_at, legs_by, Roots, roots_read}
 use Rattle.session_engine.specs.Stands.{asked_acts, retracted_acts, posts_after, read_acts}
-use Rattle.session_engine.specs.Stands.{sent_totals, refused_totals, SendsIn, early_at}
-use Rattle.session_engine.specs.Stands.{AsksSent, AsksLate, AsksEarly, sent_tree}
-use Rattle.session_engine.specs.Reaches.{with_reads, next_session, forward_of, refusal_of, Steps}
+use Rattle.session_engine.specs.Stands.{sent_totals, refused_totals, SendsIn, IsJudged, early_at}
+use Rattle.session_engine.specs.Stands.{AsksSent, AsksLate, AsksEarly, sent_tree, early_by}
+use Rattle.session_engine.specs.Reaches.{with_reads, next_session, forward_of, refusal_of, Orders}
 use Rattle.session_engine.proofs.InStepLemmas.{posts_in-own, posts_in-other, posts_in-read}
 use Rattle.session_engine.proofs.Places.{AreRows, TreeTests, tree_tests, known_rows}
 
@@ -44,7 +44,7 @@ reads_of-append (Refused frame code first second ∷ xs) ys = reads_of-append xs
 reads_of-append (Noted frame code first second ∷ xs) ys = reads_of-append xs ys
 reads_of-append (Ended end ∷ xs) ys = reads_of-append xs ys
 
-reads_of-skip : (acts : List Act) (act : Act) → reads_of (act ∷ []) ≡ []
+pub reads_of-skip : (acts : List Act) (act : Act) → reads_of (act ∷ []) ≡ []
     → reads_of (acts ++ act ∷ []) ≡ reads_of acts
 reads_of-skip acts act none = reads_of-append acts (act ∷ []) ∙ ap (λ rs. reads_of acts ++ rs) none
     ∙ append-nil (reads_of acts)
@@ -293,30 +293,30 @@ exposure_by true own order = refl
 exposure_by false own order = omega arith
 
 -- an order that is sent
-stands_sent : (limits : LimitsValue) (fields : List FieldValue) (session : SessionValue)
-    (has has_after : List ℕ → Bool) (acts acts_after : List Act)
+stands_sent : (limits : LimitsValue) (fields : List FieldValue) (order : OrderValue)
+    (session : SessionValue) (has has_after : List ℕ → Bool) (acts acts_after : List Act)
     (trees trees_after : List TreeTotals) (totals totals_after : Totals)
     → StandsFor limits has acts trees totals session → totals_after ≡ sent_totals totals
-    → SendsIn limits (order_of fields) trees trees_after
-    → AddsId has has_after (order_of fields).id
+    → SendsIn limits order trees trees_after
+    → AddsId has has_after order.id
     → StandsFor limits has_after acts_after trees_after totals_after
-    (next_session fields None acts_after session)
-stands_sent limits fields session has has_after acts acts_after trees trees_after totals
+    (next_session fields order None acts_after session)
+stands_sent limits fields order session has has_after acts acts_after trees trees_after totals
     totals_after stands after_is sends adds =
     rw after_is (record {
       acts_are = refl;
-      ids = λ id. adds id ∙ ap (λ b. if bytes_eq (order_of fields).id id then true else b)
+      ids = λ id. adds id ∙ ap (λ b. if bytes_eq order.id id then true else b)
           (stands.ids id)
-          ∙ or_if (bytes_eq (order_of fields).id id)
-          (list_any (λ order. bytes_eq order.id id) session.orders)
-          ∙ sym (list_any-append (λ order. bytes_eq order.id id) session.orders
-          (order_of fields ∷ []));
+          ∙ or_if (bytes_eq order.id id)
+          (list_any (λ own. bytes_eq own.id id) session.orders)
+          ∙ sym (list_any-append (λ own. bytes_eq own.id id) session.orders
+          (order ∷ []));
       exposures = λ tree.
           ap (λ (own : TreeTotals). own.exposure) (sends.each tree)
-          ∙ exposure_by (counts_in limits tree (order_of fields)) (totals_at tree trees)
-          (order_of fields)
-          ∙ ap (λ n. n + exposure_in limits tree (order_of fields)) (stands.exposures tree)
-          ∙ sym (exposures_more limits tree session.orders (order_of fields));
+          ∙ exposure_by (counts_in limits tree order) (totals_at tree trees)
+          order
+          ∙ ap (λ n. n + exposure_in limits tree order) (stands.exposures tree)
+          ∙ sym (exposures_more limits tree session.orders order);
       frames = ap (λ n. n + 1) stands.frames;
       sent = omega (
         arith,
@@ -327,14 +327,14 @@ stands_sent limits fields session has has_after acts acts_after trees trees_afte
     })
 
 -- an order that is refused
-stands_refused : (limits : LimitsValue) (fields : List FieldValue) (session : SessionValue)
-    (why : Refusal) (has has_after : List ℕ → Bool) (acts acts_after : List Act)
+stands_refused : (limits : LimitsValue) (fields : List FieldValue) (order : OrderValue)
+    (session : SessionValue) (why : Refusal) (has has_after : List ℕ → Bool) (acts acts_after : List Act)
     (trees trees_after : List TreeTotals) (totals totals_after : Totals)
     → StandsFor limits has acts trees totals session → totals_after ≡ refused_totals totals
     → trees_after ≡ trees → SameIds has has_after
     → StandsFor limits has_after acts_after trees_after totals_after
-    (next_session fields (Some why) acts_after session)
-stands_refused limits fields session why has has_after acts acts_after trees trees_after totals
+    (next_session fields order (Some why) acts_after session)
+stands_refused limits fields order session why has has_after acts acts_after trees trees_after totals
     totals_after stands after_is kept same =
     rw (after_is, kept) (record {
       acts_are = refl;
@@ -349,35 +349,28 @@ stands_refused limits fields session why has has_after acts acts_after trees tre
       );
     })
 
-abbrev pub Goes : LimitsValue → List FieldValue → SessionValue → (List ℕ → Bool) → List Act
+abbrev pub Goes : LimitsValue → List FieldValue → OrderValue → SessionValue → (List ℕ → Bool) → List Act
     → List TreeTotals → Totals → SessionValue → Type 0
-Goes limits fields session has acts trees totals next =
-    StandsFor limits has acts trees totals next × Steps limits fields session next
-
--- the session as its order is taken up
-abbrev named : List FieldValue → SessionValue → SessionValue
-named fields session = record session { client_id = client_after fields session.client_id }
+Goes limits fields order session has acts trees totals next =
+    StandsFor limits has acts trees totals next × Orders limits fields order session next
 
 -- the session with these acts, as the next one
-same_next : (fields : List FieldValue) (verdict : Option Refusal) (session : SessionValue)
+same_next : (fields : List FieldValue) (order : OrderValue) (verdict : Option Refusal) (session : SessionValue)
     (a b : List Act) (more : List SeenAt) → a ≡ b
-    → with_reads more (next_session fields verdict a session)
-    ≡ with_reads more (next_session fields verdict b session)
-same_next fields verdict session a b more e =
-    ap (λ acts. with_reads more (next_session fields verdict acts session)) e
+    → with_reads more (next_session fields order verdict a session)
+    ≡ with_reads more (next_session fields order verdict b session)
+same_next fields order verdict session a b more e =
+    ap (λ acts. with_reads more (next_session fields order verdict acts session)) e
 
-module _ (limits : LimitsValue) (fields : List FieldValue) (session : SessionValue)
-    (trees : List TreeTotals)
+module _ (limits : LimitsValue) (fields : List FieldValue) (order : OrderValue)
+    (session : SessionValue) (trees : List TreeTotals)
     (exposures : (tree : ℕ) → (totals_at tree trees).exposure
     ≡ exposures_in limits tree session.orders) (lasts : LastsFit session.acts trees) where
-  abbrev order : OrderValue
-  order = order_of fields
-
   -- a sent order leads to the next session
   steps_sent : (acts_after asked : List Act) (trees_after : List TreeTotals) (frame : ℕ)
       → AsksSent limits order session.acts asked trees trees_after
       → acts_after ≡ asked ++ Sent frame ∷ [] → frame ≡ session.frames
-      → Steps limits fields session (next_session fields None acts_after session)
+      → Orders limits fields order session (next_session fields order None acts_after session)
   steps_sent acts_after asked trees_after frame asks acts_are frame_is =
       let j = asks.judged in
       let rows = j.rows in
@@ -399,9 +392,9 @@ module _ (limits : LimitsValue) (fields : List FieldValue) (session : SessionVal
             ∙ reads_asked limits rows are session order j.roots [];
         stepped = λ more.
             ap (λ (own : SessionValue). record own { frames = session.frames + 1 })
-            (stepped_sent limits rows are (named fields session) order j.roots more fields
+            (stepped_sent limits rows are session order j.roots more fields
             j.rows_are early within)
-            ∙ same_next fields None session (acts ++ Sent session.frames ∷ []) acts_after more
+            ∙ same_next fields order None session (acts ++ Sent session.frames ∷ []) acts_after more
             (sym after_is);
       }
 
@@ -409,7 +402,7 @@ module _ (limits : LimitsValue) (fields : List FieldValue) (session : SessionVal
   steps_late : (acts_after asked : List Act) (trees_after : List TreeTotals) (frame : ℕ)
       (why : Refusal) → AsksLate limits order session.acts asked trees trees_after why
       → acts_after ≡ asked ++ Refused frame (code_of why) 0 0 ∷ [] → frame ≡ session.frames
-      → Steps limits fields session (next_session fields (Some why) acts_after session)
+      → Orders limits fields order session (next_session fields order (Some why) acts_after session)
   steps_late acts_after asked trees_after frame why asks acts_are frame_is =
       let j = asks.judged in
       let rows = j.rows in
@@ -433,9 +426,9 @@ module _ (limits : LimitsValue) (fields : List FieldValue) (session : SessionVal
             ∙ reads_retracted limits rows are session order j.roots [];
         stepped = λ more.
             ap (λ (own : SessionValue). record own { frames = session.frames + 1 })
-            (stepped_late limits rows are (named fields session) order j.roots more fields
+            (stepped_late limits rows are session order j.roots more fields
             j.rows_are early why above)
-            ∙ same_next fields (Some why) session (acts ++ last ∷ []) acts_after more
+            ∙ same_next fields order (Some why) session (acts ++ last ∷ []) acts_after more
             (sym after_is);
       }
 
@@ -457,7 +450,7 @@ module _ (limits : LimitsValue) (fields : List FieldValue) (session : SessionVal
   steps_early : (acts_after asked : List Act) (trees_after : List TreeTotals) (frame : ℕ)
       (why : Refusal) → AsksEarly limits order session.acts asked trees trees_after why
       → acts_after ≡ asked ++ Refused frame (code_of why) 0 0 ∷ [] → frame ≡ session.frames
-      → Steps limits fields session (next_session fields (Some why) acts_after session)
+      → Orders limits fields order session (next_session fields order (Some why) acts_after session)
   steps_early acts_after asked trees_after frame why asks acts_are frame_is =
       let acts = session.acts in
       let last = Refused session.frames (code_of why) 0 0 in
@@ -471,46 +464,46 @@ module _ (limits : LimitsValue) (fields : List FieldValue) (session : SessionVal
         stepped = λ more.
             ap (λ (own : SessionValue). record own { frames = session.frames + 1 })
             (early_rows (rows_of limits order) why refl asks.early
-            (with_reads more (named fields session)) refl refl)
-            ∙ same_next fields (Some why) session (acts ++ last ∷ []) acts_after more
+            (with_reads more session) refl refl)
+            ∙ same_next fields order (Some why) session (acts ++ last ∷ []) acts_after more
             (sym after_is);
       }
 
 -- what is done with an order leads to the next session
-pub decided : (limits : LimitsValue) (fields : List FieldValue) (session : SessionValue)
-    (verdict : Option Refusal) (has has_after : List ℕ → Bool) (acts acts_after : List Act)
+pub decided : (limits : LimitsValue) (fields : List FieldValue) (order : OrderValue)
+    (session : SessionValue) (verdict : Option Refusal) (has has_after : List ℕ → Bool) (acts acts_after : List Act)
     (trees trees_after : List TreeTotals) (totals totals_after : Totals)
     → StandsFor limits has acts trees totals session → LastsFit acts trees
-    → Decides limits (order_of fields) has has_after acts acts_after trees trees_after totals
+    → Decides limits order has has_after acts acts_after trees trees_after totals
     totals_after verdict
-    → Goes limits fields session has_after acts_after trees_after totals_after
-    (next_session fields verdict acts_after session)
-decided limits fields session None has has_after acts acts_after trees trees_after totals
+    → Goes limits fields order session has_after acts_after trees_after totals_after
+    (next_session fields order verdict acts_after session)
+decided limits fields order session None has has_after acts acts_after trees trees_after totals
     totals_after stands lasts (asked, asks, acts_are, totals_are, adds) =
-    let A : List Act → Type 0 = λ a. AsksSent limits (order_of fields) a asked trees trees_after in
+    let A : List Act → Type 0 = λ a. AsksSent limits order a asked trees trees_after in
     let own_lasts = subst (λ (a : List Act). LastsFit a trees) (sym stands.acts_are) lasts in (
-      stands_sent limits fields session has has_after acts acts_after trees trees_after totals
+      stands_sent limits fields order session has has_after acts acts_after trees trees_after totals
           totals_after stands totals_are asks.kept adds,
-      steps_sent limits fields session trees stands.exposures own_lasts acts_after asked trees_after
+      steps_sent limits fields order session trees stands.exposures own_lasts acts_after asked trees_after
           totals.frames (subst A (sym stands.acts_are) asks) acts_are stands.frames,
     )
-decided limits fields session (Some why) has has_after acts acts_after trees trees_after totals
+decided limits fields order session (Some why) has has_after acts acts_after trees trees_after totals
     totals_after stands lasts (asked, inl asks, acts_are, totals_are, same) =
     let A : List Act → Type 0 =
-    λ a. AsksEarly limits (order_of fields) a asked trees trees_after why in
+    λ a. AsksEarly limits order a asked trees trees_after why in
     let own_lasts = subst (λ (a : List Act). LastsFit a trees) (sym stands.acts_are) lasts in (
-      stands_refused limits fields session why has has_after acts acts_after trees trees_after
+      stands_refused limits fields order session why has has_after acts acts_after trees trees_after
           totals totals_after stands totals_are asks.kept same,
-      steps_early limits fields session trees stands.exposures own_lasts acts_after asked
+      steps_early limits fields order session trees stands.exposures own_lasts acts_after asked
           trees_after totals.frames why (subst A (sym stands.acts_are) asks) acts_are stands.frames,
     )
-decided limits fields session (Some why) has has_after acts acts_after trees trees_after totals
+decided limits fields order session (Some why) has has_after acts acts_after trees trees_after totals
     totals_after stands lasts (asked, inr asks, acts_are, totals_are, same) =
     let A : List Act → Type 0 =
-    λ a. AsksLate limits (order_of fields) a asked trees trees_after why in
+    λ a. AsksLate limits order a asked trees trees_after why in
     let own_lasts = subst (λ (a : List Act). LastsFit a trees) (sym stands.acts_are) lasts in (
-      stands_refused limits fields session why has has_after acts acts_after trees trees_after
+      stands_refused limits fields order session why has has_after acts acts_after trees trees_after
           totals totals_after stands totals_are asks.kept same,
-      steps_late limits fields session trees stands.exposures own_lasts acts_after asked trees_after
+      steps_late limits fields order session trees stands.exposures own_lasts acts_after asked trees_after
           totals.frames why (subst A (sym stands.acts_are) asks) acts_are stands.frames,
     )

@@ -1,137 +1,46 @@
--- Which frames are orders of this stage, and what taking one does.
-use Rattle.std.proofs.Common.{◌≡◌, ℕ, ◌+◌, ◌==◌, List, [], ◌∷◌, ◌++◌, length, refl, sym, ap, ◌∙◌}
-use Rattle.std.proofs.Common.{subst, Bool, true, false, ◌&&◌, codes, arith, inl, inr, ◌≤◌}
+-- What taking a frame of each kind does.
+use Rattle.std.proofs.Common.{◌≡◌, ℕ, ◌+◌, List, [], ◌∷◌, ◌++◌, length, refl, sym, ap, ◌∙◌}
+use Rattle.std.proofs.Common.{subst, Bool, true, false, codes, arith, inl, inr, ◌≤◌}
 use Rattle.std.proofs.Math.Nat.{mul-le-mul_left}
-use Rattle.std.specs.Prelude.{Option, Some, None, is_some, is_none, not, Result, Ok, Err}
+use Rattle.std.specs.Prelude.{Option, Some, None, not, Result, Ok, Err, ◌||◌}
 use Rattle.std.specs.Prelude.{if◌then◌else◌}
-use Rattle.std.specs.List.{concat}
-use Rattle.std.specs.Result.{result_unwrap_or}
+use Rattle.std.specs.List.{concat, list_any}
+use Rattle.std.specs.Option.{unwrap_or}
+use Rattle.std.specs.Result.{is_err}
 use Rattle.std.specs.Io.KnownBytes.{Appends}
-use Rattle.std.proofs.lemmas.Bool.{false≢true}
+use Rattle.std.specs.Str.{bytes_eq}
 use Rattle.std.proofs.lemmas.List.{append-nil, length-append}
 use Rattle.std.proofs.lemmas.List.Folds.{concat-append}
 use Rattle.fix_fields.specs.Fields.{FieldValue}
-use Rattle.fix_fields.specs.Found.{StandsAt}
-use Rattle.fix_fields.specs.Numbers.{id_of}
-use Rattle.fix_fields.specs.declared.frame.Frame.{Frame}
-use Rattle.fix_fields.specs.declared.number.Spelling.{Spelling}
-use Rattle.fix_fields.specs.declared.number.Spelling.TheVariants.{Form, Range}
+use Rattle.fix_orders.specs.declared.message.FieldFault.{FieldFault}
+use Rattle.fix_orders.specs.declared.message.Message.{Message}
+use Rattle.fix_orders.specs.declared.message.Message.TheVariants as message
+use Rattle.fix_orders.specs.declared.message.NewOrder.{NewOrder}
+use Rattle.fix_orders.specs.Reading.{read_of}
 use Rattle.risk_journal.specs.declared.acts.Act.{Act}
+use Rattle.risk_journal.specs.declared.acts.Act.TheVariants.{Refused, Noted}
+use Rattle.risk_journal.specs.ActLists.{SeenAt, reads_of}
+use Rattle.session_engine.specs.declared.note.Note.{Note}
+use Rattle.session_engine.specs.declared.note.Note.TheVariants as note
 use Rattle.session_engine.specs.declared.refusal.Refusal.{Refusal}
 use Rattle.session_engine.specs.declared.totals.Totals.{Totals}
 use Rattle.session_engine.specs.declared.totals.TreeTotals.{TreeTotals}
-use Rattle.session_engine.specs.declared.slots.Slots.{Slots}
-use Rattle.session_engine.specs.FieldRows.{value_of, values_of, spelling_reason}
-use Rattle.session_engine.specs.FieldRows.Reader.{Identifier}
-use Rattle.session_engine.specs.Answers.{forward_text, refusal_text}
-use Rattle.session_engine.specs.Session.{LimitsValue, SessionValue, OrderValue, order_of}
-use Rattle.session_engine.specs.Session.{is_taken_order, is_new_id, one_id, client_after}
-use Rattle.session_engine.specs.OrderTrees.{exposure_of, counts_in}
-use Rattle.session_engine.specs.Slotted.{SlotsHave, IsRead, is_sound_order, only_value, first_value}
-use Rattle.session_engine.specs.Slotted.{is_taken_by}
-use Rattle.session_engine.specs.Stands.{StandsFor, Decides, totals_at, sent_tree, SendsIn}
-use Rattle.session_engine.specs.Reaches.{next_session, forward_of, refusal_of}
-use Rattle.session_engine.specs.Taken.{IsOther, IsOtherIn, IsOrderIn, IsSomeFrame, IsAnswered, Takes}
-use Rattle.session_engine.specs.Taken.{CountsGrow}
-use Rattle.session_engine.proofs.ReadLemmas.{sound_is_read, read_is_sound, false_from_not, and_true}
-use Rattle.session_engine.proofs.ReadLemmas.{id_is_text, value_of-first}
-use Rattle.session_engine.proofs.StepLemmas.{LastsFit, decided}
+use Rattle.session_engine.specs.Answers.{forward_text, refusal_text, reject_text}
+use Rattle.session_engine.specs.Answers.{note_code, fault_code}
+use Rattle.session_engine.specs.OrderTrees.{OrderValue, exposure_of, counts_in, rows_of}
+use Rattle.session_engine.specs.Reserves.{order_of}
+use Rattle.session_engine.specs.Session.{LimitsValue, SessionValue, is_taken, is_taken_read}
+use Rattle.session_engine.specs.Session.{after_frame, after_result, asks, named, client_after}
+use Rattle.session_engine.specs.Session.{after_noting, after_rejecting, after_returning}
+use Rattle.session_engine.specs.Stands.{StandsFor, Decides, SendsIn, sent_tree, totals_at}
+use Rattle.session_engine.specs.Stands.{sent_totals, refused_totals}
+use Rattle.session_engine.specs.Reaches.{next_session, forward_of, refusal_of, with_reads, Steps}
+use Rattle.session_engine.specs.Taken.{IsAnswered, Takes, Kept, StandsAs, CountsGrow}
+use Rattle.session_engine.specs.Taken.{is_taken_by, counted_totals}
+use Rattle.session_engine.proofs.OrderFacts.{OrderFacts}
+use Rattle.session_engine.proofs.StepLemmas.{LastsFit, decided, reads_of-skip}
 
-unsound : (has : List ℕ → Bool) (fields : Option (List FieldValue)) → is_some fields ≡ false
-    → IsOther has fields
-unsound has None e = tt
-unsound has (Some fields) e = absurd (false≢true (sym e))
-
--- a frame that isn't sound
-pub other_unsound : (bytes : List ℕ) (frame : Frame) (has : List ℕ → Bool) → IsSomeFrame bytes frame
-    → frame.sound ≡ false → IsOtherIn bytes frame has
-other_unsound bytes frame has (from, fields, stands, sound) e =
-    (from, fields, stands, unsound has fields (sym sound ∙ e))
-
--- a sound frame has fields
-pub sound_fields : (bytes : List ℕ) (frame : Frame) → IsSomeFrame bytes frame → frame.sound ≡ true
-    → (from : ℕ) × ((fields : List FieldValue) × StandsAt bytes from frame (Some fields))
-sound_fields bytes frame (from, None, stands, sound) e = absurd (false≢true (sym sound ∙ e))
-sound_fields bytes frame (from, Some fields, stands, sound) e = (from, (fields, stands))
-
-and_false : (b : Bool) → (b && false) ≡ false
-and_false true = refl
-and_false false = refl
-
--- a frame that isn't read as an order
-pub other_unread : (bytes : List ℕ) (frame : Frame) (slots : Slots) (has : List ℕ → Bool)
-    → IsSomeFrame bytes frame → frame.sound ≡ true
-    → ((fields : List FieldValue) → ((from : ℕ) × StandsAt bytes from frame (Some fields))
-    → SlotsHave bytes slots fields)
-    → ((fields : List FieldValue) → SlotsHave bytes slots fields → IsRead fields → ⊥)
-    → IsOtherIn bytes frame has
-other_unread bytes frame slots has some sound slotted none =
-    let s = sound_fields bytes frame some sound in
-    let fields = s.1.0 in
-    let unread : is_sound_order fields ≡ false = false_from_not (is_sound_order fields)
-    (λ e. none fields (slotted fields (s.0, s.1.1)) (sound_is_read fields e)) in
-    (s.0, Some fields, s.1.1, ap (λ b. b && not (has (value_of 11 fields))) unread)
-
--- an order whose id is there
-pub other_known : (bytes : List ℕ) (frame : Frame) (slots : Slots) (has : List ℕ → Bool)
-    (order : OrderValue) → IsSomeFrame bytes frame → frame.sound ≡ true
-    → ((fields : List FieldValue) → ((from : ℕ) × StandsAt bytes from frame (Some fields))
-    → SlotsHave bytes slots fields)
-    → ((fields : List FieldValue) → SlotsHave bytes slots fields → IsRead fields
-    × (order ≡ order_of fields)) → has order.id ≡ true → IsOtherIn bytes frame has
-other_known bytes frame slots has order some sound slotted read known =
-    let s = sound_fields bytes frame some sound in
-    let fields = s.1.0 in
-    let r = read fields (slotted fields (s.0, s.1.1)) in
-    let there : has (value_of 11 fields) ≡ true = ap (λ o. has o.id) (sym r.1) ∙ known in (
-      s.0,
-      Some fields,
-      s.1.1,
-      ap (λ b. is_sound_order fields && not b) there
-          ∙ and_false (is_sound_order fields),
-    )
-
-pub order_stands : (bytes : List ℕ) (frame : Frame) (slots : Slots) (order : OrderValue)
-    → IsSomeFrame bytes frame → frame.sound ≡ true
-    → ((fields : List FieldValue) → ((from : ℕ) × StandsAt bytes from frame (Some fields))
-    → SlotsHave bytes slots fields)
-    → ((fields : List FieldValue) → SlotsHave bytes slots fields → IsRead fields
-    × (order ≡ order_of fields)) → IsOrderIn bytes frame slots
-order_stands bytes frame slots order some sound slotted read =
-    let s = sound_fields bytes frame some sound in
-    record {
-      fields = s.1.0;
-      stands = (s.0, s.1.1);
-      slots_are = slotted s.1.0 (s.0, s.1.1);
-      read =
-          (read s.1.0 (slotted s.1.0 (s.0, s.1.1))).0;
-    }
-
--- the client of an order is its sender
-taken_id_is : (value before : List ℕ) (r : Result (List ℕ) Spelling) → id_of value ≡ r
-    → is_none (spelling_reason r) ≡ true → result_unwrap_or r before ≡ value
-taken_id_is value before (Ok id) e taken = id_is_text value id e
-taken_id_is value before (Err Form) e taken = absurd (false≢true taken)
-taken_id_is value before (Err Range) e taken = absurd (false≢true taken)
-
-one_by_length : (empty : Bool) (value before : List ℕ)
-    → is_taken_by Identifier (if empty then None else Some value) ≡ true
-    → result_unwrap_or (id_of value) before ≡ value
-one_by_length true value before taken = absurd (false≢true taken)
-one_by_length false value before taken = taken_id_is value before (id_of value) refl taken
-
-one_id_is : (values : List (List ℕ)) (before : List ℕ)
-    → is_taken_by Identifier (only_value values) ≡ true → one_id values before ≡ first_value values
-one_id_is [] before taken = absurd (false≢true taken)
-one_id_is (v ∷ []) before taken = one_by_length (length v == 0) v before taken
-one_id_is (v ∷ w ∷ more) before taken = absurd (false≢true taken)
-
-pub client_is_sender : (fields : List FieldValue) (before : List ℕ) → IsRead fields
-    → client_after fields before ≡ value_of 49 fields
-client_is_sender fields before read = one_id_is (values_of 49 fields) before read.sender
-    ∙ sym (value_of-first 49 fields)
-
-appends_nothing : (held held_after : Option (List ℕ)) → held_after ≡ held
+pub appends_nothing : (held held_after : Option (List ℕ)) → held_after ≡ held
     → Appends held held_after []
 appends_nothing None held_after e = tt
 appends_nothing (Some bytes) held_after e =
@@ -143,103 +52,383 @@ concat-snoc : (messages : List (List ℕ)) (message : List ℕ)
 concat-snoc messages message = concat-append messages (message ∷ [])
     ∙ ap (λ m. concat messages ++ m) (append-nil message)
 
-is_of_stage : (limits : LimitsValue) (has : List ℕ → Bool) (acts : List Act)
-    (trees : List TreeTotals) (totals : Totals) (fields : List FieldValue)
-    (session : SessionValue) → StandsFor limits has acts trees totals session → IsRead fields
-    → has (value_of 11 fields) ≡ false → is_taken_order session fields ≡ true
-is_of_stage limits has acts trees totals fields session stands read new =
-    and_true (is_sound_order fields) (is_new_id (value_of 11 fields) session.orders)
-    (read_is_sound fields read)
-    (ap (λ b. not b) (sym (stands.ids (value_of 11 fields)) ∙ new))
+length-snoc : (messages : List (List ℕ)) (message : List ℕ)
+    → length (messages ++ message ∷ []) ≡ length messages + 1
+length-snoc messages message = length-append messages (message ∷ [])
 
--- a decided and answered order takes the frame
-pub takes_order : (limits : LimitsValue) (fields : List FieldValue) (session : SessionValue)
-    (refusal : Option Refusal) (has has_after : List ℕ → Bool) (acts acts_after : List Act)
-    (trees trees_after : List TreeTotals) (totals totals_after : Totals) (venue venue_after client
-    client_after_ : Option (List ℕ))
-    → StandsFor limits has acts trees totals session → LastsFit acts trees → IsRead fields
-    → has (value_of 11 fields) ≡ false
-    → Decides limits (order_of fields) has has_after acts acts_after trees trees_after totals
-    totals_after refusal
-    → IsAnswered fields totals_after refusal venue venue_after client client_after_
-    → (next : SessionValue) × Takes limits fields session next has_after acts_after trees_after
-    totals_after
-    venue venue_after client client_after_
-takes_order limits fields session None has has_after acts acts_after trees trees_after totals
-    totals_after venue
-    venue_after client client_after_ stands fit read new decides answered =
-    let goes = decided limits fields session None has has_after acts acts_after trees trees_after
-    totals totals_after
-    stands fit decides in
-    let message = forward_of fields session in
-    let number : totals_after.sent ≡ length session.venue + 1 =
-    omega (arith, goes.0.sent, length-append session.venue (message ∷ [])) in
-    let P : ℕ → Type 0 = λ n. Appends venue venue_after (forward_text (codes "VENUE") n fields) in (
-      next_session fields None acts_after session,
+-- a session that is counted further by one frame
+abbrev counted : ℕ → SessionValue → SessionValue
+counted frames session = record session { frames = frames + 1 }
+
+-- a sound frame by what is read of it
+frame_by : (limits : LimitsValue) (fields : List FieldValue) (request : Bool)
+    (read : Result Message FieldFault) (session : SessionValue) → asks fields ≡ request
+    → read_of fields ≡ read
+    → after_frame limits (Some fields) session
+    ≡ counted session.frames (after_result limits request fields read (named request fields session))
+frame_by limits fields request read session asks_are read_is =
+    ap (λ r. counted session.frames
+    (after_result limits (asks fields) fields r (named (asks fields) fields session))) read_is
+    ∙ ap (λ b. counted session.frames
+    (after_result limits b fields read (named b fields session))) asks_are
+
+-- a step that reads nothing
+steps_quiet : (limits : LimitsValue) (fields : Option (List FieldValue))
+    (session next : SessionValue) → reads_of next.acts ≡ reads_of session.acts
+    → ((more : List SeenAt) → after_frame limits fields (with_reads more session)
+    ≡ with_reads more next) → Steps limits fields session next
+steps_quiet limits fields session next reads stepped = record {
+  seen = [];
+  reads_are = reads ∙ sym (append-nil (reads_of session.acts));
+  stepped = stepped;
+}
+
+-- what is kept after a frame that is only noted or counted
+pub record Passes (before after : Kept) : Type 0 where
+  pub has : after.has ≡ before.has
+  pub trees : after.trees ≡ before.trees
+  pub totals : after.totals ≡ counted_totals before.totals
+  pub client_id : after.client_id ≡ before.client_id
+  pub venue : after.venue ≡ before.venue
+  pub client : after.client ≡ before.client
+
+abbrev with_acts : List Act → SessionValue → SessionValue
+with_acts acts session = record session { acts = acts; frames = session.frames + 1 }
+
+stands_passed : (limits : LimitsValue) (session : SessionValue) (before after : Kept)
+    → StandsAs limits before session → Passes before after
+    → StandsAs limits after (with_acts after.acts session)
+stands_passed limits session before after own passes =
+    let s = own.stands in
+    record {
+      stands = rw (passes.has, passes.trees, passes.totals) (record {
+        acts_are = refl;
+        ids = s.ids;
+        exposures = s.exposures;
+        frames = ap (λ n. n + 1) s.frames;
+        sent = s.sent;
+        refused = s.refused;
+      });
+      client_is = own.client_is ∙ sym passes.client_id;
+    }
+
+takes_passed : (limits : LimitsValue) (fields : Option (List FieldValue))
+    (session : SessionValue) (before after : Kept) → StandsAs limits before session
+    → Passes before after → is_taken limits session fields ≡ true
+    → Steps limits fields session (with_acts after.acts session)
+    → (next : SessionValue) × Takes limits fields session next before after
+takes_passed limits fields session before after own passes taken steps = (
+  with_acts after.acts session,
+  record {
+    taken = taken;
+    steps = steps;
+    stands = stands_passed limits session before after own passes;
+    to_venue = [];
+    to_client = [];
+    venue_grows = appends_nothing before.venue after.venue passes.venue;
+    client_grows = appends_nothing before.client after.client passes.client;
+    venue_is = sym (append-nil (concat session.venue));
+    client_is = sym (append-nil (concat session.client));
+  },
+)
+
+-- a note of the frame
+abbrev pub noted_act : Note → ℕ → Act
+noted_act what frame = Noted frame (note_code what) 0 0
+
+noted_is : (limits : LimitsValue) (session : SessionValue) (before after : Kept) (what : Note)
+    → StandsAs limits before session
+    → after.acts ≡ before.acts ++ noted_act what before.totals.frames ∷ []
+    → session.acts ++ noted_act what session.frames ∷ [] ≡ after.acts
+noted_is limits session before after what own acts =
+    ap (λ l. l ++ noted_act what session.frames ∷ []) own.stands.acts_are
+    ∙ ap (λ n. before.acts ++ noted_act what n ∷ []) (sym own.stands.frames) ∙ sym acts
+
+reads_noted : (session : SessionValue) (what : Note) (acts : List Act)
+    → session.acts ++ noted_act what session.frames ∷ [] ≡ acts
+    → reads_of acts ≡ reads_of session.acts
+reads_noted session what acts is =
+    ap reads_of (sym is) ∙ reads_of-skip session.acts (noted_act what session.frames) refl
+
+-- a frame that isn't sound
+pub takes_unsound : (limits : LimitsValue) (session : SessionValue) (before after : Kept)
+    → StandsAs limits before session → Passes before after
+    → after.acts ≡ before.acts ++ noted_act note.NotSound before.totals.frames ∷ []
+    → (next : SessionValue) × Takes limits None session next before after
+takes_unsound limits session before after own passes acts =
+    let is = noted_is limits session before after note.NotSound own acts in
+    takes_passed limits None session before after own passes refl
+    (steps_quiet limits None session (with_acts after.acts session)
+    (reads_noted session note.NotSound after.acts is)
+    (λ more. ap (λ l. with_reads more (with_acts l session)) is))
+
+-- a message of another type
+pub takes_other : (limits : LimitsValue) (fields : List FieldValue) (session : SessionValue)
+    (before after : Kept) → asks fields ≡ false → read_of fields ≡ Ok message.Other
+    → StandsAs limits before session → Passes before after
+    → after.acts ≡ before.acts ++ noted_act note.OtherType before.totals.frames ∷ []
+    → (next : SessionValue) × Takes limits (Some fields) session next before after
+takes_other limits fields session before after asks_are read own passes acts =
+    let is = noted_is limits session before after note.OtherType own acts in
+    takes_passed limits (Some fields) session before after own passes
+    (ap (is_taken_read limits session.orders) read)
+    (steps_quiet limits (Some fields) session (with_acts after.acts session)
+    (reads_noted session note.OtherType after.acts is)
+    (λ more. frame_by limits fields false (Ok message.Other) (with_reads more session) asks_are
+    read ∙ ap (λ l. with_reads more (with_acts l session)) is))
+
+-- a message of the session
+pub takes_admin : (limits : LimitsValue) (fields : List FieldValue) (session : SessionValue)
+    (before after : Kept) → asks fields ≡ false → read_of fields ≡ Ok message.Admin
+    → StandsAs limits before session → Passes before after → after.acts ≡ before.acts
+    → (next : SessionValue) × Takes limits (Some fields) session next before after
+takes_admin limits fields session before after asks_are read own passes acts =
+    let is : session.acts ≡ after.acts = own.stands.acts_are ∙ sym acts in
+    takes_passed limits (Some fields) session before after own passes
+    (ap (is_taken_read limits session.orders) read)
+    (steps_quiet limits (Some fields) session (with_acts after.acts session)
+    (ap reads_of (sym is))
+    (λ more. frame_by limits fields false (Ok message.Admin) (with_reads more session) asks_are
+    read ∙ ap (λ l. with_reads more (with_acts l session)) is))
+
+-- what is kept after a request with a field fault
+pub record Rejects (fields : List FieldValue) (fault : FieldFault) (before after : Kept)
+    : Type 0 where
+  pub acts : after.acts ≡ before.acts
+      ++ Refused before.totals.frames fault_code fault.tag fault.reason ∷ []
+  pub has : after.has ≡ before.has
+  pub trees : after.trees ≡ before.trees
+  pub totals : after.totals ≡ refused_totals before.totals
+  pub client_id : after.client_id ≡ client_after true fields before.client_id
+  pub venue : after.venue ≡ before.venue
+  pub client : Appends before.client after.client
+      (reject_text after.client_id after.totals.refused fields fault)
+
+-- a request with a field fault
+pub takes_rejected : (limits : LimitsValue) (fields : List FieldValue) (fault : FieldFault)
+    (session : SessionValue) (before after : Kept) → asks fields ≡ true
+    → read_of fields ≡ Err fault → StandsAs limits before session
+    → Rejects fields fault before after
+    → (next : SessionValue) × Takes limits (Some fields) session next before after
+takes_rejected limits fields fault session before after asks_are read own rejects =
+    let s = own.stands in
+    let client : client_after true fields session.client_id ≡ after.client_id =
+    ap (client_after true fields) own.client_is ∙ sym rejects.client_id in
+    let act : ℕ → Act = λ n. Refused n fault_code fault.tag fault.reason in
+    let is : session.acts ++ act session.frames ∷ [] ≡ after.acts =
+    ap (λ l. l ++ act session.frames ∷ []) s.acts_are
+    ∙ ap (λ n. before.acts ++ act n ∷ []) (sym s.frames) ∙ sym rejects.acts in
+    let number : length session.client + 1 ≡ after.totals.refused =
+    ap (λ n. n + 1) (sym s.refused) ∙ sym (ap (λ (t : Totals). t.refused) rejects.totals) in
+    let text : List ℕ = reject_text after.client_id after.totals.refused fields fault in
+    let next : SessionValue = record session {
+      acts = after.acts;
+      client = session.client ++ text ∷ [];
+      client_id = after.client_id;
+      frames = session.frames + 1;
+    } in
+    let stepped : (more : List SeenAt)
+    → after_frame limits (Some fields) (with_reads more session) ≡ with_reads more next = λ more.
+    frame_by limits fields true (Err fault) (with_reads more session) asks_are read
+    ∙ rw (client, number) (ap (λ l. with_reads more (record next { acts = l })) is) in (
+      next,
       record {
-        order = is_of_stage limits has acts trees totals fields session stands read new;
-        steps = goes.1;
-        stands = goes.0;
-        to_venue = message;
+        taken = ap (is_taken_read limits session.orders) read;
+        steps = steps_quiet limits (Some fields) session next
+            (ap reads_of (sym is) ∙ reads_of-skip session.acts (act session.frames) refl) stepped;
+        stands = record {
+          stands = record {
+            acts_are = refl;
+            ids = λ id. ap (λ (h : List ℕ → Bool). h id) rejects.has ∙ s.ids id;
+            exposures = λ tree. ap (λ l. (totals_at tree l).exposure) rejects.trees
+                ∙ s.exposures tree;
+            frames = ap (λ (t : Totals). t.frames) rejects.totals ∙ ap (λ n. n + 1) s.frames;
+            sent = ap (λ (t : Totals). t.sent) rejects.totals ∙ s.sent;
+            refused = ap (λ (t : Totals). t.refused) rejects.totals ∙ ap (λ n. n + 1) s.refused
+                ∙ sym (length-snoc session.client text);
+          };
+          client_is = refl;
+        };
+        to_venue = [];
+        to_client = text;
+        venue_grows = appends_nothing before.venue after.venue rejects.venue;
+        client_grows = rejects.client;
+        venue_is = sym (append-nil (concat session.venue));
+        client_is = concat-snoc session.client text;
+      },
+    )
+
+-- what is kept after a report with a field fault
+pub record Returns (fields : List FieldValue) (fault : FieldFault) (before after : Kept)
+    : Type 0 where
+  pub acts : after.acts ≡ before.acts
+      ++ Noted before.totals.frames (note_code note.FaultyField) fault.tag fault.reason ∷ []
+  pub has : after.has ≡ before.has
+  pub trees : after.trees ≡ before.trees
+  pub totals : after.totals ≡ sent_totals before.totals
+  pub client_id : after.client_id ≡ before.client_id
+  pub client : after.client ≡ before.client
+  pub venue : Appends before.venue after.venue
+      (reject_text (codes "VENUE") after.totals.sent fields fault)
+
+-- a report with a field fault
+pub takes_returned : (limits : LimitsValue) (fields : List FieldValue) (fault : FieldFault)
+    (session : SessionValue) (before after : Kept) → asks fields ≡ false
+    → read_of fields ≡ Err fault → StandsAs limits before session
+    → Returns fields fault before after
+    → (next : SessionValue) × Takes limits (Some fields) session next before after
+takes_returned limits fields fault session before after asks_are read own returns =
+    let s = own.stands in
+    let act : ℕ → Act = λ n. Noted n (note_code note.FaultyField) fault.tag fault.reason in
+    let is : session.acts ++ act session.frames ∷ [] ≡ after.acts =
+    ap (λ l. l ++ act session.frames ∷ []) s.acts_are
+    ∙ ap (λ n. before.acts ++ act n ∷ []) (sym s.frames) ∙ sym returns.acts in
+    let number : length session.venue + 1 ≡ after.totals.sent =
+    ap (λ n. n + 1) (sym s.sent) ∙ sym (ap (λ (t : Totals). t.sent) returns.totals) in
+    let text : List ℕ = reject_text (codes "VENUE") after.totals.sent fields fault in
+    let next : SessionValue = record session {
+      acts = after.acts;
+      venue = session.venue ++ text ∷ [];
+      frames = session.frames + 1;
+    } in
+    let stepped : (more : List SeenAt)
+    → after_frame limits (Some fields) (with_reads more session) ≡ with_reads more next = λ more.
+    frame_by limits fields false (Err fault) (with_reads more session) asks_are read
+    ∙ rw number (ap (λ l. with_reads more (record next { acts = l })) is) in (
+      next,
+      record {
+        taken = ap (is_taken_read limits session.orders) read;
+        steps = steps_quiet limits (Some fields) session next
+            (ap reads_of (sym is) ∙ reads_of-skip session.acts (act session.frames) refl) stepped;
+        stands = record {
+          stands = record {
+            acts_are = refl;
+            ids = λ id. ap (λ (h : List ℕ → Bool). h id) returns.has ∙ s.ids id;
+            exposures = λ tree. ap (λ l. (totals_at tree l).exposure) returns.trees
+                ∙ s.exposures tree;
+            frames = ap (λ (t : Totals). t.frames) returns.totals ∙ ap (λ n. n + 1) s.frames;
+            sent = ap (λ (t : Totals). t.sent) returns.totals ∙ ap (λ n. n + 1) s.sent
+                ∙ sym (length-snoc session.venue text);
+            refused = ap (λ (t : Totals). t.refused) returns.totals ∙ s.refused;
+          };
+          client_is = own.client_is ∙ sym returns.client_id;
+        };
+        to_venue = text;
         to_client = [];
-        venue_grows = subst P number answered.0;
-        client_grows = appends_nothing client client_after_ answered.1;
-        venue_is = concat-snoc session.venue message;
+        venue_grows = returns.venue;
+        client_grows = appends_nothing before.client after.client returns.client;
+        venue_is = concat-snoc session.venue text;
         client_is = sym (append-nil (concat session.client));
       },
     )
-takes_order limits fields session (Some refusal) has has_after acts acts_after trees trees_after
-    totals totals_after
-    venue venue_after client client_after_ stands fit read new decides answered =
-    let goes = decided limits fields session (Some refusal) has has_after acts acts_after trees
-    trees_after totals
-    totals_after stands fit decides in
-    let message = refusal_of fields refusal session in
-    let number : totals_after.refused ≡ length session.client + 1 =
-    omega (arith, goes.0.refused, length-append session.client (message ∷ [])) in
-    let P : ℕ → Type 0 = λ n. Appends client client_after_
-    (refusal_text (value_of 49 fields) n fields refusal) in
-    let Q : List ℕ → Type 0 = λ receiver. Appends client client_after_
-    (refusal_text receiver (length session.client + 1) fields refusal) in (
-      next_session fields (Some refusal) acts_after session,
-      record {
-        order = is_of_stage limits has acts trees totals fields session stands read new;
-        steps = goes.1;
-        stands = goes.0;
-        to_venue = [];
-        to_client = message;
-        venue_grows = appends_nothing venue venue_after answered.0;
-        client_grows = subst Q (sym (client_is_sender fields session.client_id read))
-            (subst P number answered.1);
-        venue_is = sym (append-nil (concat session.venue));
-        client_is = concat-snoc session.client message;
-      },
-    )
 
--- the same with the order that was read
-pub takes_read : (limits : LimitsValue) (fields : List FieldValue) (session : SessionValue)
-    (order : OrderValue) (refusal : Option Refusal) (has has_after : List ℕ → Bool)
-    (acts acts_after : List Act)
-    (trees trees_after : List TreeTotals) (totals totals_after : Totals) (venue venue_after client
-    client_after_ : Option (List ℕ))
-    → StandsFor limits has acts trees totals session → LastsFit acts trees → IsRead fields
-    × (order ≡ order_of fields) → has order.id ≡ false
-    → Decides limits order has has_after acts acts_after trees trees_after totals totals_after
-    refusal
-    → IsAnswered fields totals_after refusal venue venue_after client client_after_
-    → (next : SessionValue) × Takes limits fields session next has_after acts_after trees_after
-    totals_after
-    venue venue_after client client_after_
-takes_read limits fields session order refusal has has_after acts acts_after trees trees_after
-    totals totals_after
-    venue venue_after client client_after_ stands fit read new decides answered =
-    let P : OrderValue → Type 0 =
-    λ o. Decides limits o has has_after acts acts_after trees trees_after totals totals_after
-    refusal in
-    takes_order limits fields session refusal has has_after acts acts_after trees trees_after
-    totals totals_after
-    venue venue_after client client_after_ stands fit read.0
-    (ap (λ o. has o.id) (sym read.1) ∙ new) (subst P read.1 decides) answered
+-- the same session with its client named
+named_stands : (limits : LimitsValue) (fields : List FieldValue) (session : SessionValue)
+    (before : Kept) → StandsAs limits before session
+    → StandsFor limits before.has before.acts before.trees before.totals
+    (named true fields session)
+named_stands limits fields session before own =
+    let s = own.stands in
+    record {
+      acts_are = s.acts_are;
+      ids = s.ids;
+      exposures = s.exposures;
+      frames = s.frames;
+      sent = s.sent;
+      refused = s.refused;
+    }
+
+module _ (limits : LimitsValue) (fields : List FieldValue) (order : NewOrder)
+    (session : SessionValue) (before after : Kept) (facts : OrderFacts fields order)
+    (read : read_of fields ≡ Ok (message.New order)) (own : StandsAs limits before session) where
+  abbrev asked : OrderValue
+  asked = order_of limits order
+
+  abbrev own_named : SessionValue
+  own_named = named true fields session
+
+  order_taken : is_taken_by limits before.has asked ≡ true
+      → is_taken limits session (Some fields) ≡ true
+  order_taken taken =
+      ap (is_taken_read limits session.orders) read
+      ∙ ap (λ b. is_err (rows_of limits asked) || not b) (sym (own.stands.ids asked.id)) ∙ taken
+
+  -- an order that isn't taken
+  pub order_left : is_taken_by limits before.has asked ≡ false
+      → is_taken limits session (Some fields) ≡ false
+  order_left left =
+      ap (is_taken_read limits session.orders) read
+      ∙ ap (λ b. is_err (rows_of limits asked) || not b) (sym (own.stands.ids asked.id)) ∙ left
+
+  client_is : after.client_id ≡ order.head.sender → own_named.client_id ≡ after.client_id
+  client_is is = ap (λ o. unwrap_or o session.client_id) facts.sender ∙ sym is
+
+  -- an order that was sent or refused, and answered
+  pub takes_order : (refusal : Option Refusal) → LastsFit before.acts before.trees
+      → is_taken_by limits before.has asked ≡ true
+      → Decides limits asked before.has after.has before.acts after.acts before.trees after.trees
+      before.totals after.totals refusal → after.client_id ≡ order.head.sender
+      → IsAnswered fields after.client_id after.totals refusal before.venue after.venue
+      before.client after.client
+      → (next : SessionValue) × Takes limits (Some fields) session next before after
+  takes_order None lasts taken decides client answered =
+      let goes = decided limits fields asked own_named None before.has after.has before.acts
+      after.acts before.trees after.trees before.totals after.totals
+      (named_stands limits fields session before own) lasts decides in
+      let text = forward_of fields session in
+      let number : after.totals.sent ≡ length session.venue + 1 =
+      goes.0.sent ∙ length-snoc session.venue text in
+      let P : ℕ → Type 0 =
+      λ n. Appends before.venue after.venue (forward_text (codes "VENUE") n fields) in (
+        next_session fields asked None after.acts own_named,
+        record {
+          taken = order_taken taken;
+          steps = record {
+            seen = goes.1.seen;
+            reads_are = goes.1.reads_are;
+            stepped = λ more. frame_by limits fields true (Ok (message.New order))
+                (with_reads (goes.1.seen ++ more) session) facts.asks_are read
+                ∙ goes.1.stepped more;
+          };
+          stands = record { stands = goes.0; client_is = client_is client };
+          to_venue = text;
+          to_client = [];
+          venue_grows = subst P number answered.0;
+          client_grows = appends_nothing before.client after.client answered.1;
+          venue_is = concat-snoc session.venue text;
+          client_is = sym (append-nil (concat session.client));
+        },
+      )
+  takes_order (Some why) lasts taken decides client answered =
+      let goes = decided limits fields asked own_named (Some why) before.has after.has before.acts
+      after.acts before.trees after.trees before.totals after.totals
+      (named_stands limits fields session before own) lasts decides in
+      let text = refusal_of fields why own_named in
+      let number : after.totals.refused ≡ length session.client + 1 =
+      goes.0.refused ∙ length-snoc session.client text in
+      let P : ℕ → Type 0 =
+      λ n. Appends before.client after.client (refusal_text after.client_id n fields why) in
+      let Q : List ℕ → Type 0 = λ receiver. Appends before.client after.client
+      (refusal_text receiver (length session.client + 1) fields why) in (
+        next_session fields asked (Some why) after.acts own_named,
+        record {
+          taken = order_taken taken;
+          steps = record {
+            seen = goes.1.seen;
+            reads_are = goes.1.reads_are;
+            stepped = λ more. frame_by limits fields true (Ok (message.New order))
+                (with_reads (goes.1.seen ++ more) session) facts.asks_are read
+                ∙ goes.1.stepped more;
+          };
+          stands = record { stands = goes.0; client_is = client_is client };
+          to_venue = [];
+          to_client = text;
+          venue_grows = appends_nothing before.venue after.venue answered.0;
+          client_grows = subst Q (sym (client_is client)) (subst P number answered.1);
+          venue_is = sym (append-nil (concat session.venue));
+          client_is = concat-snoc session.client text;
+        },
+      )
 
 -- an order's exposure is bounded
 exposure_fits : (order : OrderValue) → order.quantity ≤ 1000000000 → order.price ≤ 9999999999
@@ -305,3 +494,15 @@ counts_grow limits order (Some refusal) has has_after acts acts_after trees tree
       refused = omega arith;
       exposures = stays_grow trees trees_after asks.kept;
     })
+
+-- the counts after a frame that changes no tree
+pub counts_pass : (trees trees_after : List TreeTotals) (totals totals_after : Totals)
+    → trees_after ≡ trees → totals_after.frames ≡ totals.frames + 1
+    → totals_after.sent ≤ totals.sent + 1 → totals_after.refused ≤ totals.refused + 1
+    → CountsGrow trees trees_after totals totals_after
+counts_pass trees trees_after totals totals_after kept frames sent refused = record {
+  frames = frames;
+  sent = sent;
+  refused = refused;
+  exposures = stays_grow trees trees_after kept;
+}

@@ -1,18 +1,21 @@
 -- Worked rows, computed by the definitions: one order at each limit and above it, and names that
 -- the limits don't have.
-use Rattle.std.proofs.Common.{◌≡◌, ℕ, List, [], ◌∷◌, ◌++◌, refl, codes}
+use Rattle.std.proofs.Common.{◌≡◌, ℕ, List, [], ◌∷◌, ◌++◌, refl, codes, length, decimal}
 use Rattle.std.specs.Prelude.{Some, None, true, false, drop}
 use Rattle.risk_journal.specs.declared.acts.Act.{Act}
 use Rattle.std.specs.Fmt.{digits}
 use Rattle.fix_fields.specs.Fields.{FieldValue, field, soh}
 use Rattle.fix_fields.specs.Messages.{message_text}
 use Rattle.fix_fields.specs.Frames.{FrameValue}
-use Rattle.session_engine.specs.Session.{LimitsValue, opening, after_frames, is_taken_order}
+use Rattle.fix_fields.specs.declared.frame.Found.TheVariants as found
+use Rattle.session_engine.specs.Session.{LimitsValue, opening, after_frames, is_taken, end_of}
 use Rattle.risk_journal.specs.ActLists.{SeenAt}
 use Rattle.session_engine.specs.Session.{SessionValue}
 use Rattle.risk_journal.specs.JournalText.{journal_text}
-use Rattle.risk_journal.specs.declared.acts.Act.TheVariants.{Post, Read, Sent, Refused, Ended}
+use Rattle.risk_journal.specs.declared.acts.Act.TheVariants.{Post, Read, Sent, Refused, Noted}
+use Rattle.risk_journal.specs.declared.acts.Act.TheVariants.{Ended}
 use Rattle.risk_journal.specs.declared.acts.End.TheVariants.{Whole}
+use Rattle.risk_journal.specs.declared.acts.End.TheVariants as ending
 
 abbrev fields : List FieldValue
 fields =
@@ -137,12 +140,148 @@ acts_capped : (after_frames limits (opening [])
     (record { place = 0; end = 136; fields = Some huge } ∷ [])).acts ≡ Refused 0 6 0 0 ∷ []
 acts_capped = refl
 
-is_one_of_the_stage : is_taken_order (opening []) huge ≡ true
-is_one_of_the_stage = refl
+is_an_order : is_taken limits (opening []) (Some huge) ≡ true
+is_an_order = refl
 
--- a heartbeat isn't one of this stage
-is_another : is_taken_order (opening []) (field 35 (codes "0") ∷ []) ≡ false
-is_another = refl
+-- an order whose id was sent before isn't taken
+is_known : is_taken limits (after_frames limits (opening reads) frames) (Some dearer) ≡ false
+is_known = refl
+
+-- it is, and is refused, where its account is unknown
+is_unknown : is_taken (record limits { accounts = [] })
+    (after_frames limits (opening reads) frames) (Some dearer) ≡ true
+is_unknown = refl
+
+-- a heartbeat is taken, and so is what isn't sound
+is_heartbeat : is_taken limits (opening []) (Some (field 35 (codes "0") ∷ [])) ≡ true
+is_heartbeat = refl
+
+is_unsound : is_taken limits (opening []) None ≡ true
+is_unsound = refl
+
+-- nothing was done before the first frame
+acts_of_none : (after_frames limits (opening []) []).acts ≡ []
+acts_of_none = refl
+
+-- an order of the side that isn't 1, or a market order, is reserved at the upper collar price
+abbrev fields_of : List ℕ → List ℕ → List ℕ → List FieldValue
+fields_of id side price =
+    field 35 (codes "D") ∷ field 49 (codes "C1") ∷ field 56 (codes "GATE") ∷ field 34
+    (codes "1") ∷ field 52 (codes "20240102-10:00:00")
+    ∷ field 11 id ∷ field 1 (codes "ACC") ∷ field 55 (codes "XYZ") ∷ field 54 side
+    ∷ field 38 (codes "100") ∷ field 40 (codes "2") ∷ field 44 price
+    ∷ field 60 (codes "20240102-10:00:00") ∷ []
+
+abbrev roomy : LimitsValue
+roomy = limits_of 5000 100000
+
+abbrev after_sale : SessionValue
+after_sale = after_frames roomy (opening (reads_of 1200))
+    (record { place = 0; end = 136; fields = Some (fields_of (codes "a1") (codes "2")
+    (codes "9.00")) } ∷ [])
+
+acts_of_sale : after_sale.acts
+    ≡ Post 0 1 1200 ∷ Post 1 1 1200 ∷ Post 2 1 1200
+    ∷ Read 4 0 0 0 ∷ Read 0 1 1 1200 ∷ Read 1 1 1 1200 ∷ Read 2 1 1 1200 ∷ Sent 0 ∷ []
+acts_of_sale = refl
+
+-- a frame that isn't sound, between two that are: it is noted, and the numbers go on without it
+abbrev twice : List SeenAt
+twice = reads_of 1000 ++ (record { stamp = 0; place = 0; value = 0 }
+    ∷ record { stamp = 2; place = 2; value = 2100 } ∷ record { stamp = 2; place = 2; value = 2100 }
+    ∷ record { stamp = 2; place = 2; value = 2100 } ∷ [])
+
+abbrev after_garbled : SessionValue
+after_garbled = after_frames roomy (opening twice)
+    (record { place = 0; end = 136; fields = Some (fields_of (codes "a1") (codes "1")
+    (codes "10.00")) }
+    ∷ record { place = 136; end = 272; fields = None }
+    ∷ record { place = 272; end = 408; fields = Some (fields_of (codes "a3") (codes "1")
+    (codes "11.00")) } ∷ [])
+
+acts_of_garbled : after_garbled.acts
+    ≡ Post 0 1 1000 ∷ Post 1 1 1000 ∷ Post 2 1 1000
+    ∷ Read 4 0 0 0 ∷ Read 0 1 1 1000 ∷ Read 1 1 1 1000 ∷ Read 2 1 1 1000 ∷ Sent 0
+    ∷ Noted 1 1 0 0
+    ∷ Post 0 2 2100 ∷ Post 1 2 2100 ∷ Post 2 2 2100
+    ∷ Read 4 0 0 0 ∷ Read 0 2 2 2100 ∷ Read 1 2 2 2100 ∷ Read 2 2 2 2100 ∷ Sent 2 ∷ []
+acts_of_garbled = refl
+
+venue_of_garbled : length after_garbled.venue ≡ 2
+venue_of_garbled = refl
+
+client_of_garbled : after_garbled.client ≡ []
+client_of_garbled = refl
+
+-- an order without its Symbol (55), and one of another OrdType (40), get a Reject
+abbrev without_symbol : List FieldValue
+without_symbol =
+    field 35 (codes "D") ∷ field 49 (codes "C1") ∷ field 56 (codes "GATE") ∷ field 34
+    (codes "7") ∷ field 52 (codes "20240102-10:00:00")
+    ∷ field 11 (codes "a1") ∷ field 1 (codes "ACC") ∷ field 54 (codes "1")
+    ∷ field 38 (codes "100") ∷ field 40 (codes "2") ∷ field 44 (codes "10.00")
+    ∷ field 60 (codes "20240102-10:00:00") ∷ []
+
+abbrev of_another_type : List FieldValue
+of_another_type =
+    field 35 (codes "D") ∷ field 49 (codes "C1") ∷ field 56 (codes "GATE") ∷ field 34
+    (codes "7") ∷ field 52 (codes "20240102-10:00:00")
+    ∷ field 11 (codes "a1") ∷ field 1 (codes "ACC") ∷ field 55 (codes "XYZ")
+    ∷ field 54 (codes "1") ∷ field 38 (codes "100") ∷ field 40 (codes "3")
+    ∷ field 44 (codes "10.00") ∷ field 60 (codes "20240102-10:00:00") ∷ []
+
+abbrev reject_fields : ℕ → ℕ → List FieldValue
+reject_fields tag reason =
+    field 35 (codes "3") ∷ field 49 (codes "GATE") ∷ field 56 (codes "C1") ∷ field 34 (codes "1")
+    ∷ field 52 (codes "20240102-10:00:00") ∷ field 45 (codes "7") ∷ field 371 (decimal tag)
+    ∷ field 372 (codes "D") ∷ field 373 (decimal reason) ∷ []
+
+abbrev after_one : List FieldValue → SessionValue
+after_one own = after_frames roomy (opening [])
+    (record { place = 0; end = 136; fields = Some own } ∷ [])
+
+acts_of_missing : (after_one without_symbol).acts ≡ Refused 0 16 55 1 ∷ []
+acts_of_missing = refl
+
+client_of_missing : (after_one without_symbol).client ≡ message_text (reject_fields 55 1) ∷ []
+unfolding digits
+client_of_missing = refl
+
+acts_of_another : (after_one of_another_type).acts ≡ Refused 0 16 40 5 ∷ []
+acts_of_another = refl
+
+client_of_another : (after_one of_another_type).client ≡ message_text (reject_fields 40 5) ∷ []
+unfolding digits
+client_of_another = refl
+
+-- a report without its ExecType (150) gets a Reject in the venue's stream, with the time of no message
+abbrev bare_report : List FieldValue
+bare_report =
+    field 35 (codes "8") ∷ field 49 (codes "VENUE") ∷ field 56 (codes "GATE") ∷ field 34
+    (codes "3") ∷ []
+
+acts_of_report : (after_one bare_report).acts ≡ Noted 0 5 52 1 ∷ []
+acts_of_report = refl
+
+venue_of_report : (after_one bare_report).venue ≡ message_text
+    (field 35 (codes "3") ∷ field 49 (codes "GATE") ∷ field 56 (codes "VENUE")
+    ∷ field 34 (codes "1") ∷ field 52 (codes "19700101-00:00:00") ∷ field 45 (codes "3")
+    ∷ field 371 (codes "52") ∷ field 372 (codes "8") ∷ field 373 (codes "1") ∷ []) ∷ []
+unfolding digits
+venue_of_report = refl
+
+-- how sessions end
+end_of_cut : end_of false (found.Cut 136) ≡ ending.Cut 136
+end_of_cut = refl
+
+end_of_long : end_of false (found.TooLong 0) ≡ ending.TooLong 0
+end_of_long = refl
+
+end_of_much : end_of true found.End ≡ ending.TooLong 33554432
+end_of_much = refl
+
+end_of_cut_much : end_of true (found.Cut 33554400) ≡ ending.TooLong 33554400
+end_of_cut_much = refl
 
 -- the fields of an order with this account and this symbol
 abbrev fields_for : List ℕ → List ℕ → List FieldValue

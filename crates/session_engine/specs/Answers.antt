@@ -1,32 +1,28 @@
 -- The messages that the gate writes.
-use Rattle.std.specs.Prelude.{ℕ, ◌==◌, ◌||◌, List, [], ◌∷◌, ◌++◌, filter, codes, decimal, Bool, not}
-use Rattle.fix_fields.specs.Fields.{FieldValue, field}
+use Rattle.std.specs.Prelude.{ℕ, List, codes}
+use Rattle.std.specs.Option.{unwrap_or}
+use Rattle.fix_fields.specs.Fields.{FieldValue}
 use Rattle.fix_fields.specs.Messages.{message_text}
+use Rattle.fix_orders.specs.declared.message.FieldFault.{FieldFault}
+use Rattle.fix_orders.specs.declared.message.Stamp.{Stamp}
+use Rattle.fix_orders.specs.Envelopes.{envelope_of}
+use Rattle.fix_orders.specs.Faults.{value_of}
+use Rattle.fix_orders.specs.Writing.{forward_fields, order_reject_fields, session_reject_fields}
 use Rattle.session_engine.specs.declared.refusal.Refusal.{Refusal}
 use Rattle.session_engine.specs.declared.refusal.Refusal.TheVariants.{Firm, Account, Symbol, Halt}
 use Rattle.session_engine.specs.declared.refusal.Refusal.TheVariants.{Quota, Cap}
 use Rattle.session_engine.specs.declared.refusal.Refusal.TheVariants.{UnknownAccount, UnknownSymbol}
-use Rattle.session_engine.specs.FieldRows.{value_of}
+use Rattle.session_engine.specs.declared.note.Note.{Note}
+use Rattle.session_engine.specs.declared.note.Note.TheVariants.{NotSound, OtherType, FaultyField}
 
--- the first fields of each message: its type, the gate as sender, its receiver, its number, its time
-abbrev pub opening_fields : List ℕ → List ℕ → ℕ → List ℕ → List FieldValue
-opening_fields kind receiver number time =
-    field 35 kind ∷ field 49 (codes "GATE") ∷ field 56 receiver ∷ field 34 (decimal number)
-    ∷ field 52 time ∷ []
+-- to whom a message goes, with which number and time
+abbrev pub stamp_of : List ℕ → ℕ → List ℕ → Stamp
+stamp_of receiver number time = record { target = receiver; seq = number; time = time }
 
--- a field that a forward has of its own
-abbrev pub is_own_field : FieldValue → Bool
-is_own_field f = f.tag == 35 || f.tag == 49 || f.tag == 56 || f.tag == 34 || f.tag == 52
-
--- the fields of the message passed on: all that are not its own as they came, in their order
-abbrev pub forward_fields : List ℕ → ℕ → List FieldValue → List FieldValue
-forward_fields receiver number fields =
-    opening_fields (value_of 35 fields) receiver number (value_of 52 fields)
-    ++ filter (λ f. not (is_own_field f)) fields
-
--- the message passed on
+-- an order passed on, with the time that it has
 abbrev pub forward_text : List ℕ → ℕ → List FieldValue → List ℕ
-forward_text receiver number fields = message_text (forward_fields receiver number fields)
+forward_text receiver number fields =
+    message_text (forward_fields (stamp_of receiver number (value_of 52 fields)) fields)
 
 -- the number of a refusal in the journal
 abbrev pub code_of : Refusal → ℕ
@@ -62,18 +58,29 @@ text_of Cap = codes "CAP"
 text_of UnknownAccount = codes "UNKNOWN ACCOUNT"
 text_of UnknownSymbol = codes "UNKNOWN SYMBOL"
 
--- the fields of an ExecutionReport that refuses an order, after the first ones
-abbrev pub refusal_fields : ℕ → List FieldValue → Refusal → List FieldValue
-refusal_fields number fields refusal =
-    field 37 (codes "NONE") ∷ field 11 (value_of 11 fields) ∷ field 17 (codes "G" ++ decimal number)
-    ∷ field 150 (codes "8") ∷ field 39 (codes "8")
-    ∷ field 103 (decimal (order_reason_of refusal))
-    ∷ field 1 (value_of 1 fields) ∷ field 55 (value_of 55 fields) ∷ field 54 (value_of 54 fields)
-    ∷ field 38 (value_of 38 fields) ∷ field 151 (codes "0") ∷ field 14 (codes "0")
-    ∷ field 6 (codes "0") ∷ field 58 (text_of refusal) ∷ []
-
--- the ExecutionReport that refuses an order
+-- the ExecutionReport that refuses an order, with the time that the order has
 abbrev pub refusal_text : List ℕ → ℕ → List FieldValue → Refusal → List ℕ
 refusal_text receiver number fields refusal =
-    message_text (opening_fields (codes "8") receiver number (value_of 52 fields)
-    ++ refusal_fields number fields refusal)
+    message_text (order_reject_fields fields (value_of 11 fields)
+    (stamp_of receiver number (value_of 52 fields)) (order_reason_of refusal) (text_of refusal))
+
+-- SendingTime (52) of the answer to a message in which it doesn't stand once as an id
+abbrev pub no_time : List ℕ
+no_time = codes "19700101-00:00:00"
+
+-- the Reject of a message with a field fault: 45 is its number, or 0 where none is read
+abbrev pub reject_text : List ℕ → ℕ → List FieldValue → FieldFault → List ℕ
+reject_text receiver number fields fault =
+    message_text (session_reject_fields
+    (stamp_of receiver number (unwrap_or (envelope_of fields).time no_time))
+    (unwrap_or (envelope_of fields).seq 0) (value_of 35 fields) fault)
+
+-- the number of a refusal for a field fault in the journal
+abbrev pub fault_code : ℕ
+fault_code = 16
+
+-- the number of a note in the journal
+abbrev pub note_code : Note → ℕ
+note_code NotSound = 1
+note_code OtherType = 2
+note_code FaultyField = 5

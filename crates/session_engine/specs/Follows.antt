@@ -13,20 +13,16 @@ use Rattle.risk_journal.specs.declared.acts.Act.TheVariants.{Ended}
 use Rattle.risk_journal.specs.declared.acts.End.{End}
 use Rattle.risk_journal.specs.declared.acts.End.TheVariants as ending
 use Rattle.session_engine.specs.Session.{LimitsValue, SessionValue, opening, after_frames}
-use Rattle.session_engine.specs.Session.{AreTaken, is_taken, end_of}
+use Rattle.session_engine.specs.Session.{AreTaken, is_taken, end_of, input_most}
 use Rattle.risk_journal.specs.ActLists.{reads_of}
 use Rattle.session_engine.specs.Admitted.{CoversOrders}
 
--- the most bytes of a session's input
-abbrev pub input_most : ℕ
-input_most = 33554432
-
--- what is found next is no frame, or a frame that this stage doesn't take
-abbrev pub StopsAt : List ℕ → ℕ → SessionValue → Found → Type 0
-StopsAt bytes from session (found.Frame f) =
+-- what is found next is no frame, or a frame that isn't taken
+abbrev pub StopsAt : LimitsValue → List ℕ → ℕ → SessionValue → Found → Type 0
+StopsAt limits bytes from session (found.Frame f) =
     (fields : Option (List FieldValue)) × StandsAt bytes from f fields
-    × (is_taken session fields ≡ false)
-StopsAt bytes from session next = Unit {0}
+    × (is_taken limits session fields ≡ false)
+StopsAt limits bytes from session next = Unit {0}
 
 -- the session over these frames, with the reads that its acts have
 abbrev pub session_of : LimitsValue → List Act → List FrameValue → SessionValue
@@ -40,10 +36,10 @@ pub record FollowsInput (limits : LimitsValue) (bytes : List ℕ) (acts : List A
   pub next : Found
   pub split : Splits (take input_most bytes) 0 frames next
   pub taken : AreTaken limits (opening (reads_of acts)) frames
-  pub stops : StopsAt (take input_most bytes) (place_after 0 frames)
+  pub stops : StopsAt limits (take input_most bytes) (place_after 0 frames)
       (session_of limits acts frames) next
   pub acts_are : acts ≡ (session_of limits acts frames).acts ++ Ended end ∷ []
-  pub end_is : end ≡ end_of (nat_lt input_most (length bytes)) (place_after 0 frames) next
+  pub end_is : end ≡ end_of (nat_lt input_most (length bytes)) next
   pub venue_is : venue ≡ concat (session_of limits acts frames).venue
   pub client_is : client ≡ concat (session_of limits acts frames).client
   -- after each frame, what the orders sent so far are worth is admitted

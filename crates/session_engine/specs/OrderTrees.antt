@@ -10,8 +10,8 @@ use Rattle.session_engine.specs.declared.refusal.Refusal.TheVariants.{UnknownAcc
 use Rattle.session_engine.specs.declared.rows.OrderRows.{OrderRows}
 use Rattle.session_engine.specs.Trees.{LimitsValue, account_tree, symbol_tree}
 
--- an order: its ClOrdID (11), its Account (1), its Symbol (55), its OrderQty (38), and its Price
--- (44) in ten-thousandths
+-- an order: its ClOrdID (11), its Account (1), its Symbol (55), its OrderQty (38), and its reserve
+-- price in ten-thousandths
 pub record OrderValue : Type 0 where
   pub id : List ℕ
   pub account : List ℕ

@@ -4,12 +4,12 @@ use Rattle.fix_fields.specs.Fields.{FieldValue}
 use Rattle.fix_fields.specs.Frames.{FrameValue, IsFrameAt}
 use Rattle.fix_fields.specs.Found.{place_after}
 use Rattle.risk_journal.specs.declared.acts.Act.{Act}
+use Rattle.risk_journal.specs.ActLists.{SeenAt, reads_of}
 use Rattle.session_engine.specs.declared.refusal.Refusal.{Refusal}
-use Rattle.session_engine.specs.Session.{LimitsValue, SessionValue, opening, after_frame}
-use Rattle.risk_journal.specs.ActLists.{SeenAt}
-use Rattle.session_engine.specs.Session.{after_frames, AreTaken, order_of, client_after}
+use Rattle.session_engine.specs.OrderTrees.{OrderValue}
+use Rattle.session_engine.specs.Session.{LimitsValue, SessionValue, opening, after_order}
+use Rattle.session_engine.specs.Session.{after_frame, after_frames, AreTaken}
 use Rattle.session_engine.specs.Answers.{forward_text, refusal_text}
-use Rattle.risk_journal.specs.ActLists.{reads_of}
 
 -- the session with these reads to come
 abbrev pub with_reads : List SeenAt → SessionValue → SessionValue
@@ -22,34 +22,42 @@ forward_of fields session = forward_text (codes "VENUE") (length session.venue +
 -- the message that refuses an order of these fields
 abbrev pub refusal_of : List FieldValue → Refusal → SessionValue → List ℕ
 refusal_of fields refusal session =
-    let receiver = client_after fields session.client_id in
-    refusal_text receiver (length session.client + 1) fields refusal
+    refusal_text session.client_id (length session.client + 1) fields refusal
 
 -- the session after an order that was sent or refused, with these acts
-abbrev pub next_session : List FieldValue → Option Refusal → List Act → SessionValue
+abbrev pub next_session : List FieldValue → OrderValue → Option Refusal → List Act → SessionValue
     → SessionValue
-next_session fields None acts session = record session {
+next_session fields order None acts session = record session {
   acts = acts;
   venue = session.venue ++ forward_of fields session ∷ [];
-  orders = session.orders ++ order_of fields ∷ [];
-  client_id = client_after fields session.client_id;
+  orders = session.orders ++ order ∷ [];
   frames = session.frames + 1;
 }
-next_session fields (Some refusal) acts session = record session {
+next_session fields order (Some refusal) acts session = record session {
   acts = acts;
   client = session.client ++ refusal_of fields refusal session ∷ [];
-  client_id = client_after fields session.client_id;
   frames = session.frames + 1;
 }
 
--- A frame of these fields leads from a session to the next, by the reads that its acts have,
+-- An order leads from a session whose client is known to the next, by the reads that its acts have,
 -- whatever further reads are to come.
-pub record Steps (limits : LimitsValue) (fields : List FieldValue) (session next : SessionValue)
-    : Type 0 where
+pub record Orders (limits : LimitsValue) (fields : List FieldValue) (order : OrderValue)
+    (session next : SessionValue) : Type 0 where
   pub seen : List SeenAt
   pub reads_are : reads_of next.acts ≡ reads_of session.acts ++ seen
   pub stepped : (more : List SeenAt)
-      → after_frame limits (Some fields) (with_reads (seen ++ more) session) ≡ with_reads more next
+      → record (after_order limits fields order (with_reads (seen ++ more) session)) {
+        frames = session.frames + 1;
+      } ≡ with_reads more next
+
+-- A frame leads from a session to the next, by the reads that its acts have, whatever further reads
+-- are to come.
+pub record Steps (limits : LimitsValue) (fields : Option (List FieldValue))
+    (session next : SessionValue) : Type 0 where
+  pub seen : List SeenAt
+  pub reads_are : reads_of next.acts ≡ reads_of session.acts ++ seen
+  pub stepped : (more : List SeenAt)
+      → after_frame limits fields (with_reads (seen ++ more) session) ≡ with_reads more next
 
 -- from a place on, the bytes are these frames
 abbrev pub SplitsTo : List ℕ → ℕ → List FrameValue → Type 0

@@ -7,33 +7,28 @@ use Rattle.fix_fields.specs.declared.frame.Found.{Found}
 use Rattle.fix_fields.specs.declared.frame.Found.TheVariants as found
 use Rattle.risk_journal.specs.declared.acts.End.{End}
 use Rattle.risk_journal.specs.declared.acts.End.TheVariants as ending
-use Rattle.risk_journal.specs.declared.acts.End.TheVariants.{NotBuilt, ReadFault}
 use Rattle.gate_ports.specs.declared.fetch.FetchEnd.{FetchEnd}
 use Rattle.gate_ports.specs.declared.fetch.FetchEnd.TheVariants.{Whole, Failed, Memory}
 use Rattle.session_engine.specs.Session.{end_of}
 use Rattle.risk_journal.specs.declared.acts.Act.{Act}
 use Rattle.session_engine.specs.declared.session.Stop.{Stop}
 use Rattle.session_engine.specs.declared.session.Stop.TheVariants as stop
-use Rattle.session_engine.specs.declared.totals.Totals.{Totals}
-use Rattle.session_engine.specs.declared.totals.TreeTotals.{TreeTotals}
 use Rattle.session_engine.specs.Session.{LimitsValue, SessionValue}
 use Rattle.session_engine.specs.Follows.{StopsAt}
 use Rattle.session_engine.specs.Reaches.{Reaches}
-use Rattle.session_engine.specs.Stands.{StandsFor}
-use Rattle.session_engine.specs.Taken.{CountsFit}
+use Rattle.session_engine.specs.Taken.{Kept, StandsAs, CountsFit}
 
--- The frames up to a place were taken: the values are those of the session to which they lead, and the
+-- The frames up to a place were taken: what is kept is that of the session to which they lead, and the
 -- sinks got its messages.
-pub record RunsTo (limits : LimitsValue) (bytes : List ℕ) (place : ℕ) (has : List ℕ → Bool)
-    (acts : List Act) (trees : List TreeTotals) (totals : Totals)
-    (venue venue_after client client_after : Option (List ℕ)) : Type 0 where
+pub record RunsTo (limits : LimitsValue) (bytes : List ℕ) (place : ℕ)
+    (venue client : Option (List ℕ)) (kept : Kept) : Type 0 where
   pub session : SessionValue
   pub reaches : Reaches limits bytes place session
-  pub stands : StandsFor limits has acts trees totals session
-  pub counts : CountsFit place trees totals
+  pub stands : StandsAs limits kept session
+  pub counts : CountsFit place kept.trees kept.totals
   pub within : place ≤ length bytes
-  pub venue_grows : Appends venue venue_after (concat session.venue)
-  pub client_grows : Appends client client_after (concat session.client)
+  pub venue_grows : Appends venue kept.venue (concat session.venue)
+  pub client_grows : Appends client kept.client (concat session.client)
 
 -- The frames before what was found next were taken, and it isn't taken.
 pub record StopsBefore (limits : LimitsValue) (bytes : List ℕ) (place : ℕ) (next : Found)
@@ -41,7 +36,7 @@ pub record StopsBefore (limits : LimitsValue) (bytes : List ℕ) (place : ℕ) (
   pub session : SessionValue
   pub reaches : Reaches limits bytes place session
   pub finds : Finds bytes place next
-  pub stops : StopsAt bytes place session next
+  pub stops : StopsAt limits bytes place session next
   pub acts_are : session.acts ≡ acts
   pub venue_grows : Appends venue venue_after (concat session.venue)
   pub client_grows : Appends client client_after (concat session.client)
@@ -53,10 +48,17 @@ StopsBy limits bytes (stop.Found place next) acts venue venue_after client clien
     StopsBefore limits bytes place next acts venue venue_after client client_after
 StopsBy limits bytes (stop.Fault end) acts venue venue_after client client_after = Unit {0}
 
--- How a session ends by what stands next: as its input says, or by the fault of a fetch where no whole
--- frame stands there.
-abbrev pub end_after : FetchEnd → Bool → ℕ → Found → End
-end_after fetch goes_on place (found.Frame f) = NotBuilt f.start
-end_after Whole goes_on place next = end_of goes_on place next
-end_after Failed goes_on place next = ReadFault
-end_after Memory goes_on place next = ending.Memory
+-- How a session ends whose input may go on where a fetch ended so: as the input says, or by the fault
+-- of the fetch.
+abbrev pub end_by : FetchEnd → End → End
+end_by Whole end = end
+end_by Failed end = ending.ReadFault
+end_by Memory end = ending.Memory
+
+-- How a session ends by what stands next. What no further bytes can change ends it as the input says.
+abbrev pub end_after : FetchEnd → Bool → Found → End
+end_after fetch goes_on (found.Frame f) = end_of goes_on (found.Frame f)
+end_after fetch goes_on (found.Broken place) = end_of goes_on (found.Broken place)
+end_after fetch goes_on (found.TooLong place) = end_of goes_on (found.TooLong place)
+end_after fetch goes_on (found.Cut place) = end_by fetch (end_of goes_on (found.Cut place))
+end_after fetch goes_on found.End = end_by fetch (end_of goes_on found.End)

@@ -1,20 +1,31 @@
 -- What a session does with each frame, as a function of the frames and of the reads.
-use Rattle.std.specs.Prelude.{ℕ, ◌+◌, ◌&&◌, List, [], ◌∷◌, ◌++◌, length, drop, fold, map}
-use Rattle.std.specs.Prelude.{Option, Some, None, is_none, IsTrue, Bool, true, false}
+use Rattle.std.specs.Prelude.{ℕ, ◌+◌, ◌==◌, ◌||◌, List, [], ◌∷◌, ◌++◌, length, drop, fold, map}
+use Rattle.std.specs.Prelude.{Option, Some, None, IsTrue, Bool, true, false}
 use Rattle.std.specs.Prelude.{not, nat_lt, if◌then◌else◌, codes, Result, Ok, Err}
 use Rattle.std.specs.List.{list_any, slice_index_or}
-use Rattle.std.specs.Result.{result_unwrap_or}
+use Rattle.std.specs.Option.{unwrap_or}
+use Rattle.std.specs.Result.{is_err}
 use Rattle.std.specs.Str.{bytes_eq}
 use Rattle.fold_law.specs.declared.limits.TheConstants.{LEAF}
 use Rattle.fix_fields.specs.Fields.{FieldValue}
 use Rattle.fix_fields.specs.Frames.{FrameValue}
-use Rattle.fix_fields.specs.Numbers.{price_of, quantity_of, id_of}
 use Rattle.fix_fields.specs.declared.frame.Found.{Found}
 use Rattle.fix_fields.specs.declared.frame.Found.TheVariants as found
+use Rattle.fix_orders.specs.declared.kind.Kind.{Kind}
+use Rattle.fix_orders.specs.declared.kind.Kind.TheVariants as kind
+use Rattle.fix_orders.specs.declared.message.FieldFault.{FieldFault}
+use Rattle.fix_orders.specs.declared.message.Message.{Message}
+use Rattle.fix_orders.specs.declared.message.Message.TheVariants as message
+use Rattle.fix_orders.specs.Envelopes.{envelope_of}
+use Rattle.fix_orders.specs.Faults.{value_of}
+use Rattle.fix_orders.specs.Kinds.{kind_of}
+use Rattle.fix_orders.specs.Reading.{read_of}
 use Rattle.risk_journal.specs.declared.acts.Act.{Act}
-use Rattle.risk_journal.specs.declared.acts.Act.TheVariants.{Post, Read, Sent, Refused}
+use Rattle.risk_journal.specs.declared.acts.Act.TheVariants.{Post, Read, Sent, Refused, Noted}
 use Rattle.risk_journal.specs.declared.acts.End.{End}
-use Rattle.risk_journal.specs.declared.acts.End.TheVariants.{Whole, NotBuilt}
+use Rattle.risk_journal.specs.declared.acts.End.TheVariants as ending
+use Rattle.session_engine.specs.declared.note.Note.{Note}
+use Rattle.session_engine.specs.declared.note.Note.TheVariants as note
 use Rattle.session_engine.specs.declared.refusal.Refusal.{Refusal}
 use Rattle.session_engine.specs.declared.refusal.Refusal.TheVariants as refusal
 use Rattle.session_engine.specs.declared.rows.OrderRows.{OrderRows}
@@ -23,8 +34,9 @@ pub use Rattle.session_engine.specs.Trees.{LimitsValue}
 use Rattle.session_engine.specs.Trees.{halt_tree, tree_limits, account_tree, symbol_tree}
 pub use Rattle.session_engine.specs.OrderTrees.{OrderValue}
 use Rattle.session_engine.specs.OrderTrees.{rows_of, value_in}
-use Rattle.session_engine.specs.FieldRows.{value_of, values_of, first_fault, new_order_rows}
-use Rattle.session_engine.specs.Answers.{forward_text, refusal_text, code_of}
+use Rattle.session_engine.specs.Reserves.{order_of}
+use Rattle.session_engine.specs.Answers.{forward_text, refusal_text, reject_text}
+use Rattle.session_engine.specs.Answers.{code_of, fault_code, note_code}
 
 -- a session after some frames: what it did and wrote, and the reads that are still to come
 pub record SessionValue : Type 0 where
@@ -36,6 +48,10 @@ pub record SessionValue : Type 0 where
   pub frames : ℕ
   pub reads : List SeenAt
 
+-- the client before any request names it
+abbrev pub unnamed_client : List ℕ
+unnamed_client = codes "CLIENT"
+
 -- a session before its first frame
 abbrev pub opening : List SeenAt → SessionValue
 opening reads = record {
@@ -43,7 +59,7 @@ opening reads = record {
   venue = [];
   client = [];
   orders = [];
-  client_id = codes "CLIENT";
+  client_id = unnamed_client;
   frames = 0;
   reads = reads;
 }
@@ -81,16 +97,6 @@ pub record Leg : Type 0 where
   pub old : ℕ
   pub new : ℕ
   pub refusal : Refusal
-
--- the order that the fields ask for
-abbrev pub order_of : List FieldValue → OrderValue
-order_of fields = record {
-  id = value_of 11 fields;
-  account = value_of 1 fields;
-  symbol = value_of 55 fields;
-  quantity = result_unwrap_or (quantity_of (value_of 38 fields)) 0;
-  price = result_unwrap_or (price_of (value_of 44 fields)) 0;
-}
 
 -- the leg of a tree, by what was last posted in each tree and what is to be posted
 abbrev pub leg_with : LimitsValue → (ℕ → ℕ) → (ℕ → ℕ) → ℕ → Refusal → Leg
@@ -195,45 +201,87 @@ after_rows limits fields order (Ok rows) session =
     after_checks limits fields order legs (early_refusal limits session.acts legs) session
 
 -- an order is taken up
-abbrev pub after_order : LimitsValue → List FieldValue → SessionValue → SessionValue
-after_order limits fields session =
-    let order = order_of fields in
+abbrev pub after_order : LimitsValue → List FieldValue → OrderValue → SessionValue → SessionValue
+after_order limits fields order session =
     after_rows limits fields order (rows_of limits order) session
 
--- no order sent before has this ClOrdID (11)
-abbrev pub is_new_id : List ℕ → List OrderValue → Bool
-is_new_id id orders = not (list_any (λ order. bytes_eq order.id id) orders)
+-- a frame is noted
+abbrev pub after_noting : Note → SessionValue → SessionValue
+after_noting what session = with_act (Noted session.frames (note_code what) 0 0) session
 
--- a buy (Side 1) limit order (OrdType 2) without a field fault, whose id no order sent before has
-abbrev pub is_taken_order : SessionValue → List FieldValue → Bool
-is_taken_order session fields =
-    bytes_eq (value_of 35 fields) (codes "D")
-    && is_none (first_fault fields (new_order_rows fields))
-    && bytes_eq (value_of 54 fields) (codes "1") && bytes_eq (value_of 40 fields) (codes "2")
-    && is_new_id (value_of 11 fields) session.orders
+-- a request with a field fault is refused: the client gets a Reject
+abbrev pub after_rejecting : List FieldValue → FieldFault → SessionValue → SessionValue
+after_rejecting fields fault session =
+    let number = length session.client + 1 in
+    record (with_act (Refused session.frames fault_code fault.tag fault.reason) session) {
+      client = session.client ++ reject_text session.client_id number fields fault ∷ [];
+    }
 
--- a sound frame of this stage
-abbrev pub is_taken : SessionValue → Option (List FieldValue) → Bool
-is_taken session None = false
-is_taken session (Some fields) = is_taken_order session fields
+-- a report with a field fault is noted: the venue gets a Reject
+abbrev pub after_returning : List FieldValue → FieldFault → SessionValue → SessionValue
+after_returning fields fault session =
+    let number = length session.venue + 1 in
+    let act = Noted session.frames (note_code note.FaultyField) fault.tag fault.reason in
+    record (with_act act session) {
+      venue = session.venue ++ reject_text (codes "VENUE") number fields fault ∷ [];
+    }
 
--- the one value, where it is an id
-abbrev pub one_id : List (List ℕ) → List ℕ → List ℕ
-one_id [] before = before
-one_id (value ∷ []) before = result_unwrap_or (id_of value) before
-one_id (value ∷ other ∷ more) before = before
+-- a message that a client sends: an order, a cancel or a replace
+abbrev pub is_request : Kind → Bool
+is_request kind.NewOrderSingle = true
+is_request kind.OrderCancelRequest = true
+is_request kind.OrderCancelReplaceRequest = true
+is_request kind.ExecutionReport = false
+is_request kind.OrderCancelReject = false
+is_request kind.Admin = false
+is_request kind.Other = false
 
--- the client: the one SenderCompID (49) of a request, and else the one before
-abbrev pub client_after : List FieldValue → List ℕ → List ℕ
-client_after fields before = one_id (values_of 49 fields) before
+-- the client: SenderCompID (49) of a request, where it stands once as an id, and else the one before
+abbrev pub client_after : Bool → List FieldValue → List ℕ → List ℕ
+client_after true fields before = unwrap_or (envelope_of fields).sender before
+client_after false fields before = before
 
--- a frame; one that isn't sound is none of this stage
+-- the session with that client
+abbrev pub named : Bool → List FieldValue → SessionValue → SessionValue
+named request fields session =
+    record session { client_id = client_after request fields session.client_id }
+
+-- a message with a field fault
+abbrev pub after_fault : Bool → List FieldValue → FieldFault → SessionValue → SessionValue
+after_fault true fields fault session = after_rejecting fields fault session
+after_fault false fields fault session = after_returning fields fault session
+
+-- a message without a field fault; one that isn't taken yet changes nothing
+abbrev pub after_message : LimitsValue → List FieldValue → Message → SessionValue → SessionValue
+after_message limits fields (message.New order) session =
+    after_order limits fields (order_of limits order) session
+after_message limits fields (message.Cancel request) session = session
+after_message limits fields (message.Replace request) session = session
+after_message limits fields (message.Report report) session = session
+after_message limits fields (message.CancelReject report) session = session
+after_message limits fields message.Admin session = session
+after_message limits fields message.Other session = after_noting note.OtherType session
+
+-- what was read of a sound frame, which is a request or isn't one
+abbrev pub after_result : LimitsValue → Bool → List FieldValue → Result Message FieldFault
+    → SessionValue → SessionValue
+after_result limits request fields (Ok whole) session = after_message limits fields whole session
+after_result limits request fields (Err fault) session = after_fault request fields fault session
+
+-- a sound frame is a request
+abbrev pub asks : List FieldValue → Bool
+asks fields = is_request (kind_of (value_of 35 fields))
+
+-- a frame, before it is counted
+abbrev pub after_content : LimitsValue → Option (List FieldValue) → SessionValue → SessionValue
+after_content limits None session = after_noting note.NotSound session
+after_content limits (Some fields) session =
+    after_result limits (asks fields) fields (read_of fields) (named (asks fields) fields session)
+
+-- a frame
 abbrev pub after_frame : LimitsValue → Option (List FieldValue) → SessionValue → SessionValue
-after_frame limits None session = session
-after_frame limits (Some fields) session =
-    let named : SessionValue =
-    record session { client_id = client_after fields session.client_id } in
-    record (after_order limits fields named) { frames = session.frames + 1 }
+after_frame limits fields session =
+    record (after_content limits fields session) { frames = session.frames + 1 }
 
 -- the session after these frames
 abbrev pub after_frames : LimitsValue → SessionValue → List FrameValue → SessionValue
@@ -241,19 +289,54 @@ after_frames limits session [] = session
 after_frames limits session (frame ∷ frames) =
     after_frames limits (after_frame limits frame.fields session) frames
 
--- each of these frames is one of this stage, as the session stands before it
+-- no order sent before has this ClOrdID (11)
+abbrev pub is_new_id : List ℕ → List OrderValue → Bool
+is_new_id id orders = not (list_any (λ order. bytes_eq order.id id) orders)
+
+-- an order that is taken: its id is new, or it is refused before its id is looked up
+abbrev pub is_taken_order : LimitsValue → List OrderValue → OrderValue → Bool
+is_taken_order limits orders order =
+    is_err (rows_of limits order) || is_new_id order.id orders
+
+-- a message without a field fault that is taken
+abbrev pub is_taken_message : LimitsValue → List OrderValue → Message → Bool
+is_taken_message limits orders (message.New order) =
+    is_taken_order limits orders (order_of limits order)
+is_taken_message limits orders (message.Cancel request) = false
+is_taken_message limits orders (message.Replace request) = false
+is_taken_message limits orders (message.Report report) = false
+is_taken_message limits orders (message.CancelReject report) = false
+is_taken_message limits orders message.Admin = true
+is_taken_message limits orders message.Other = true
+
+-- a message that is taken: one with a field fault is
+abbrev pub is_taken_read : LimitsValue → List OrderValue → Result Message FieldFault → Bool
+is_taken_read limits orders (Ok whole) = is_taken_message limits orders whole
+is_taken_read limits orders (Err fault) = true
+
+-- a frame that is taken: one that isn't sound is
+abbrev pub is_taken : LimitsValue → SessionValue → Option (List FieldValue) → Bool
+is_taken limits session None = true
+is_taken limits session (Some fields) = is_taken_read limits session.orders (read_of fields)
+
+-- each of these frames is taken, as the session stands before it
 abbrev pub AreTaken : LimitsValue → SessionValue → List FrameValue → Type 0
 AreTaken limits session [] = Unit {0}
 AreTaken limits session (frame ∷ frames) =
-    IsTrue (is_taken session frame.fields)
+    IsTrue (is_taken limits session frame.fields)
     × AreTaken limits (after_frame limits frame.fields session) frames
 
--- The end by what stands after the last frame taken. Where the source goes on past the input and no
--- whole frame stands there, it is the place after that frame.
-abbrev pub end_of : Bool → ℕ → Found → End
-end_of goes_on after (found.Frame f) = NotBuilt f.start
-end_of true after next = NotBuilt after
-end_of false after found.End = Whole
-end_of false after (found.Cut place) = NotBuilt place
-end_of false after (found.Broken place) = NotBuilt place
-end_of false after (found.TooLong place) = NotBuilt place
+-- the most bytes of a session's input
+abbrev pub input_most : ℕ
+input_most = 33554432
+
+-- The end by what stands after the last frame taken: a frame there isn't taken. Where the source goes
+-- on past the input, a frame that is cut there is too long, and so is the input.
+abbrev pub end_of : Bool → Found → End
+end_of goes_on (found.Frame f) = ending.NotBuilt f.start
+end_of goes_on (found.Broken place) = ending.Broken place
+end_of goes_on (found.TooLong place) = ending.TooLong place
+end_of true (found.Cut place) = ending.TooLong place
+end_of true found.End = ending.TooLong input_most
+end_of false (found.Cut place) = ending.Cut place
+end_of false found.End = ending.Whole

@@ -1,51 +1,72 @@
 -- Frames as a session takes them.
-use Rattle.std.specs.Prelude.{◌≡◌, ℕ, ◌+◌, ◌*◌, ◌≤◌, List, ◌++◌, length, Option, Some, None, IsTrue, true, false, Bool, codes, is_some, not, ◌&&◌, ◌<◌, ◌^◌}
-use Rattle.std.specs.List.{concat, list_all}
+use Rattle.std.specs.Prelude.{◌≡◌, ℕ, ◌+◌, ◌*◌, ◌≤◌, ◌<◌, ◌^◌, List, ◌++◌, Option, Some, None, codes}
+use Rattle.std.specs.Prelude.{is_some, Bool, true, false, not, ◌||◌, Ok}
+use Rattle.std.specs.List.{concat}
+use Rattle.std.specs.Result.{is_err}
+use Rattle.std.specs.BTreeSet.{contains}
+use Rattle.std.specs.Ordering.{nat_cmp}
+use Rattle.std.specs.Cmp.Lexicographic.{slice_cmp}
 use Rattle.std.specs.Io.KnownBytes.{Appends}
-use Rattle.fix_fields.specs.Fields.{FieldValue, is_value_byte}
-use Rattle.fix_fields.specs.Places.{HasFieldsIn}
+use Rattle.fix_fields.specs.Fields.{FieldValue}
+use Rattle.fix_fields.specs.Places.{HasFieldsIn, IsSoundIn}
 use Rattle.fix_fields.specs.Found.{StandsAt}
 use Rattle.fix_fields.specs.declared.frame.Frame.{Frame}
+use Rattle.fix_orders.specs.declared.message.Message.TheVariants as message
+use Rattle.fix_orders.specs.declared.message.NewOrder.{NewOrder}
+use Rattle.fix_orders.specs.Reading.{read_of}
+use Rattle.risk_board.specs.Hands.{HandValue}
 use Rattle.risk_journal.specs.declared.acts.Act.{Act}
+use Rattle.session_engine.specs.declared.decide.State.{State}
 use Rattle.session_engine.specs.declared.refusal.Refusal.{Refusal}
-use Rattle.session_engine.specs.declared.slots.Slots.{Slots}
 use Rattle.session_engine.specs.declared.totals.Totals.{Totals}
 use Rattle.session_engine.specs.declared.totals.TreeTotals.{TreeTotals}
-use Rattle.session_engine.specs.Session.{LimitsValue, SessionValue, is_taken_order}
-use Rattle.session_engine.specs.Slotted.{SlotsHave, IsRead, is_sound_order}
-use Rattle.session_engine.specs.Stands.{StandsFor, totals_at}
+use Rattle.session_engine.specs.OrderTrees.{OrderValue, rows_of}
+use Rattle.session_engine.specs.Session.{LimitsValue, SessionValue, is_taken}
+use Rattle.session_engine.specs.Stands.{StandsFor, InStep, totals_at}
 use Rattle.session_engine.specs.Reaches.{Steps}
 use Rattle.session_engine.specs.Answers.{forward_text, refusal_text}
-use Rattle.session_engine.specs.FieldRows.{value_of}
 
--- the frame is sound, the slots are of its fields, and they are those of a limit order to buy
-pub record IsOrderIn (bytes : List ℕ) (frame : Frame) (slots : Slots) : Type 0 where
-  pub fields : List FieldValue
-  pub stands : HasFieldsIn bytes frame fields
-  pub slots_are : SlotsHave bytes slots fields
-  pub read : IsRead fields
+-- what a session keeps from frame to frame, and what its sinks hold
+pub record Kept : Type 0 where
+  pub has : List ℕ → Bool
+  pub acts : List Act
+  pub trees : List TreeTotals
+  pub totals : Totals
+  pub client_id : List ℕ
+  pub venue : Option (List ℕ)
+  pub client : Option (List ℕ)
 
--- a value that a message of the gate can take: at most 64 bytes, without SOH
-pub record IsShort (text : List ℕ) : Type 0 where
-  pub without_soh : IsTrue (list_all is_value_byte text)
-  pub few : length text ≤ 64
+-- what is kept, by the running values, the client and what the sinks hold
+abbrev pub kept_by : State → List ℕ → Option (List ℕ) → Option (List ℕ) → Kept
+kept_by state client_id venue client = record {
+  has = contains (slice_cmp nat_cmp) state.ids;
+  acts = state.acts.items;
+  trees = state.trees.items;
+  totals = state.totals;
+  client_id = client_id;
+  venue = venue;
+  client = client;
+}
+
+-- what is kept is that of the session's value
+pub record StandsAs (limits : LimitsValue) (kept : Kept) (session : SessionValue) : Type 0 where
+  pub stands : StandsFor limits kept.has kept.acts kept.trees kept.totals session
+  pub client_is : session.client_id ≡ kept.client_id
+
+-- the frame stands somewhere in the bytes, with these fields where it is sound
+abbrev pub IsFrameOf : List ℕ → Frame → Option (List FieldValue) → Type 0
+IsFrameOf bytes frame fields =
+    (from : ℕ) × StandsAt bytes from frame fields × (frame.sound ≡ is_some fields)
 
 -- the frame stands somewhere in the bytes, and says whether it is sound
 abbrev pub IsSomeFrame : List ℕ → Frame → Type 0
-IsSomeFrame bytes frame =
-    (from : ℕ) × (fields : Option (List FieldValue)) × StandsAt bytes from frame fields
-    × (frame.sound ≡ is_some fields)
+IsSomeFrame bytes frame = (fields : Option (List FieldValue)) × IsFrameOf bytes frame fields
 
--- no order of this stage: not sound, not read as one, or of an id that is there
-abbrev pub IsOther : (List ℕ → Bool) → Option (List FieldValue) → Type 0
-IsOther has None = Unit {0}
-IsOther has (Some fields) = (is_sound_order fields && not (has (value_of 11 fields))) ≡ false
-
--- the frame stands somewhere in the bytes, and isn't an order of this stage
-abbrev pub IsOtherIn : List ℕ → Frame → (List ℕ → Bool) → Type 0
-IsOtherIn bytes frame has =
-    (from : ℕ) × (fields : Option (List FieldValue)) × StandsAt bytes from frame fields
-    × IsOther has fields
+-- the frame is sound, and whatever its fields are, it reads as this order
+pub record IsOrderIn (bytes : List ℕ) (frame : Frame) (order : NewOrder) : Type 0 where
+  pub sound : IsSoundIn bytes frame
+  pub each : (fields : List FieldValue) → HasFieldsIn bytes frame fields
+      → read_of fields ≡ Ok (message.New order)
 
 -- the counts of a session after the frames up to a place
 pub record CountsFit (place : ℕ) (trees : List TreeTotals) (totals : Totals) : Type 0 where
@@ -62,50 +83,91 @@ pub record HasSmallCounts (trees : List TreeTotals) (totals : Totals) : Type 0 w
   pub refused : totals.refused < 2 ^ 31
   pub exposures : (tree : ℕ) → (totals_at tree trees).exposure < 2 ^ 99
 
+-- one more message has a number of at most eight digits in either stream
+pub record HasFewMessages (totals : Totals) : Type 0 where
+  pub sent : totals.sent < 99999999
+  pub refused : totals.refused < 99999999
+
+-- the totals after a frame that has no message
+abbrev pub counted_totals : Totals → Totals
+counted_totals totals = record totals { frames = totals.frames + 1 }
+
+-- the number of the message that answers an order: it is counted already
+abbrev pub answer_number : Option Refusal → Totals → ℕ
+answer_number None totals = totals.sent
+answer_number (Some refusal) totals = totals.refused
+
+-- an order is taken whose id the ids don't have, or whose account or symbol is unknown
+abbrev pub is_taken_by : LimitsValue → (List ℕ → Bool) → OrderValue → Bool
+is_taken_by limits has order = is_err (rows_of limits order) || not (has order.id)
+
 -- one sink took a message, and the other nothing
-abbrev pub IsAnswered : List FieldValue → Totals → Option Refusal → Option (List ℕ)
+abbrev pub IsAnswered : List FieldValue → List ℕ → Totals → Option Refusal → Option (List ℕ)
     → Option (List ℕ) → Option (List ℕ) → Option (List ℕ) → Type 0
-IsAnswered fields totals None venue venue_after client client_after =
+IsAnswered fields client_id totals None venue venue_after client client_after =
     Appends venue venue_after (forward_text (codes "VENUE") totals.sent fields)
     × (client_after ≡ client)
-IsAnswered fields totals (Some refusal) venue venue_after client client_after =
+IsAnswered fields client_id totals (Some refusal) venue venue_after client client_after =
     (venue_after ≡ venue)
-    × Appends client client_after (refusal_text (value_of 49 fields) totals.refused fields refusal)
+    × Appends client client_after (refusal_text client_id totals.refused fields refusal)
 
--- A frame of these fields was taken: the session goes on with it, and its answer was given.
-pub record Takes (limits : LimitsValue) (fields : List FieldValue) (session next : SessionValue)
-    (has : List ℕ → Bool) (acts : List Act) (trees : List TreeTotals) (totals : Totals)
-    (venue venue_after client client_after : Option (List ℕ)) : Type 0 where
-  pub order : is_taken_order session fields ≡ true
+-- A frame was taken: the session goes on with it, and its answer was given.
+pub record Takes (limits : LimitsValue) (fields : Option (List FieldValue))
+    (session next : SessionValue) (before after : Kept) : Type 0 where
+  pub taken : is_taken limits session fields ≡ true
   pub steps : Steps limits fields session next
-  pub stands : StandsFor limits has acts trees totals next
+  pub stands : StandsAs limits after next
   pub to_venue : List ℕ
   pub to_client : List ℕ
-  pub venue_grows : Appends venue venue_after to_venue
-  pub client_grows : Appends client client_after to_client
+  pub venue_grows : Appends before.venue after.venue to_venue
+  pub client_grows : Appends before.client after.client to_client
   pub venue_is : concat next.venue ≡ concat session.venue ++ to_venue
   pub client_is : concat next.client ≡ concat session.client ++ to_client
 
--- Whatever session stands for the values before, the frame was taken in it.
-abbrev pub TakesAny : LimitsValue → List ℕ → Frame → (List ℕ → Bool) → (List ℕ → Bool)
-    → List Act → List Act → List TreeTotals → List TreeTotals → Totals → Totals
-    → Option (List ℕ) → Option (List ℕ) → Option (List ℕ) → Option (List ℕ) → Type 0
-TakesAny limits bytes frame has has_after acts acts_after trees trees_after totals totals_after
-    venue venue_after client client_after =
-    (fields : List FieldValue) (session : SessionValue) → HasFieldsIn bytes frame fields
-    → StandsFor limits has acts trees totals session
-    → (next : SessionValue) × Takes limits fields session next has_after acts_after trees_after
-    totals_after venue venue_after client client_after
+-- Whatever session stands for what was kept before, a frame of these fields was taken in it.
+abbrev pub TakesFrom : LimitsValue → Option (List FieldValue) → Kept → Kept → Type 0
+TakesFrom limits fields before after =
+    (session : SessionValue) → StandsAs limits before session
+    → (next : SessionValue) × Takes limits fields session next before after
 
--- Whatever session stands for the values before, the frame isn't one of this stage in it; nothing
--- was done.
-pub record LeavesAny (bytes : List ℕ) (frame : Frame) (has : List ℕ → Bool)
-    (acts acts_after : List Act) (venue venue_after client client_after : Option (List ℕ))
-    : Type 0 where
-  pub is_other : IsOtherIn bytes frame has
-  pub same_acts : acts_after ≡ acts
-  pub same_venue : venue_after ≡ venue
-  pub same_client : client_after ≡ client
+-- Whatever its fields are, the frame was taken.
+abbrev pub TakesAny : LimitsValue → List ℕ → Frame → Kept → Kept → Type 0
+TakesAny limits bytes frame before after =
+    (fields : Option (List FieldValue)) → IsFrameOf bytes frame fields
+    → TakesFrom limits fields before after
+
+-- Whatever its fields are, the sound frame was taken.
+abbrev pub TakesSound : LimitsValue → List ℕ → Frame → Kept → Kept → Type 0
+TakesSound limits bytes frame before after =
+    (fields : List FieldValue) → HasFieldsIn bytes frame fields
+    → TakesFrom limits (Some fields) before after
+
+-- nothing was told or written
+pub record IsAsBefore (before after : Kept) : Type 0 where
+  pub same_acts : after.acts ≡ before.acts
+  pub same_venue : after.venue ≡ before.venue
+  pub same_client : after.client ≡ before.client
+
+-- Whatever session stands for what was kept before, and whatever its fields are, the frame isn't
+-- taken.
+abbrev pub LeavesAny : LimitsValue → List ℕ → Frame → Kept → Type 0
+LeavesAny limits bytes frame before =
+    (fields : Option (List FieldValue)) → IsFrameOf bytes frame fields
+    → (session : SessionValue) → StandsAs limits before session
+    → is_taken limits session fields ≡ false
+
+-- the same of a sound frame
+abbrev pub LeavesSound : LimitsValue → List ℕ → Frame → Kept → Type 0
+LeavesSound limits bytes frame before =
+    (fields : List FieldValue) → HasFieldsIn bytes frame fields
+    → (session : SessionValue) → StandsAs limits before session
+    → is_taken limits session (Some fields) ≡ false
+
+-- hands that are in step with the acts before are in step with those after
+abbrev pub StayInStep : List Act → List Act → List TreeTotals → List TreeTotals → Type 0
+StayInStep acts acts_after trees trees_after =
+    (limits : LimitsValue) (sum halt : HandValue) → InStep limits sum halt acts trees
+    → InStep limits sum halt acts_after trees_after
 
 -- the counts after one frame more
 pub record CountsGrow (trees trees_after : List TreeTotals) (totals totals_after : Totals)

@@ -21,7 +21,7 @@ use limit_table::Limits;
 use risk_board::{Hand, Seen};
 use risk_journal::Act;
 
-/// The exposure of an order in ten-thousandths: OrderQty (38) × Price (44).
+/// The exposure of an order in ten-thousandths: OrderQty (38) × its reserve price.
 fn exposure_of(order: &Order) -> u128
     ensures exposure { result ≡ exposure_of (order_value order.now) }
     ensures fits { result ≤ 10000000000000000000 }

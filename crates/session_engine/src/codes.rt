@@ -1,5 +1,6 @@
 //! The numbers and texts of refusals.
-ghost use Rattle.std.specs.Prelude.{◌≡◌, decimal};
+ghost use Rattle.std.specs.Prelude.{◌≡◌};
+ghost use Rattle.fix_orders.specs.Put.{IsShort};
 ghost use Rattle.session_engine.specs.Answers.{code_of, order_reason_of, text_of};
 
 use crate::refusal::Refusal;
@@ -21,25 +22,22 @@ impl Refusal {
         }
     }
 
-    /// OrdRejReason (103), in digits.
-    pub(crate) fn order_reason(self) -> &'static [u8]
-        ensures { result.now ≡ decimal (order_reason_of self) }
+    /// OrdRejReason (103).
+    pub(crate) fn order_reason(self) -> u8
+        ensures { result ≡ order_reason_of self }
     {
         match self {
-            Refusal::Firm => b"3",
-            Refusal::Account => b"3",
-            Refusal::Symbol => b"3",
-            Refusal::Halt => b"0",
-            Refusal::Quota => b"0",
-            Refusal::Cap => b"3",
-            Refusal::UnknownAccount => b"99",
-            Refusal::UnknownSymbol => b"1",
+            Refusal::Firm | Refusal::Account | Refusal::Symbol | Refusal::Cap => 3,
+            Refusal::Halt | Refusal::Quota => 0,
+            Refusal::UnknownAccount => 99,
+            Refusal::UnknownSymbol => 1,
         }
     }
 
     /// Text (58).
     pub(crate) fn text(self) -> &'static [u8]
-        ensures { result.now ≡ text_of self }
+        ensures text { result.now ≡ text_of self }
+        ensures short { IsShort result.now }
     {
         match self {
             Refusal::Firm => b"FIRM",

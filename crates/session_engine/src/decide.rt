@@ -87,7 +87,7 @@ fn tell_sent(acts: &mut Vec<Act>, totals: &mut Totals)
 }
 
 /// Tells that the order of this frame was refused, and counts it.
-fn tell_refused(acts: &mut Vec<Act>, totals: &mut Totals, refusal: Refusal)
+pub(crate) fn tell_refused(acts: &mut Vec<Act>, totals: &mut Totals, refusal: Refusal)
     requires room { vec_len acts.old < vec_capacity acts.old }
     requires frames { totals.old.frames < 2 ^ 31 }
     requires refused { totals.old.refused < 2 ^ 31 }

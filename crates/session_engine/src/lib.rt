@@ -6,21 +6,20 @@
 //! roots after that; where the order is refused by a root, it posts the old values again.
 #![tactic(auto)]
 
+mod answer;
 mod ask;
 mod codes;
 mod decide;
-mod forward;
 mod hands;
 mod ids;
+mod note;
 mod order;
-mod put;
-mod read;
 mod refusal;
-mod report;
+mod reject;
+mod reserve;
 mod rows;
 mod session;
 mod session_law;
-mod slots;
 mod take;
 mod totals;
 

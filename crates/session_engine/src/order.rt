@@ -1,10 +1,10 @@
-//! What is read of an order.
+//! An order as it counts in the trees.
 ghost use Rattle.std.specs.Prelude.{◌≤◌};
 
 use fix_fields::Id;
 
-/// A limit order to buy: its ClOrdID (11), its Account (1), its Symbol (55), its OrderQty (38) in
-/// whole units and its Price (44) in ten-thousandths of a currency unit.
+/// An order: its ClOrdID (11), its Account (1), its Symbol (55), its OrderQty (38) in whole units and
+/// its reserve price in ten-thousandths of a currency unit.
 #[derive(Clone, Copy, Debug)]
 pub(crate) struct Order {
     pub id: Id,

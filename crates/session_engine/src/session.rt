@@ -1,6 +1,6 @@
 //! A session: its input is fetched, its frames are taken one after another, and it ends.
 ghost use Rattle.std.specs.Prelude.{◌≡◌, ℕ, ◌+◌, ◌≤◌, ◌<◌, List, [], ◌∷◌, ◌++◌, ◌⊎◌, IsTrue, vec_len, vec_capacity, length, take};
-ghost use Rattle.std.specs.BTreeSet.{contains, IsEmpty};
+ghost use Rattle.std.specs.BTreeSet.{IsEmpty};
 ghost use Rattle.limit_table.specs.Files.{IsHeldByFile};
 ghost use Rattle.gate_ports.specs.Faults.{Rose};
 ghost use Rattle.risk_journal.specs.ActLists.{calls_below, calls_at};
@@ -8,14 +8,19 @@ ghost use Rattle.session_engine.specs.Follows.{IsByInput, FollowsSource, EndsAs}
 ghost use Rattle.session_engine.specs.Hands.{IsSumHand, IsHaltHand};
 ghost use Rattle.session_engine.specs.Trees.{halt_tree};
 ghost use Rattle.session_engine.specs.Stands.{InStep};
-ghost use Rattle.session_engine.specs.Runs.{RunsTo, StopsBy, end_after};
+ghost use Rattle.session_engine.specs.Runs.{RunsTo, StopsBy, end_after, end_by};
+ghost use Rattle.session_engine.specs.Session.{unnamed_client};
+ghost use Rattle.session_engine.specs.Taken.{kept_by};
 ghost use Rattle.session_engine.specs.Counted.{no_totals, no_tree};
 
+use crate::answer::{Sinks, Step};
 use crate::decide::State;
 use crate::hands::Hands;
-use crate::take::{Sinks, Step, take_frame};
+use crate::take::take_frame;
 use crate::totals::{Totals, zero_trees};
-use fix_fields::{Found, Id, Writer, frame_is_within, frame_stays, next_frame};
+use fix_fields::{
+    Found, Id, Writer, found_stays, frame_is_within, frame_stays, next_frame,
+};
 use fold_law::Memory;
 use gate_ports::{FetchEnd, Sink, Source, fetch_up_to};
 use limit_table::Limits;
@@ -31,13 +36,13 @@ const INPUT_MOST: usize = 33_554_432;
 #[derive(Clone, Copy, Debug, PartialEq, Eq)]
 pub(crate) enum Stop {
     /// After the last frame taken, which ends at a place, this stands: no frame, or a frame that isn't
-    /// one of this stage.
+    /// taken.
     Found { place: usize, next: Found },
     /// A fault in a frame.
     Fault(End),
 }
 
-/// Takes frames up to the first that isn't one of this stage.
+/// Takes frames up to the first that isn't taken.
 fn take_frames<H: Hand, M: Hand, V: Sink, C: Sink>(
     limits: &Limits,
     hands: &mut Hands<H, M>,
@@ -50,11 +55,9 @@ fn take_frames<H: Hand, M: Hand, V: Sink, C: Sink>(
         state.old.acts.items state.old.trees.items }
     requires room { vec_len state.old.acts < vec_capacity state.old.acts }
     requires few { length bytes.now ≤ 33554432 }
-    requires runs { RunsTo limits.now bytes.now 0
-        (contains ⟦<Id as Ord>⟧.cmp state.old.ids) state.old.acts.items state.old.trees.items
-        state.old.totals
-        (V.held sinks.old.venue) (V.held sinks.old.venue)
-        (C.held sinks.old.client) (C.held sinks.old.client) }
+    requires runs { RunsTo limits.now bytes.now 0 (V.held sinks.old.venue) (C.held sinks.old.client)
+        (kept_by state.old sinks.old.client_id (V.held sinks.old.venue)
+        (C.held sinks.old.client)) }
     ensures step { InStep limits.now (H.meaning hands.new.sum) (M.meaning hands.new.halt)
         state.new.acts.items state.new.trees.items }
     ensures sum_origin { H.SameOrigin hands.old.sum hands.new.sum }
@@ -82,7 +85,7 @@ fn take_frames<H: Hand, M: Hand, V: Sink, C: Sink>(
         };
         match take_frame(limits, hands, state, sinks, bytes, &frame) {
             Step::Taken => place = frame.end,
-            Step::Other => return Stop::Found { place, next },
+            Step::NotBuilt => return Stop::Found { place, next },
             Step::Fault(end) => return Stop::Fault(end),
         }
     }
@@ -110,17 +113,39 @@ fn input_of(bytes: &[u8]) -> &[u8]
     }
 }
 
-/// How a session ends whose frames were taken up to a place, where this stands next.
-fn end_after(fetch: FetchEnd, goes_on: bool, place: usize, next: Found) -> End
-    ensures { result ≡ end_after fetch goes_on place next }
+/// How a session ends whose input may go on where a fetch ended so.
+fn end_by(fetch: FetchEnd, end: End) -> End
+    ensures { result ≡ end_by fetch end }
+{
+    match fetch {
+        FetchEnd::Whole => end,
+        FetchEnd::Failed => End::ReadFault,
+        FetchEnd::Memory => End::Memory,
+    }
+}
+
+/// How a session ends by what stands next, where its source goes on past the input or doesn't.
+fn end_after(fetch: FetchEnd, goes_on: bool, next: Found) -> End
+    ensures { result ≡ end_after fetch goes_on next }
 {
     match next {
         Found::Frame(frame) => End::NotBuilt(frame.start as u64),
-        _ if fetch == FetchEnd::Failed => End::ReadFault,
-        _ if fetch == FetchEnd::Memory => End::Memory,
-        _ if goes_on => End::NotBuilt(place as u64),
-        Found::End => End::Whole,
-        Found::Cut(at) | Found::Broken(at) | Found::TooLong(at) => End::NotBuilt(at as u64),
+        Found::Broken(place) => End::Broken(place as u64),
+        Found::TooLong(place) => End::TooLong(place as u64),
+        Found::Cut(place) if goes_on => end_by(fetch, End::TooLong(place as u64)),
+        Found::Cut(place) => end_by(fetch, End::Cut(place as u64)),
+        Found::End if goes_on => end_by(fetch, End::TooLong(INPUT_MOST as u64)),
+        Found::End => end_by(fetch, End::Whole),
+    }
+}
+
+/// TargetCompID (56) of the messages to the client before any request names it.
+fn unnamed_client() -> Id
+    ensures { result ≡ unnamed_client }
+{
+    match Id::read(b"CLIENT") {
+        Ok(id) => id,
+        Err(_) => unreachable!(),
     }
 }
 
@@ -178,7 +203,11 @@ pub fn run_session<H: Hand, M: Hand, S: Source, V: Sink, C: Sink>(
             client,
         };
     }
-    let mut sinks = Sinks { venue, client };
+    let mut sinks = Sinks {
+        venue,
+        client,
+        client_id: unnamed_client(),
+    };
     let end = run_frames(
         alloc,
         limits,
@@ -216,6 +245,7 @@ fn run_frames<H: Hand, M: Hand, S: Source, V: Sink, C: Sink>(
     requires acts { state.old.acts.items ≡ [] }
     requires ids { IsEmpty state.old.ids }
     requires totals { state.old.totals ≡ no_totals }
+    requires client_id { sinks.old.client_id ≡ unnamed_client }
     ensures sum_calls { (H.meaning hands.new.sum).calls
         ≡ calls_below (halt_tree limits.now) state.new.acts.items }
     ensures halt_calls { (M.meaning hands.new.halt).calls
@@ -240,6 +270,7 @@ fn run_frames<H: Hand, M: Hand, S: Source, V: Sink, C: Sink>(
     ensures client_name { C.name sinks.new.client ≡ C.name sinks.old.client }
 {
     frame_stays();
+    found_stays();
     match zero_trees(alloc, limits) {
         Ok(trees) => state.trees = trees,
         Err(Memory) => return End::Memory,
@@ -251,6 +282,6 @@ fn run_frames<H: Hand, M: Hand, S: Source, V: Sink, C: Sink>(
     let goes_on = fetched.bytes.len() > INPUT_MOST;
     match take_frames(limits, hands, state, sinks, input_of(&fetched.bytes)) {
         Stop::Fault(end) => end,
-        Stop::Found { place, next } => end_after(fetched.end, goes_on, place, next),
+        Stop::Found { next, .. } => end_after(fetched.end, goes_on, next),
     }
 }

@@ -1,10 +1,8 @@
 -- What holds between two frames.
 use Rattle.std.proofs.Common.{◌≡◌, ◌≤◌, ◌<◌, ◌-◌, length, vec_len, vec_capacity}
-use Rattle.std.specs.BTreeSet.{contains}
-use Rattle.std.specs.Ordering.{nat_cmp}
-use Rattle.std.specs.Cmp.Lexicographic.{slice_cmp}
 use Rattle.session_engine.specs.Stands.{InStep}
 use Rattle.session_engine.specs.Runs.{RunsTo}
+use Rattle.session_engine.specs.Taken.{kept_by}
 use Rattle.session_engine.proofs.session.take_frames.Given as goal
 
 abbrev pub invariant-loop-frame : goal.invariant-loop-frame
@@ -14,10 +12,10 @@ invariant-loop-frame g l = record {
   sum_origin : g.H.Hand.SameOrigin l.initial.hands.sum l.hands.sum;
   halt_origin : g.M.Hand.SameOrigin l.initial.hands.halt l.hands.halt;
   room : vec_len l.state.acts < vec_capacity l.state.acts;
-  runs : RunsTo l.limits l.bytes l.place (contains (slice_cmp nat_cmp) l.state.ids)
-      l.state.acts.items l.state.trees.items l.state.totals
-      (g.V.Sink.held l.initial.sinks.venue) (g.V.Sink.held l.sinks.venue)
-      (g.C.Sink.held l.initial.sinks.client) (g.C.Sink.held l.sinks.client);
+  runs : RunsTo l.limits l.bytes l.place (g.V.Sink.held l.initial.sinks.venue)
+      (g.C.Sink.held l.initial.sinks.client)
+      (kept_by l.state l.sinks.client_id (g.V.Sink.held l.sinks.venue)
+      (g.C.Sink.held l.sinks.client));
   venue_later : g.V.Sink.faults l.initial.sinks.venue ≤ g.V.Sink.faults l.sinks.venue;
   client_later : g.C.Sink.faults l.initial.sinks.client ≤ g.C.Sink.faults l.sinks.client;
   venue_name : g.V.Sink.name l.sinks.venue ≡ g.V.Sink.name l.initial.sinks.venue;
