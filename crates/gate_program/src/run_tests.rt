@@ -19,7 +19,7 @@ struct Row {
     told: &'static [u8],
 }
 
-const ROWS: [Row; 10] = [
+const ROWS: [Row; 15] = [
     Row {
         name: "nothing",
         limits: b"firm,,1000,,,\n\
@@ -219,9 +219,90 @@ const ROWS: [Row; 10] = [
         session: b"8=FIX.4.4\x019=45\x0135=0\x0149=C1\x0156=GATE\x0134=1\x0152=20240102-10:00:00\x0110=136\x01",
         venue: b"",
         client: b"",
-        journal: b"kind,session,a,b,c,d\nended,0,9,0,,\n",
+        journal: b"kind,session,a,b,c,d\n\
+            ended,0,0,,,\n",
+        status: 0,
+        told: b"status 0\n",
+    },
+    Row {
+        name: "a cut frame behind a heartbeat",
+        limits: b"firm,,1000,,,\n\
+            account,ACC,100000,,,\n\
+            symbol,XYZ,100000,1,12,100000\n",
+        session: b"8=FIX.4.4\x019=45\x0135=0\x0149=C1\x0156=GATE\x0134=1\x0152=20240102-10:00:00\x0110=136\x018=FIX.4.4\x019=45\x0135=0\x0149=C1\x0156=G",
+        venue: b"",
+        client: b"",
+        journal: b"kind,session,a,b,c,d\n\
+            ended,0,1,67,,\n",
+        status: 4,
+        told: b"status 4\n",
+    },
+    Row {
+        name: "no frame behind a heartbeat",
+        limits: b"firm,,1000,,,\n\
+            account,ACC,100000,,,\n\
+            symbol,XYZ,100000,1,12,100000\n",
+        session: b"8=FIX.4.4\x019=45\x0135=0\x0149=C1\x0156=GATE\x0134=1\x0152=20240102-10:00:00\x0110=136\x01x",
+        venue: b"",
+        client: b"",
+        journal: b"kind,session,a,b,c,d\n\
+            ended,0,2,67,,\n",
+        status: 4,
+        told: b"status 4\n",
+    },
+    Row {
+        name: "a frame that is too long",
+        limits: b"firm,,1000,,,\n\
+            account,ACC,100000,,,\n\
+            symbol,XYZ,100000,1,12,100000\n",
+        session: b"8=FIX.4.4\x019=45\x0135=0\x0149=C1\x0156=GATE\x0134=1\x0152=20240102-10:00:00\x0110=136\x018=FIX.4.4\x019=8193\x01",
+        venue: b"",
+        client: b"",
+        journal: b"kind,session,a,b,c,d\n\
+            ended,0,3,67,,\n",
+        status: 4,
+        told: b"status 4\n",
+    },
+    Row {
+        name: "a cancel request, which is not built",
+        limits: b"firm,,1000,,,\n\
+            account,ACC,100000,,,\n\
+            symbol,XYZ,100000,1,12,100000\n",
+        session: b"8=FIX.4.4\x019=45\x0135=0\x0149=C1\x0156=GATE\x0134=1\x0152=20240102-10:00:00\x0110=136\x018=FIX.4.4\x019=90\x0135=F\x0149=C1\x0156=GATE\x0134=1\x0152=20240102-10:00:00\x0111=c1\x0141=a1\x0155=XYZ\x0154=1\x0160=20240102-10:00:00\x0110=131\x01",
+        venue: b"",
+        client: b"",
+        journal: b"kind,session,a,b,c,d\n\
+            ended,0,9,67,,\n",
         status: 9,
         told: b"not built\n",
+    },
+    Row {
+        name: "each kind of frame that needs no book",
+        limits: b"firm,,1000,,,\n\
+            account,ACC,100000,,,\n\
+            symbol,XYZ,100000,1,12,100000\n",
+        session: b"8=FIX.4.4\x019=45\x0135=0\x0149=C1\x0156=GATE\x0134=1\x0152=20240102-10:00:00\x0110=136\x018=FIX.4.4\x019=101\x0135=D\x0149=C1\x0156=GATE\x0134=2\x0152=20240102-10:00:00\x0111=a1\x011=ACC\x0155=XYZ\x0154=2\x0138=10\x0140=1\x0160=20240102-10:00:00\x0110=136\x018=FIX.4.4\x019=57\x0135=D\x0149=C1\x0156=GATE\x0134=3\x0111=a2\x0155=XYZ\x0154=1\x0138=1\x0140=2\x0144=1\x0110=242\x018=FIX.4.4\x019=45\x0135=0\x0149=C1\x0156=GATE\x0134=1\x0152=20240102-10:00:00\x0110=137\x018=FIX.4.4\x019=51\x0135=B\x0149=C1\x0156=GATE\x0134=4\x0152=20240102-10:00:00\x01148=x\x0110=237\x018=FIX.4.4\x019=54\x0135=8\x0149=VENUE\x0156=GATE\x0134=7\x0152=20240102-10:00:00\x0111=a1\x0110=215\x01",
+        venue: b"8=FIX.4.4\x019=104\x0135=D\x0149=GATE\x0156=VENUE\x0134=1\x0152=20240102-10:00:00\x0111=a1\x011=ACC\x0155=XYZ\x0154=2\x0138=10\x0140=1\x0160=20240102-10:00:00\x0110=153\x018=FIX.4.4\x019=73\x0135=3\x0149=GATE\x0156=VENUE\x0134=2\x0152=20240102-10:00:00\x0145=7\x01371=150\x01372=8\x01373=1\x0110=007\x01",
+        client: b"8=FIX.4.4\x019=69\x0135=3\x0149=GATE\x0156=C1\x0134=1\x0152=19700101-00:00:00\x0145=3\x01371=52\x01372=D\x01373=1\x0110=220\x01",
+        journal: b"kind,session,a,b,c,d\n\
+            post,0,0,1,120,\n\
+            post,0,1,1,120,\n\
+            post,0,2,1,120,\n\
+            read,0,3,0,0,0\n\
+            read,0,0,1,1,120\n\
+            read,0,1,1,1,120\n\
+            read,0,2,1,1,120\n\
+            sent,0,1,,,\n\
+            refused,0,2,16,52,1\n\
+            noted,0,3,1,0,0\n\
+            noted,0,4,2,0,0\n\
+            noted,0,5,5,150,1\n\
+            ended,0,0,,,\n\
+            line,0,0,1,1,120\n\
+            line,0,1,1,1,120\n\
+            line,0,2,1,1,120\n",
+        status: 0,
+        told: b"status 0\n",
     },
 ];
 
