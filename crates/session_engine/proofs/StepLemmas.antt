@@ -451,7 +451,7 @@ module _ (limits : LimitsValue) (fields : List FieldValue) (order : OrderValue)
       (why : Refusal) → AsksEarly limits order session.acts asked trees trees_after why
       → acts_after ≡ asked ++ Refused frame (code_of why) 0 0 ∷ [] → frame ≡ session.frames
       → Orders limits fields order session (next_session fields order (Some why) acts_after session)
-  steps_early acts_after asked trees_after frame why asks acts_are frame_is =
+  steps_early acts_after _ trees_after frame why asks acts_are frame_is =
       let acts = session.acts in
       let last = Refused session.frames (code_of why) 0 0 in
       let after_is : acts_after ≡ acts ++ last ∷ [] = acts_are

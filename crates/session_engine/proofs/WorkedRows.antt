@@ -177,8 +177,12 @@ roomy = limits_of 5000 100000
 
 abbrev after_sale : SessionValue
 after_sale = after_frames roomy (opening (reads_of 1200))
-    (record { place = 0; end = 136; fields = Some (fields_of (codes "a1") (codes "2")
-    (codes "9.00")) } ∷ [])
+    (record {
+      place = 0;
+      end = 136;
+      fields = Some (fields_of (codes "a1") (codes "2")
+          (codes "9.00"));
+    } ∷ [])
 
 acts_of_sale : after_sale.acts
     ≡ Post 0 1 1200 ∷ Post 1 1 1200 ∷ Post 2 1 1200
@@ -193,11 +197,19 @@ twice = reads_of 1000 ++ (record { stamp = 0; place = 0; value = 0 }
 
 abbrev after_garbled : SessionValue
 after_garbled = after_frames roomy (opening twice)
-    (record { place = 0; end = 136; fields = Some (fields_of (codes "a1") (codes "1")
-    (codes "10.00")) }
+    (record {
+      place = 0;
+      end = 136;
+      fields = Some (fields_of (codes "a1") (codes "1")
+          (codes "10.00"));
+    }
     ∷ record { place = 136; end = 272; fields = None }
-    ∷ record { place = 272; end = 408; fields = Some (fields_of (codes "a3") (codes "1")
-    (codes "11.00")) } ∷ [])
+    ∷ record {
+      place = 272;
+      end = 408;
+      fields = Some (fields_of (codes "a3") (codes "1")
+          (codes "11.00"));
+    } ∷ [])
 
 acts_of_garbled : after_garbled.acts
     ≡ Post 0 1 1000 ∷ Post 1 1 1000 ∷ Post 2 1 1000

@@ -159,7 +159,14 @@ pub(crate) fn answer_order<V: Sink, C: Sink>(
     match refusal {
         None => {
             let number = state.totals.sent;
-            forward_order(&mut sinks.venue, &mut state.writer, bytes, frame, order, number)
+            forward_order(
+                &mut sinks.venue,
+                &mut state.writer,
+                bytes,
+                frame,
+                order,
+                number,
+            )
         }
         Some(refusal) => {
             let stamp = Stamp {
@@ -168,7 +175,15 @@ pub(crate) fn answer_order<V: Sink, C: Sink>(
                 time: order.head.time,
             };
             let writer = &mut state.writer;
-            refuse_order(&mut sinks.client, writer, bytes, frame, order, &stamp, refusal)
+            refuse_order(
+                &mut sinks.client,
+                writer,
+                bytes,
+                frame,
+                order,
+                &stamp,
+                refusal,
+            )
         }
     }
 }

@@ -29,4 +29,6 @@ pub use session::{SessionDone, run_session};
 pub use session_law::{admitted_stays_within, places_are_free, sent_orders_are_covered};
 
 #[cfg(test)]
+mod frame_tests;
+#[cfg(test)]
 mod tests;

@@ -133,7 +133,15 @@ fn reject_request<C: Sink>(
         seq: state.totals.refused,
         time: time_of(&envelope),
     };
-    give_reject(client, &mut state.writer, bytes, frame, &envelope, &stamp, fault)
+    give_reject(
+        client,
+        &mut state.writer,
+        bytes,
+        frame,
+        &envelope,
+        &stamp,
+        fault,
+    )
 }
 
 /// Notes a report with a field fault: the venue gets its Reject.
@@ -181,7 +189,15 @@ fn return_report<V: Sink>(
         seq: state.totals.sent,
         time: time_of(&envelope),
     };
-    give_reject(venue, &mut state.writer, bytes, frame, &envelope, &stamp, fault)
+    give_reject(
+        venue,
+        &mut state.writer,
+        bytes,
+        frame,
+        &envelope,
+        &stamp,
+        fault,
+    )
 }
 
 /// Answers a message with a field fault.

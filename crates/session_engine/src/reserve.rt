@@ -34,12 +34,7 @@ fn upper_price(limits: &Limits, symbol: &Id) -> u64
 
 /// The order as it counts in the trees: at its own price where it is a buy limit order, and else at
 /// the symbol's upper collar price.
-pub(crate) fn reserve_order(
-    limits: &Limits,
-    bytes: &[u8],
-    frame: &Frame,
-    order: &NewOrder,
-) -> Order
+pub(crate) fn reserve_order(limits: &Limits, bytes: &[u8], frame: &Frame, order: &NewOrder) -> Order
     requires held { IsHeldByFile limits.now }
     requires order { IsOrderIn bytes.now frame.now order.now }
     ensures { order_value result ≡ order_of limits.now order.now }

@@ -18,9 +18,7 @@ use crate::decide::State;
 use crate::hands::Hands;
 use crate::take::take_frame;
 use crate::totals::{Totals, zero_trees};
-use fix_fields::{
-    Found, Id, Writer, found_stays, frame_is_within, frame_stays, next_frame,
-};
+use fix_fields::{Found, Id, Writer, found_stays, frame_is_within, frame_stays, next_frame};
 use fold_law::Memory;
 use gate_ports::{FetchEnd, Sink, Source, fetch_up_to};
 use limit_table::Limits;

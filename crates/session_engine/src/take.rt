@@ -41,10 +41,7 @@ enum Decision {
 }
 
 /// Takes the memory for what one frame does.
-fn take_room<H: Hand, M: Hand>(
-    hands: &mut Hands<H, M>,
-    acts: &mut Vec<Act>,
-) -> Result<(), Memory>
+fn take_room<H: Hand, M: Hand>(hands: &mut Hands<H, M>, acts: &mut Vec<Act>) -> Result<(), Memory>
     requires room { vec_len acts.old < vec_capacity acts.old }
     ensures acts { acts.new.items ≡ acts.old.items }
     ensures room { vec_len acts.new < vec_capacity acts.new }

@@ -11,12 +11,15 @@ use Rattle.session_engine.proofs.answer.forward_order.Goals as goal
 pub write_forward-requires-clause-accepted : goal.write_forward-requires-clause-accepted
 write_forward-requires-clause-accepted g c =
     let order = c.args.order.now in
-    let own = c.requires.order in
-    (message.New order, record {
-      listed = own.sound.0;
-      stands = own.sound.1;
-      read = own.each own.sound.0 own.sound.1;
-    }, refl)
+    let own = c.requires.order in (
+      message.New order,
+      record {
+        listed = own.sound.0;
+        stands = own.sound.1;
+        read = own.each own.sound.0 own.sound.1;
+      },
+      refl,
+    )
 
 pub give_written-requires : goal.give_written-requires
 give_written-requires g c =

@@ -11,7 +11,7 @@ invariant_of-result c =
     record {
       quantity_fits = facts.quantity;
       price_fits = elim c.if-is_buy_limit.branch [
-        then-is_buy_limit w ↦ omega (arith, w.price-is, facts.price)
+        | then-is_buy_limit w ↦ omega (arith, w.price-is, facts.price)
         | else-is_buy_limit w ↦ omega (arith, w.price-is, w.upper_price-price.ensures.fits)
       ];
     }
