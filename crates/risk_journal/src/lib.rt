@@ -1,15 +1,19 @@
-//! What sessions did, act by act, and the journal as text: each session's acts, and then the lines of
-//! each tree.
+//! What sessions did, act by act; the journal as text, each session's acts and then the lines of each
+//! tree; and the totals of a run as text.
 #![tactic(auto)]
 
 mod acts;
 mod csv_rows;
+mod id64;
 mod journal;
 mod placed;
+mod totals;
 
 pub use acts::{Act, End};
+pub use id64::Id64;
 pub use journal::{Journal, write_journal};
 pub use placed::set_places;
+pub use totals::{SessionTotal, Totals, TreeKind, TreeTotal, write_totals};
 
 #[cfg(test)]
 mod tests;
