@@ -1,6 +1,9 @@
 pub mod ActLists
 pub mod Id64Law
 pub mod Id64Text
+pub mod JournalGrammar
 pub mod JournalText
+pub mod Reading
 pub mod RowCells
+pub mod Rows
 pub mod TotalsText

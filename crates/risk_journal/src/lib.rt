@@ -6,12 +6,15 @@ mod acts;
 mod csv_rows;
 mod id64;
 mod journal;
+mod journal_law;
 mod placed;
+mod rows;
 mod totals;
 
 pub use acts::{Act, End};
 pub use id64::Id64;
 pub use journal::{Journal, write_journal};
+pub use journal_law::{one_reading_stands, written_is_read};
 pub use placed::set_places;
 pub use totals::{SessionTotal, Totals, TreeKind, TreeTotal, write_totals};
 

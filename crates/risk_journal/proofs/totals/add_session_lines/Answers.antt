@@ -1,4 +1,4 @@
-use Rattle.std.proofs.Common.{◌+◌, arith}
+use Rattle.std.proofs.Common.{arith}
 use Rattle.std.proofs.lemmas.List.{get_or_default}
 use Rattle.risk_journal.specs.declared.acts.End.TheVariants.{Whole}
 use Rattle.risk_journal.specs.declared.totals.SessionTotal.{SessionTotal}
