@@ -2,10 +2,12 @@ pub mod OneReading
 pub mod Reached
 pub mod RowBytes
 pub mod RowColumns
+pub mod RowCuts
 pub mod RowLists
 pub mod PlacedActs
 pub mod PlacedSoFar
 pub mod RowTexts
+pub mod RowsWith
 pub mod TakenRows
 pub mod TakenSteps
 pub mod TreeWalks

@@ -10,6 +10,7 @@ use Rattle.std.proofs.lemmas.List.Elements.{All-head, All-cons, All-nil, All-pus
 use Rattle.std.proofs.lemmas.List.Elements.{All-from_recursion}
 use Rattle.risk_board.specs.declared.hand.Line.{Line}
 use Rattle.risk_journal.specs.Reading.{Taken, none_taken, with_row, MayFollow, with_rows, MayAllFollow}
+use Rattle.risk_journal.specs.TakenView.{IsRefused, Reached}
 use Rattle.risk_journal.specs.Rows.{journal_rows, FitsRow, text_of_row}
 use Rattle.risk_journal.specs.JournalText.{journal_text, header_text}
 use Rattle.risk_journal.specs.JournalGrammar.{HasEnded, HasFullEnd, IsSound, IsJournal, rows_text, IsRow}
@@ -49,18 +50,6 @@ journal_leads acts lines sound =
       keeps = trees.keeps;
       leads = leads_on _ _ _ _ _ sessions trees.leads;
     }
-
--- the text up to here is these rows, and this was taken of them
-pub record Reached (text rest : List ℕ) (number : ℕ) (taken : Taken) : Type 0 where
-  pub raw : List (List ℕ)
-  pub rows : List Row
-  pub split : text ≡ rows_text raw ++ rest
-  pub each : All IsRow raw
-  pub count : number ≡ length raw + 1
-  pub is : rows_text raw ≡ header_text ++ text_of_rows rows
-  pub fit : All FitsRow rows
-  pub follow : MayAllFollow none_taken rows
-  pub left : with_rows none_taken rows ≡ taken
 
 -- the header without its LF
 abbrev pub header_row : List ℕ
@@ -173,11 +162,6 @@ begins_here text rest number taken so_far =
           ∙ sym (append_assoc header_text (text_of_rows so_far.rows) (text_of_rows some.later))
           ∙ ap (λ own. own ++ text_of_rows some.later) (sym so_far.is);
     }
-
--- no row that fits, has these bytes and may come next
-abbrev pub IsRefused : Taken → List ℕ → Type 0
-IsRefused taken line =
-    (row : Row) → FitsRow row → text_of_row row ≡ line ++ 10 ∷ [] → ¬ MayFollow taken row
 
 -- a refused row is the next of no journal
 no_next : (text rest : List ℕ) (number : ℕ) (taken : Taken) (acts : List (List Act))

@@ -11,7 +11,7 @@ use Rattle.std.proofs.lemmas.List.Splits.{slice_split_at, slice_split_none}
 use Rattle.std.proofs.lemmas.Fmt.{decimal_is_IsNumeral}
 use Rattle.std.proofs.lemmas.Str.Parse.{digit_from_value}
 use Rattle.risk_journal.specs.Rows.{kind_text, FitsColumn, FitColumns, column_cells}
-use Rattle.risk_journal.specs.RowCells.{cell_text}
+use Rattle.risk_journal.specs.RowCells.{cell_text, is_comma}
 use Rattle.risk_journal.specs.JournalGrammar.{IsRow}
 use Rattle.risk_journal.specs.declared.rows.Kind.{Kind}
 use Rattle.risk_journal.specs.declared.rows.Kind.TheVariants as kind
@@ -20,9 +20,6 @@ use Rattle.risk_journal.specs.declared.rows.Columns.{Columns}
 -- each byte is above the comma
 abbrev pub IsCell : List ℕ → Type 0
 IsCell cell = All (λ byte. 44 < byte) cell
-
-abbrev pub is_comma : ℕ → Bool
-is_comma byte = eqb byte 44
 
 digit_cell : (ds : List ℕ) → AllDigits 10 ds → IsCell ds
 digit_cell [] h = All-nil (λ byte. 44 < byte)

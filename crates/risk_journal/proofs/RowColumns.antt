@@ -4,7 +4,7 @@ use Rattle.std.proofs.Common.{get_or, ◌*◌, ap, ◌∙◌, arith, codes, deci
 use Rattle.std.specs.List.{join_with_byte, slice_split}
 use Rattle.std.proofs.lemmas.Fmt.{decimal_injective, decimal_nonempty}
 use Rattle.risk_journal.specs.JournalText.{end_number, end_place, row_text, act_text}
-use Rattle.risk_journal.specs.RowCells.{cell_text}
+use Rattle.risk_journal.specs.RowCells.{cell_text, is_comma}
 use Rattle.risk_journal.specs.Rows.{FitsEnd, FitsAct, FitsRow, FitsColumn, FitColumns, kind_text}
 use Rattle.risk_journal.specs.Rows.{end_column, act_columns, columns_of, columns_text, text_of_row}
 use Rattle.risk_journal.specs.Rows.{column_cells}
@@ -17,7 +17,7 @@ use Rattle.risk_journal.specs.declared.rows.Row.TheVariants.{OfSession, OfTree}
 use Rattle.risk_journal.specs.declared.rows.Kind.{Kind}
 use Rattle.risk_journal.specs.declared.rows.Kind.TheVariants as kind
 use Rattle.risk_journal.specs.declared.rows.Columns.{Columns}
-use Rattle.risk_journal.proofs.RowBytes.{is_comma, split_columns, columns_row, one_cut}
+use Rattle.risk_journal.proofs.RowBytes.{split_columns, columns_row, one_cut}
 
 end_fits : (end : End) → FitsEnd end → (end_number end < 2 ^ 64) × FitsColumn (end_column end)
 end_fits ending.Whole h = (omega arith, h)

@@ -5,5 +5,7 @@ pub mod JournalGrammar
 pub mod JournalText
 pub mod Reading
 pub mod RowCells
+pub mod RowWith
 pub mod Rows
+pub mod TakenView
 pub mod TotalsText

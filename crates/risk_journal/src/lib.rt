@@ -8,6 +8,9 @@ mod id64;
 mod journal;
 mod journal_law;
 mod placed;
+mod reading;
+mod row_cells;
+mod row_reading;
 mod rows;
 mod totals;
 
@@ -16,6 +19,7 @@ pub use id64::Id64;
 pub use journal::{Journal, write_journal};
 pub use journal_law::{one_reading_stands, written_is_read};
 pub use placed::set_places;
+pub use reading::{JournalFault, read_journal};
 pub use totals::{SessionTotal, Totals, TreeKind, TreeTotal, write_totals};
 
 #[cfg(test)]
