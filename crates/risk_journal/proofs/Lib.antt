@@ -1,5 +1,6 @@
 pub mod OneReading
 pub mod Reached
+pub mod ReadingSteps
 pub mod RowBytes
 pub mod RowColumns
 pub mod RowCuts

@@ -1,7 +1,7 @@
 //! The journal, read row by row.
 ghost use Rattle.std.specs.Prelude.{◌≡◌, ◌≢◌, ◌↔◌, ℕ, ◌+◌, ◌-◌, ◌^◌, ◌≤◌, ◌<◌, ◌++◌, [], length, map};
 ghost use Rattle.std.specs.Prelude.{IsTrue, IfOk, IfErr, OnOk, MatchOption, Err, slice_index_or, drop};
-ghost use Rattle.std.specs.Prelude.{replicate, List, ◌∷◌};
+ghost use Rattle.std.specs.Prelude.{replicate, List, ◌∷◌, true, false};
 ghost use Rattle.std.specs.List.{All};
 ghost use Rattle.risk_journal.specs.JournalText.{header_text};
 ghost use Rattle.risk_journal.specs.JournalGrammar.{IsJournal, IsFirstFault, IsRow};
@@ -57,7 +57,7 @@ pub fn read_journal(alloc: Global, bytes: &[u8]) -> Result<Journal, JournalFault
         trees: Vec::new(alloc),
     };
     let number = read_rows(alloc, &mut reading, rest)?;
-    if !reading.begun.is_empty() {
+    if !has_ended(&reading) {
         return Err(JournalFault::Row(number));
     }
     Ok(Journal {
@@ -66,9 +66,17 @@ pub fn read_journal(alloc: Global, bytes: &[u8]) -> Result<Journal, JournalFault
     })
 }
 
+/// Whether no session goes on.
+fn has_ended(reading: &Reading) -> bool
+    ensures { IsTrue result ↔ (reading.now.begun.items ≡ []) }
+{
+    reading.begun.is_empty()
+}
+
 /// Takes the row of this text, without its LF, if it may come next.
 fn take_text(alloc: Global, reading: &mut Reading, text: &[u8]) -> Result<bool, Memory>
-    ensures taken { (result ≡ Ok true) → TakesRow (taken_of reading.old) text.now (taken_of reading.new) }
+    ensures taken { (result ≡ Ok true)
+        → TakesRow (taken_of reading.old) text.now (taken_of reading.new) }
     ensures refused { (result ≡ Ok false) → IsRefused (taken_of reading.old) text.now }
 {
     let Some(row) = read_row(text) else {
@@ -103,7 +111,8 @@ fn may_follow(reading: &Reading, row: &Row) -> bool
 
 /// How many lines a tree has.
 fn lines_in(trees: &[Vec<Line>], tree: usize) -> usize
-    ensures { result ≡ length (slice_index_or (map (λ own. own.items) trees.now) tree []) }
+    ensures lines { result ≡ length (slice_index_or (map (λ own. own.items) trees.now) tree []) }
+    ensures small { result < 2 ^ 63 }
 {
     match trees.get(tree) {
         Some(lines) => lines.len(),
@@ -151,16 +160,19 @@ fn take_line(
     tree: usize,
     line: Line,
 ) -> Result<(), Memory>
-    requires { tree < 2 ^ 32 }
+    requires number { tree < 2 ^ 32 }
+    requires few { length trees.old.items ≤ tree + 1 }
     ensures { OnOk result (map (λ own. own.items) trees.new.items
         ≡ put_line (map (λ own. own.items) trees.old.items) tree line) }
 {
     fill_up(alloc, trees, tree + 1)?;
-    trees[tree].push(line).map_err(|_| Memory)
+    trees[tree].push(line).map_err(|_| Memory)?;
+    Ok(())
 }
 
 /// Adds empty trees up to this count.
 fn fill_up(alloc: Global, trees: &mut Vec<Vec<Line>>, count: usize) -> Result<(), Memory>
+    requires { length trees.old.items ≤ count }
     ensures { OnOk result (map (λ own. own.items) trees.new.items
         ≡ map (λ own. own.items) trees.old.items
         ++ replicate (count - length trees.old.items) []) }
