@@ -1,8 +1,7 @@
 -- The steps of a reading: empty trees, a line more, and the next row of a text.
 use Rattle.std.proofs.Common.{◌≡◌, ◌≢◌, ℕ, zero, suc, ◌+◌, ◌-◌, ◌<◌, ◌≤◌, List, [], ◌∷◌, ◌++◌, length}
-use Rattle.std.proofs.Common.{refl, sym, ap, ◌∙◌, arith, rules, map, subst, append_assoc, get_or, set}
+use Rattle.std.proofs.Common.{refl, sym, ap, ◌∙◌, arith, map, subst, append_assoc, get_or, set}
 use Rattle.std.proofs.Common.{replicate, take, drop, true, false, eqb, length-drop}
-use Rattle.std.specs.List.{All}
 use Rattle.std.specs.Str.{bytes_eq}
 use Rattle.std.proofs.lemmas.Bool.{false≢true}
 use Rattle.std.proofs.lemmas.Bool.Decides.{nat_tests}

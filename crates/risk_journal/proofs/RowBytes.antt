@@ -1,7 +1,7 @@
 -- The bytes of rows: no cell has a comma or LF, and a text is cut at its LFs in one way.
 use Rattle.std.proofs.Common.{◌≡◌, ◌≢◌, ℕ, ◌<◌, ◌^◌, List, [], ◌∷◌, ◌++◌, refl}
-use Rattle.std.proofs.Common.{ap, ◌∙◌, arith, rules, codes, decimal, Option, Some, None, Bool}
-use Rattle.std.proofs.Common.{false, eqb}
+use Rattle.std.proofs.Common.{ap, ◌∙◌, arith, rules, codes, decimal, Option, Some, None}
+use Rattle.std.proofs.Common.{false}
 use Rattle.std.specs.List.{All, join_with_byte, slice_split, AllByRecursion}
 use Rattle.std.specs.Str.Parse.{AllDigits}
 use Rattle.std.proofs.lemmas.Bool.Decides.{nat_tests}

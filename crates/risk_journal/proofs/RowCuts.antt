@@ -1,17 +1,14 @@
 -- A row cut at its commas, and its columns.
-use Rattle.std.proofs.Common.{◌≡◌, ◌≢◌, ℕ, ◌+◌, ◌-◌, ◌<◌, ◌≤◌, ◌^◌, List, [], ◌∷◌, ◌++◌, length, refl}
-use Rattle.std.proofs.Common.{sym, ap, ◌∙◌, arith, rules, true, false, eqb, take, drop, get_or, decimal}
-use Rattle.std.proofs.Common.{subst, Option, Some, None, Bool, add-one, length-take, length-drop}
+use Rattle.std.proofs.Common.{◌≡◌, ◌≢◌, ℕ, ◌+◌, ◌-◌, ◌<◌, ◌≤◌, List, [], ◌∷◌, ◌++◌, length, refl}
+use Rattle.std.proofs.Common.{sym, ap, ◌∙◌, arith, true, false, eqb, take, drop, get_or, decimal}
+use Rattle.std.proofs.Common.{subst, Bool, length-take, length-drop}
 use Rattle.std.specs.List.{All, slice_split, join_with_byte}
-use Rattle.std.proofs.lemmas.Bool.Decides.{nat_tests}
-use Rattle.std.proofs.lemmas.Bool.{false≢true}
 use Rattle.std.proofs.lemmas.List.{drop_more, take-append-drop, get_or-take, take_all, get_or_default}
 use Rattle.std.proofs.lemmas.List.Splits.{slice_split_at, slice_split_none, length-slice_split}
 use Rattle.std.proofs.lemmas.List.Splits.{join_with_byte-slice_split}
-use Rattle.memchr.specs.Find.{Nowhere, NoneBefore, Passes, is_byte, IsFirst}
+use Rattle.memchr.specs.Find.{Nowhere, Passes, is_byte}
 use Rattle.risk_journal.specs.RowCells.{cell_text, is_comma}
-use Rattle.risk_journal.specs.Rows.{kind_text, FitsColumn, FitColumns, column_cells}
-use Rattle.risk_journal.specs.JournalGrammar.{IsRow}
+use Rattle.risk_journal.specs.Rows.{kind_text, FitColumns, column_cells}
 use Rattle.risk_journal.specs.declared.rows.Columns.{Columns}
 use Rattle.risk_journal.proofs.RowBytes.{split_columns}
 

@@ -1,13 +1,12 @@
 -- A row that fits is the row with its columns.
-use Rattle.std.proofs.Common.{◌≡◌, ◌≢◌, ℕ, ◌+◌, ◌<◌, ◌≤◌, ◌^◌, List, refl, sym, ap, ◌∙◌, arith, rules}
-use Rattle.std.proofs.Common.{Option, Some, None, Bool, true, false, if◌then◌else◌, nat_lt, nat_eq}
+use Rattle.std.proofs.Common.{◌≡◌, ◌≢◌, ℕ, ◌<◌, ◌^◌, refl, sym, ap, ◌∙◌, arith}
+use Rattle.std.proofs.Common.{Option, Some, None, Bool, true, false, if◌then◌else◌, nat_eq}
 use Rattle.std.proofs.Common.{◌==◌, ◌&&◌}
 use Rattle.std.specs.Option.{option_eq}
 use Rattle.std.proofs.lemmas.Bool.{false≢true}
 use Rattle.std.proofs.lemmas.Bool.Decides.{nat_tests}
-use Rattle.risk_board.specs.declared.hand.Line.{Line}
 use Rattle.risk_journal.specs.JournalText.{end_number}
-use Rattle.risk_journal.specs.Rows.{FitsEnd, FitsAct, FitsLine, FitsRow, FitsColumn, FitColumns}
+use Rattle.risk_journal.specs.Rows.{FitsEnd, FitsAct, FitsRow, FitsColumn, FitColumns}
 use Rattle.risk_journal.specs.Rows.{end_column, act_columns, columns_of}
 use Rattle.risk_journal.specs.RowWith.{below, word_of, byte_of, number_of, end_with, act_of_kind}
 use Rattle.risk_journal.specs.RowWith.{act_with, row_of_kind, row_with, are_same}
@@ -155,9 +154,15 @@ act_of_kind_fits kind.Line columns fit = word_fits columns.a
 
 row_of_kind_fits : (k : Kind) (columns : Columns) → FitColumns columns
     → FitsRow (row_of_kind k columns)
-row_of_kind_fits kind.Line columns fit =
-    (word_fits columns.a, word_fits columns.b, (word_fits (Some columns.session),
-    word_fits columns.c, number_fits columns.d fit.d))
+row_of_kind_fits kind.Line columns fit = (
+  word_fits columns.a,
+  word_fits columns.b,
+  (
+    word_fits (Some columns.session),
+    word_fits columns.c,
+    number_fits columns.d fit.d,
+  ),
+)
 row_of_kind_fits kind.Post columns fit =
     (word_fits (Some columns.session), act_of_kind_fits columns.kind columns fit)
 row_of_kind_fits kind.Read columns fit =
@@ -249,8 +254,13 @@ same_from_test columns others kinds e =
 
 same_itself : (columns : Columns) → are_same columns columns ≡ true
 same_itself columns =
-    rw (itself columns.session, option_itself columns.a, option_itself columns.b,
-    option_itself columns.c, option_itself columns.d) refl
+    rw (
+      itself columns.session,
+      option_itself columns.a,
+      option_itself columns.b,
+      option_itself columns.c,
+      option_itself columns.d,
+    ) refl
 
 -- the row whose columns these are has them
 pub has_columns : (columns : Columns) → are_same (columns_of (row_with columns)) columns ≡ true

@@ -1,5 +1,5 @@
 -- The row that has given columns, if any has them: an empty or too large column counts for 0.
-use Rattle.std.specs.Prelude.{ℕ, ◌<◌, ◌^◌, Option, Some, None, if◌then◌else◌, nat_lt, nat_eq, ◌==◌}
+use Rattle.std.specs.Prelude.{ℕ, ◌^◌, Option, Some, None, if◌then◌else◌, nat_lt, nat_eq, ◌==◌}
 use Rattle.std.specs.Prelude.{Bool, ◌&&◌}
 use Rattle.std.specs.Option.{option_eq}
 use Rattle.risk_journal.specs.declared.acts.Act.{Act}
@@ -70,8 +70,10 @@ row_of_kind kind.Noted columns = OfSession (word_of (Some columns.session)) (act
 row_of_kind kind.Ended columns = OfSession (word_of (Some columns.session)) (act_with columns)
 row_of_kind kind.Line columns =
     OfTree (word_of columns.a) (word_of columns.b) (record {
-      session = word_of (Some columns.session); index = word_of columns.c;
-      value = number_of columns.d })
+      session = word_of (Some columns.session);
+      index = word_of columns.c;
+      value = number_of columns.d;
+    })
 
 -- the row with these columns
 abbrev pub row_with : Columns → Row

@@ -11,8 +11,10 @@ use Rattle.risk_journal.specs.declared.rows.Row.{Row}
 -- what was taken
 abbrev pub taken_of : Reading → Taken
 taken_of reading = record {
-  ended = map (λ own. own.items) reading.ended.items; begun = reading.begun.items;
-  trees = map (λ own. own.items) reading.trees.items }
+  ended = map (λ own. own.items) reading.ended.items;
+  begun = reading.begun.items;
+  trees = map (λ own. own.items) reading.trees.items;
+}
 
 -- the row of this text, without its LF, is taken
 pub record TakesRow (before : Taken) (line : List ℕ) (after : Taken) : Type 0 where

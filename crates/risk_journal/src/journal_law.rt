@@ -6,9 +6,12 @@ ghost use Rattle.risk_journal.specs.JournalGrammar.{IsSound, IsJournal, IsFirstF
 ghost use Rattle.risk_journal.specs.JournalGrammar.{IsWithoutEmptyEnd};
 ghost use Rattle.risk_journal.specs.declared.acts.Act.{Act};
 
-/// What is read of a journal's text is the same journal, the empty trees at the end left off.
+/// The text of a sound journal has no fault, and what is read of it is the same journal, the empty trees
+/// at the end left off.
 pub fn written_is_read()
-    ensures { (acts : List (List Act)) (lines : List (List Line))
+    ensures no_fault { (acts : List (List Act)) (lines : List (List Line)) (row : ℕ)
+        → IsSound acts lines → IsFirstFault (journal_text acts lines) row → ⊥ }
+    ensures same { (acts : List (List Act)) (lines : List (List Line))
         (read : List (List Act)) (trees : List (List Line))
         → IsSound acts lines → IsJournal (journal_text acts lines) read trees
         → (read ≡ acts) × IsWithoutEmptyEnd lines trees }

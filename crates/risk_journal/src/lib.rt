@@ -23,4 +23,8 @@ pub use reading::{JournalFault, read_journal};
 pub use totals::{SessionTotal, Totals, TreeKind, TreeTotal, write_totals};
 
 #[cfg(test)]
+mod reading_tests;
+#[cfg(test)]
 mod tests;
+#[cfg(test)]
+mod totals_tests;

@@ -1,5 +1,5 @@
 -- the trees so far: those at first, and empty ones
-use Rattle.std.proofs.Common.{◌≡◌, ◌++◌, ◌-◌, ◌≤◌, [], map, length, replicate}
+use Rattle.std.proofs.Common.{◌≡◌, ◌++◌, ◌-◌, [], map, length, replicate}
 use Rattle.risk_journal.proofs.reading.fill_up.Given as goal
 
 abbrev pub invariant-loop : goal.invariant-loop

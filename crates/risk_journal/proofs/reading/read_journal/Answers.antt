@@ -1,6 +1,5 @@
-use Rattle.std.proofs.Common.{◌≡◌, ◌++◌, [], sym, ap, ◌∙◌, subst, List, ℕ}
+use Rattle.std.proofs.Common.{◌≡◌, [], sym, ◌∙◌, subst, List, ℕ}
 use Rattle.std.proofs.lemmas.Bool.{false≢true}
-use Rattle.risk_journal.specs.JournalText.{header_text}
 use Rattle.risk_journal.specs.JournalGrammar.{IsFirstFault}
 use Rattle.risk_journal.specs.TakenView.{taken_of, Reached}
 use Rattle.risk_journal.proofs.Reached.{fault_in_header, fault_at_end, whole_text}

@@ -1,4 +1,4 @@
-use Rattle.std.proofs.Common.{◌≡◌, ◌++◌, sym, ap, ◌∙◌, subst, arith, Ok, true, false, drop, refl, length}
+use Rattle.std.proofs.Common.{◌≡◌, ◌++◌, sym, ap, subst, arith, Ok, drop, refl, length}
 use Rattle.std.proofs.Common.{length-take, length-drop, ◌-◌}
 use Rattle.risk_journal.specs.JournalText.{header_text}
 use Rattle.risk_journal.specs.JournalGrammar.{IsFirstFault}
@@ -44,7 +44,12 @@ loop-at-preserved c =
           (taken_of c.loop-at.reading) (taken_of c.take_text.new.reading)
           c.loop-at.invariant.reached found.0 found.1
           (c.in-Ok-true.ensures.taken (ap Ok c.in-Ok-true.field-0-test));
-      within = omega (arith, found.0.high, length-take (length rest - c.loop-at.at)
-          (drop c.loop-at.at rest), length-drop c.loop-at.at rest);
+      within = omega (
+        arith,
+        found.0.high,
+        length-take (length rest - c.loop-at.at)
+            (drop c.loop-at.at rest),
+        length-drop c.loop-at.at rest,
+      );
       few = omega arith;
     }

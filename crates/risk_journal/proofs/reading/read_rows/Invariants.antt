@@ -1,5 +1,5 @@
 -- the text up to here was taken, row by row
-use Rattle.std.proofs.Common.{◌≡◌, ◌++◌, ◌-◌, ◌+◌, ◌≤◌, length, drop}
+use Rattle.std.proofs.Common.{◌++◌, ◌-◌, ◌+◌, ◌≤◌, length, drop}
 use Rattle.risk_journal.specs.JournalText.{header_text}
 use Rattle.risk_journal.specs.TakenView.{taken_of, Reached}
 use Rattle.risk_journal.proofs.reading.read_rows.Given as goal

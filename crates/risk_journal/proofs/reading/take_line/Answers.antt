@@ -1,5 +1,5 @@
-use Rattle.std.proofs.Common.{◌≡◌, ◌∙◌, ◌++◌, ◌∷◌, ◌+◌, ◌-◌, ◌<◌, [], sym, ap, arith, true, map, length}
-use Rattle.std.proofs.Common.{if◌then◌else◌, replicate, get_or}
+use Rattle.std.proofs.Common.{◌≡◌, ◌∙◌, ◌++◌, ◌∷◌, [], sym, ap, true}
+use Rattle.std.proofs.Common.{if◌then◌else◌}
 use Rattle.std.specs.Result.{is_ok}
 use Rattle.risk_journal.proofs.ReadingSteps.{put_in}
 use Rattle.risk_journal.proofs.reading.take_line.Goals as goal

@@ -1,8 +1,6 @@
-use Rattle.std.proofs.Common.{◌≡◌, sym, ap, ◌∙◌}
-use Rattle.std.proofs.lemmas.List.Splits.{join_with_byte-slice_split}
+use Rattle.std.proofs.Common.{sym, ap, ◌∙◌}
 use Rattle.std.specs.List.{slice_split}
 use Rattle.risk_journal.specs.RowCells.{is_comma}
-use Rattle.risk_journal.specs.Rows.{kind_text, column_cells}
 use Rattle.risk_journal.proofs.RowCuts.{same_cells, spelled_so}
 use Rattle.risk_journal.proofs.RowBytes.{split_columns}
 use Rattle.risk_journal.proofs.row_cells.read_columns.Goals as goal
@@ -42,11 +40,20 @@ returns-in_default-read_column-4 c = λ columns fit e.
     c.in_default-read_column-4.ensures columns.d fit.d same.d
 
 pub returns : goal.returns
-returns c =
-    (record { session = c.in-Some-read_number.ensures.0; a = c.in-Some-read_column.ensures.0;
-      b = c.in-Some-read_column-2.ensures.0; c = c.in-Some-read_column-3.ensures.0;
-      d = c.in-Some-read_column-4.ensures.0 },
-    spelled_so c.args.row.now _ _ _ _ _ _ _ c.in-Some.ensures (record {
-      kind = c.in-Some-kind_named.ensures; session = c.in-Some-read_number.ensures.1;
-      a = c.in-Some-read_column.ensures.1; b = c.in-Some-read_column-2.ensures.1;
-      c = c.in-Some-read_column-3.ensures.1; d = c.in-Some-read_column-4.ensures.1 }))
+returns c = (
+  record {
+    session = c.in-Some-read_number.ensures.0;
+    a = c.in-Some-read_column.ensures.0;
+    b = c.in-Some-read_column-2.ensures.0;
+    c = c.in-Some-read_column-3.ensures.0;
+    d = c.in-Some-read_column-4.ensures.0;
+  },
+  spelled_so c.args.row.now _ _ _ _ _ _ _ c.in-Some.ensures (record {
+    kind = c.in-Some-kind_named.ensures;
+    session = c.in-Some-read_number.ensures.1;
+    a = c.in-Some-read_column.ensures.1;
+    b = c.in-Some-read_column-2.ensures.1;
+    c = c.in-Some-read_column-3.ensures.1;
+    d = c.in-Some-read_column-4.ensures.1;
+  }),
+)

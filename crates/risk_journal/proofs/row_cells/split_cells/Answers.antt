@@ -8,6 +8,13 @@ pub returns-in-Some : goal.returns-in-Some
 returns-in-Some c = λ p q r s t u e.
     let rest = c.in-Some.field-0.1.now in
     let none : slice_split is_comma rest ≡ [] =
-    cc (e, c.in_ok-kind.ensures, c.in_ok-session.ensures, c.in_ok-a.ensures, c.in_ok-b.ensures,
-    c.in_ok-c.ensures, c.in-Some.ensures) in
+    cc (
+      e,
+      c.in_ok-kind.ensures,
+      c.in_ok-session.ensures,
+      c.in_ok-a.ensures,
+      c.in_ok-b.ensures,
+      c.in_ok-c.ensures,
+      c.in-Some.ensures,
+    ) in
     some_part rest none

@@ -1,7 +1,7 @@
-use Rattle.std.proofs.Common.{◌≡◌, ◌++◌, ◌∷◌, [], sym, ap, ◌∙◌, append_assoc}
+use Rattle.std.proofs.Common.{◌++◌, ◌∷◌, [], sym, ap, ◌∙◌}
 use Rattle.std.specs.List.{join_with_byte}
 use Rattle.std.proofs.lemmas.List.{same_from_push}
-use Rattle.risk_journal.specs.Rows.{FitsRow, columns_of, column_cells, columns_text}
+use Rattle.risk_journal.specs.Rows.{columns_of, column_cells, columns_text}
 use Rattle.risk_journal.proofs.RowColumns.{row_text_is, columns_fit, columns_injective}
 use Rattle.risk_journal.proofs.row_reading.read_row.Goals as goal
 
@@ -20,8 +20,8 @@ returns-in_default-row_of c = λ row fits e.
 
 pub returns : goal.returns
 returns c = (
-      c.in-Some-row_of.ensures.0,
-      row_text_is c.in-Some-row_of.row
-          ∙ ap columns_text c.in-Some-row_of.ensures.1
-          ∙ ap (λ own. own ++ 10 ∷ []) c.in-Some.ensures.1,
-    )
+  c.in-Some-row_of.ensures.0,
+  row_text_is c.in-Some-row_of.row
+      ∙ ap columns_text c.in-Some-row_of.ensures.1
+      ∙ ap (λ own. own ++ 10 ∷ []) c.in-Some.ensures.1,
+)

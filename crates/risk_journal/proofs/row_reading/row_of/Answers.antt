@@ -2,7 +2,6 @@ use Rattle.std.proofs.Common.{◌≡◌, sym, ap, ◌∙◌, subst, true}
 use Rattle.std.proofs.lemmas.Bool.{false≢true}
 use Rattle.risk_journal.specs.Rows.{FitsRow, columns_of}
 use Rattle.risk_journal.specs.RowWith.{row_with, are_same}
-use Rattle.risk_journal.specs.declared.rows.Row.{Row}
 use Rattle.risk_journal.proofs.RowsWith.{row_with_fits, has_columns, found_by_columns}
 use Rattle.risk_journal.proofs.row_reading.row_of.Goals as goal
 
