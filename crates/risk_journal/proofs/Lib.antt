@@ -1,3 +1,15 @@
+pub mod OneReading
+pub mod Reached
+pub mod ReadingSteps
+pub mod RowBytes
+pub mod RowColumns
+pub mod RowCuts
 pub mod RowLists
 pub mod PlacedActs
 pub mod PlacedSoFar
+pub mod RowTexts
+pub mod RowsWith
+pub mod TakenRows
+pub mod TakenSteps
+pub mod TreeWalks
+pub mod Walks

@@ -1,3 +1,11 @@
 pub mod ActLists
+pub mod Id64Law
+pub mod Id64Text
+pub mod JournalGrammar
 pub mod JournalText
+pub mod Reading
 pub mod RowCells
+pub mod RowWith
+pub mod Rows
+pub mod TakenView
+pub mod TotalsText

@@ -40,7 +40,7 @@ fn add_cell(text: &mut Vec<u8>, cell: Option<u64>) -> Result<(), Memory>
 }
 
 /// Writes a number behind the text.
-fn add_number(text: &mut Vec<u8>, number: u64) -> Result<(), Memory>
+pub(crate) fn add_number(text: &mut Vec<u8>, number: u64) -> Result<(), Memory>
     ensures { OnOk result (text.new.items ≡ text.old.items ++ decimal number) }
 {
     let mut buffer = Buffer::new();

@@ -128,14 +128,14 @@ fn end_cells(end: End) -> Cells
 }
 
 /// A cell with a number.
-fn some(number: u32) -> Option<u64>
+pub(crate) fn some(number: u32) -> Option<u64>
     ensures { result ≡ Some number }
 {
     Some(u64::from(number))
 }
 
 /// The number of an end.
-fn number_of_end(end: End) -> u64
+pub(crate) fn number_of_end(end: End) -> u64
     ensures { result ≡ end_number end }
 {
     match end {

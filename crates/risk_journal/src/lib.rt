@@ -1,15 +1,30 @@
-//! What sessions did, act by act, and the journal as text: each session's acts, and then the lines of
-//! each tree.
+//! What sessions did, act by act; the journal as text, each session's acts and then the lines of each
+//! tree; and the totals of a run as text.
 #![tactic(auto)]
 
 mod acts;
 mod csv_rows;
+mod id64;
 mod journal;
+mod journal_law;
 mod placed;
+mod reading;
+mod row_cells;
+mod row_reading;
+mod rows;
+mod totals;
 
 pub use acts::{Act, End};
+pub use id64::Id64;
 pub use journal::{Journal, write_journal};
+pub use journal_law::{one_reading_stands, written_is_read};
 pub use placed::set_places;
+pub use reading::{JournalFault, read_journal};
+pub use totals::{SessionTotal, Totals, TreeKind, TreeTotal, write_totals};
 
 #[cfg(test)]
+mod reading_tests;
+#[cfg(test)]
 mod tests;
+#[cfg(test)]
+mod totals_tests;
