@@ -10,6 +10,7 @@ pub mod Placed
 pub mod LegalHistories
 pub mod ClosedRecords
 pub mod Totals
+pub mod Installs
 pub mod Covering
 pub mod Counts
 pub mod Places

@@ -20,6 +20,8 @@ mod law;
 #[cfg(test)]
 mod plain_blocks;
 #[cfg(test)]
+mod plain_installs;
+#[cfg(test)]
 mod plain_posts;
 mod posts;
 mod prepared;
