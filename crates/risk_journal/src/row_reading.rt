@@ -1,5 +1,6 @@
 //! The rows of a journal, read.
-ghost use Rattle.std.specs.Prelude.{◌≡◌, ◌≢◌, ◌++◌, ◌∷◌, [], ℕ, MatchOption};
+ghost use Rattle.std.specs.Prelude.{◌≡◌, ◌≢◌, ◌++◌, ◌∷◌, [], ℕ, MatchOption, slice_index_or, Some, None};
+ghost use Rattle.risk_journal.specs.declared.acts.Act.TheVariants as Act;
 ghost use Rattle.risk_journal.specs.Rows.{FitsRow, FitColumns, columns_of, text_of_row, act_columns};
 ghost use Rattle.risk_journal.specs.Rows.{end_column};
 ghost use Rattle.risk_journal.specs.RowWith.{row_with, act_with, end_with, word_of, byte_of};
@@ -174,76 +175,91 @@ fn columns_for(row: &Row) -> Columns
     }
 }
 
+/// The columns of a row of this kind.
+fn columns(kind: Kind, session: u64, four: [Option<u64>; 4]) -> Columns
+    ensures { result ≡ record {
+      kind = kind;
+      session = session;
+      a = slice_index_or four 0 None;
+      b = slice_index_or four 1 None;
+      c = slice_index_or four 2 None;
+      d = slice_index_or four 3 None;
+    } }
+{
+    Columns {
+        kind,
+        session,
+        a: four[0],
+        b: four[1],
+        c: four[2],
+        d: four[3],
+    }
+}
+
+/// The columns of a refusal or a note.
+fn verdict_columns(kind: Kind, session: u64, frame: u32, code: u8, why: (u32, u32)) -> Columns
+    ensures { result ≡ record {
+      kind = kind;
+      session = session;
+      a = Some frame;
+      b = Some code;
+      c = Some why.0;
+      d = Some why.1;
+    } }
+{
+    let code = Some(u64::from(code));
+    columns(kind, session, [some(frame), code, some(why.0), some(why.1)])
+}
+
 /// The columns of an act of a session.
 fn act_columns_for(session: u32, act: Act) -> Columns
     ensures { result ≡ act_columns session act }
 {
     let session = u64::from(session);
     match act {
-        Act::Post { tree, index, value } => Columns {
-            kind: Kind::Post,
-            session,
-            a: some(tree),
-            b: some(index),
-            c: Some(value),
-            d: None,
-        },
+        Act::Post { tree, index, value } => {
+            columns(
+                Kind::Post,
+                session,
+                [some(tree), some(index), Some(value), None],
+            )
+        }
         Act::Read {
             tree,
             stamp,
             place,
             value,
-        } => Columns {
-            kind: Kind::Read,
-            session,
-            a: some(tree),
-            b: some(stamp),
-            c: some(place),
-            d: Some(value),
-        },
-        Act::Sent { frame } => Columns {
-            kind: Kind::Sent,
-            session,
-            a: some(frame),
-            b: None,
-            c: None,
-            d: None,
-        },
+        } => {
+            let four = [some(tree), some(stamp), some(place), Some(value)];
+            columns(Kind::Read, session, four)
+        }
+        Act::Sent { frame } => columns(Kind::Sent, session, [some(frame), None, None, None]),
         Act::Refused {
             frame,
             code,
             first,
             second,
-        } => Columns {
-            kind: Kind::Refused,
-            session,
-            a: some(frame),
-            b: Some(u64::from(code)),
-            c: some(first),
-            d: some(second),
-        },
+        } => verdict_columns(Kind::Refused, session, frame, code, (first, second)),
         Act::Noted {
             frame,
             code,
             first,
             second,
-        } => Columns {
-            kind: Kind::Noted,
-            session,
-            a: some(frame),
-            b: Some(u64::from(code)),
-            c: some(first),
-            d: some(second),
-        },
-        Act::Ended { end } => Columns {
-            kind: Kind::Ended,
-            session,
-            a: Some(number_of_end(end)),
-            b: column_of_end(end),
-            c: None,
-            d: None,
-        },
+        } => verdict_columns(Kind::Noted, session, frame, code, (first, second)),
+        Act::Ended { end } => ended_columns(session, end),
     }
+}
+
+/// The columns of the end of a session.
+fn ended_columns(session: u64, end: End) -> Columns
+    ensures { result ≡ act_columns session (Act.Ended end) }
+{
+    let number = Some(number_of_end(end));
+    columns(
+        Kind::Ended,
+        session,
+        [number, column_of_end(end), None, None],
+    )
 }
 
 /// The place of an end as a column.
