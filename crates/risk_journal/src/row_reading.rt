@@ -1,13 +1,15 @@
 //! The rows of a journal, read.
 ghost use Rattle.std.specs.Prelude.{◌≡◌, ◌≢◌, ◌++◌, ◌∷◌, [], ℕ, MatchOption};
-ghost use Rattle.risk_journal.specs.Rows.{FitsRow, FitColumns, columns_of, text_of_row, act_columns};
-ghost use Rattle.risk_journal.specs.Rows.{end_column};
+ghost use Rattle.risk_journal.specs.Rows.{FitsRow, FitColumns, columns_of, text_of_row};
+ghost use Rattle.risk_journal.specs.Rows.{act_columns};
+ghost use Rattle.risk_journal.specs.Rows.{end_column, columns_in};
 ghost use Rattle.risk_journal.specs.RowWith.{row_with, act_with, end_with, word_of, byte_of};
 ghost use Rattle.risk_journal.specs.RowWith.{number_of, are_same};
 ghost use Rattle.risk_journal.specs.declared.rows.Row.{Row as RowValue};
 
 use crate::acts::{Act, End};
-use crate::journal::{number_of_end, some};
+use crate::csv_rows::Cells;
+use crate::journal::{answer_cells, number_of_end, some};
 use crate::row_cells::read_columns;
 use crate::rows::{Columns, Kind, Row};
 use risk_board::Line;
@@ -178,71 +180,57 @@ fn columns_for(row: &Row) -> Columns
 fn act_columns_for(session: u32, act: Act) -> Columns
     ensures { result ≡ act_columns session act }
 {
-    let session = u64::from(session);
     match act {
-        Act::Post { tree, index, value } => Columns {
-            kind: Kind::Post,
-            session,
-            a: some(tree),
-            b: some(index),
-            c: Some(value),
-            d: None,
-        },
+        Act::Post { tree, index, value } => {
+            let cells = (some(tree), some(index), Some(value), None);
+            columns(Kind::Post, session, cells)
+        }
         Act::Read {
             tree,
             stamp,
             place,
             value,
-        } => Columns {
-            kind: Kind::Read,
-            session,
-            a: some(tree),
-            b: some(stamp),
-            c: some(place),
-            d: Some(value),
-        },
-        Act::Sent { frame } => Columns {
-            kind: Kind::Sent,
-            session,
-            a: some(frame),
-            b: None,
-            c: None,
-            d: None,
-        },
+        } => {
+            let cells = (some(tree), some(stamp), some(place), Some(value));
+            columns(Kind::Read, session, cells)
+        }
+        Act::Sent { frame } => columns(Kind::Sent, session, (some(frame), None, None, None)),
         Act::Refused {
             frame,
             code,
             first,
             second,
-        } => Columns {
-            kind: Kind::Refused,
-            session,
-            a: some(frame),
-            b: Some(u64::from(code)),
-            c: some(first),
-            d: some(second),
-        },
+        } => {
+            let cells = answer_cells(frame, code, first, second);
+            columns(Kind::Refused, session, cells)
+        }
         Act::Noted {
             frame,
             code,
             first,
             second,
-        } => Columns {
-            kind: Kind::Noted,
-            session,
-            a: some(frame),
-            b: Some(u64::from(code)),
-            c: some(first),
-            d: some(second),
-        },
-        Act::Ended { end } => Columns {
-            kind: Kind::Ended,
-            session,
-            a: Some(number_of_end(end)),
-            b: column_of_end(end),
-            c: None,
-            d: None,
-        },
+        } => {
+            let cells = answer_cells(frame, code, first, second);
+            columns(Kind::Noted, session, cells)
+        }
+        Act::Ended { end } => {
+            let cells = (Some(number_of_end(end)), column_of_end(end), None, None);
+            columns(Kind::Ended, session, cells)
+        }
+    }
+}
+
+/// Columns with these last four.
+fn columns(kind: Kind, session: u32, cells: Cells) -> Columns
+    ensures { result ≡ columns_in kind session cells.0 cells.1 cells.2 cells.3 }
+{
+    Columns {
+        kind,
+        session: u64::from(session),
+        a: cells.0,
+        b: cells.1,
+        c: cells.2,
+        d: cells.3,
     }
 }
 
