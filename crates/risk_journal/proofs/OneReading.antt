@@ -43,7 +43,8 @@ nothing_left_off front (suc n) full =
     let none : List Line = [] in
     let number : n + 1 ≡ suc n = omega arith in
     absurd (full (front ++ replicate n [])
-    (ap (λ own. front ++ own) (sym (replicate_more n none ∙ ap (λ count. replicate count none) number))
+    (ap (λ own. front ++ own)
+    (sym (replicate_more n none ∙ ap (λ count. replicate count none) number))
     ∙ sym (append_assoc front (replicate n []) ([] ∷ []))))
 
 full_keeps : (trees kept : List (List Line)) → Keeps trees kept → HasFullEnd trees → trees ≡ kept
@@ -151,7 +152,8 @@ not_later text m n fault other less =
     let next = next_row fault.rows other.rows fault.rest other.rest fault.each other.each
     (sym fault.split ∙ other.split) (omega (arith, fault.count, other.count)) in
     fault.none next.row next.more next.is_row next.is
-    (begins_less (fault.rows ++ next.row ∷ []) next.later (subst BeginJournal next.split other.before))
+    (begins_less (fault.rows ++ next.row ∷ []) next.later
+    (subst BeginJournal next.split other.before))
 
 pub one_fault : (text : List ℕ) (m n : ℕ) → IsFirstFault text m → IsFirstFault text n → m ≡ n
 one_fault text m n fault other =

@@ -9,11 +9,13 @@ use Rattle.std.proofs.lemmas.List.Concat.{flat_map-append}
 use Rattle.std.proofs.lemmas.List.Elements.{All-head, All-cons, All-nil, All-push}
 use Rattle.std.proofs.lemmas.List.Elements.{All-from_recursion}
 use Rattle.risk_board.specs.declared.hand.Line.{Line}
-use Rattle.risk_journal.specs.Reading.{Taken, none_taken, with_row, MayFollow, with_rows, MayAllFollow}
+use Rattle.risk_journal.specs.Reading.{Taken, none_taken, with_row, MayFollow, with_rows}
+use Rattle.risk_journal.specs.Reading.{MayAllFollow}
 use Rattle.risk_journal.specs.TakenView.{IsRefused, Reached}
 use Rattle.risk_journal.specs.Rows.{journal_rows, FitsRow, text_of_row}
 use Rattle.risk_journal.specs.JournalText.{journal_text, header_text}
-use Rattle.risk_journal.specs.JournalGrammar.{HasEnded, HasFullEnd, IsSound, IsJournal, rows_text, IsRow}
+use Rattle.risk_journal.specs.JournalGrammar.{HasEnded, HasFullEnd, IsSound, IsJournal, rows_text}
+use Rattle.risk_journal.specs.JournalGrammar.{IsRow}
 use Rattle.risk_journal.specs.JournalGrammar.{BeginJournal, IsNoJournal, IsFirstFault}
 use Rattle.risk_journal.specs.declared.acts.Act.{Act}
 use Rattle.risk_journal.specs.declared.rows.Row.{Row}
@@ -79,7 +81,8 @@ raw_push raw row =
     flat_map-append (λ own. own ++ 10 ∷ []) raw (row ∷ [])
     ∙ ap (λ own. rows_text raw ++ own) (append-nil (row ++ 10 ∷ []))
 
-pub reached_next : (text rest : List ℕ) (number : ℕ) (taken : Taken) (line more : List ℕ) (row : Row)
+pub reached_next : (text rest : List ℕ) (number : ℕ) (taken : Taken) (line more : List ℕ)
+    → (row : Row)
     → Reached text rest number taken → rest ≡ line ++ 10 ∷ more → IsRow line
     → FitsRow row → text_of_row row ≡ line ++ 10 ∷ [] → MayFollow taken row
     → Reached text more (number + 1) (with_row taken row)
@@ -174,7 +177,8 @@ no_next text rest number taken acts lines line more so_far sound is refused e =
   where
     none_of : (later : List Row) → line ++ 10 ∷ more ≡ text_of_rows later → All FitsRow later
         → MayAllFollow taken later → ⊥
-    none_of [] spelled fit follow = no_lf_at [] line more (All-nil (λ byte. byte ≢ 10)) (sym spelled)
+    none_of [] spelled fit follow =
+        no_lf_at [] line more (All-nil (λ byte. byte ≢ 10)) (sym spelled)
     none_of (row ∷ later) spelled fit follow =
         let fits = All-head FitsRow row later fit in
         let cut = one_cut line (bytes_of_row row) more (text_of_rows later) is (row_is row fits)
@@ -260,7 +264,8 @@ fault_at_end text number taken so_far going = record {
   where
     whole : IsNoJournal text
     whole acts lines sound same =
-        let on = goes_on text [] number taken acts lines [] so_far sound (sym same ∙ so_far.split) in
+        let on = goes_on text [] number taken acts lines [] so_far sound
+        (sym same ∙ so_far.split) in
         let last : taken ≡ in_trees acts (journal_leads acts lines sound).kept =
         ap (with_rows taken) (sym (nothing_in on.later on.is)) ∙ on.left in
         going (ap (λ (own : Taken). own.begun) last)

@@ -1,11 +1,13 @@
 -- The steps of a reading: empty trees, a line more, and the next row of a text.
-use Rattle.std.proofs.Common.{◌≡◌, ◌≢◌, ℕ, zero, suc, ◌+◌, ◌-◌, ◌<◌, ◌≤◌, List, [], ◌∷◌, ◌++◌, length}
+use Rattle.std.proofs.Common.{◌≡◌, ◌≢◌, ℕ, zero, suc, ◌+◌, ◌-◌, ◌<◌, ◌≤◌, List, [], ◌∷◌, ◌++◌}
+use Rattle.std.proofs.Common.{length}
 use Rattle.std.proofs.Common.{refl, sym, ap, ◌∙◌, arith, map, subst, append_assoc, get_or, set}
 use Rattle.std.proofs.Common.{replicate, take, drop, true, false, eqb, length-drop}
 use Rattle.std.specs.Str.{bytes_eq}
 use Rattle.std.proofs.lemmas.Bool.{false≢true}
 use Rattle.std.proofs.lemmas.Bool.Decides.{nat_tests}
-use Rattle.std.proofs.lemmas.List.{append-nil, map-append, replicate_more, map-set, take_all, take_rest}
+use Rattle.std.proofs.lemmas.List.{append-nil, map-append, replicate_more, map-set, take_all}
+use Rattle.std.proofs.lemmas.List.{take_rest}
 use Rattle.std.proofs.lemmas.List.{drop-drop, take-append-drop, take_at, length-map}
 use Rattle.std.proofs.lemmas.List.{length-append, length-replicate, get_or-map}
 use Rattle.std.proofs.lemmas.List.Elements.{All-weaker}

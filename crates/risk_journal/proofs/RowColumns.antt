@@ -9,7 +9,8 @@ use Rattle.risk_journal.specs.Rows.{FitsEnd, FitsAct, FitsRow, FitsColumn, FitCo
 use Rattle.risk_journal.specs.Rows.{end_column, act_columns, columns_of, columns_text, text_of_row}
 use Rattle.risk_journal.specs.Rows.{column_cells}
 use Rattle.risk_journal.specs.declared.acts.Act.{Act}
-use Rattle.risk_journal.specs.declared.acts.Act.TheVariants.{Post, Read, Sent, Refused, Noted, Ended}
+use Rattle.risk_journal.specs.declared.acts.Act.TheVariants.{Post, Read, Sent, Refused, Noted}
+use Rattle.risk_journal.specs.declared.acts.Act.TheVariants.{Ended}
 use Rattle.risk_journal.specs.declared.acts.End.{End}
 use Rattle.risk_journal.specs.declared.acts.End.TheVariants as ending
 use Rattle.risk_journal.specs.declared.rows.Row.{Row}
@@ -91,7 +92,8 @@ end_text ending.WriteFault = refl
 end_text ending.Memory = refl
 end_text (ending.NotBuilt place) = refl
 
-act_text_is : (session : ℕ) (act : Act) → act_text session act ≡ columns_text (act_columns session act)
+act_text_is : (session : ℕ) (act : Act)
+    → act_text session act ≡ columns_text (act_columns session act)
 act_text_is session (Post tree index value) = refl
 act_text_is session (Read tree stamp place value) = refl
 act_text_is session (Sent frame) = refl
@@ -221,7 +223,8 @@ row_injective (OfTree tree place line) (OfSession n b) e =
 row_injective (OfTree tree place line) (OfTree other at more) e =
     let row : ℕ → ℕ → ℕ → ℕ → ℕ → Row = λ t p s i v.
     OfTree t p (record { session = s; index = i; value = v }) in
-    let same = by_column (columns_of (OfTree tree place line)) (columns_of (OfTree other at more)) e in
+    let same = by_column (columns_of (OfTree tree place line))
+    (columns_of (OfTree other at more)) e in
     let session : line.session ≡ more.session = ap (λ (columns : Columns). columns.session) e in
     let t : tree ≡ other = cc same.a in
     let p : place ≡ at = cc same.b in

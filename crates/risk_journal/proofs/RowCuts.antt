@@ -3,7 +3,8 @@ use Rattle.std.proofs.Common.{◌≡◌, ◌≢◌, ℕ, ◌+◌, ◌-◌, ◌<�
 use Rattle.std.proofs.Common.{sym, ap, ◌∙◌, arith, true, false, eqb, take, drop, get_or, decimal}
 use Rattle.std.proofs.Common.{subst, Bool, length-take, length-drop}
 use Rattle.std.specs.List.{All, slice_split, join_with_byte}
-use Rattle.std.proofs.lemmas.List.{drop_more, take-append-drop, get_or-take, take_all, get_or_default}
+use Rattle.std.proofs.lemmas.List.{drop_more, take-append-drop, get_or-take, take_all}
+use Rattle.std.proofs.lemmas.List.{get_or_default}
 use Rattle.std.proofs.lemmas.List.Splits.{slice_split_at, slice_split_none, length-slice_split}
 use Rattle.std.proofs.lemmas.List.Splits.{join_with_byte-slice_split}
 use Rattle.memchr.specs.Find.{Nowhere, Passes, is_byte}

@@ -5,7 +5,8 @@ use Rattle.std.specs.List.{flat_map, enumerate_from, All, join_with_byte}
 use Rattle.std.proofs.lemmas.List.Concat.{flat_map-append}
 use Rattle.std.proofs.lemmas.List.Elements.{All-head, All-tail, All-cons, All-nil, All-append}
 use Rattle.risk_board.specs.declared.hand.Line.{Line}
-use Rattle.risk_journal.specs.JournalText.{journal_text, session_text, tree_text, act_text, line_text}
+use Rattle.risk_journal.specs.JournalText.{journal_text, session_text, tree_text, act_text}
+use Rattle.risk_journal.specs.JournalText.{line_text}
 use Rattle.risk_journal.specs.JournalText.{header_text}
 use Rattle.risk_journal.specs.Rows.{text_of_row, session_rows, tree_rows, journal_rows, FitsRow}
 use Rattle.risk_journal.specs.Rows.{FitsAct, FitsLine, columns_of, column_cells}
@@ -64,7 +65,8 @@ journal_text_is acts lines =
     let trees = flat_map tree_text (enumerate_from 0 lines) in
     append_assoc header_text sessions trees
     ∙ ap (λ own. header_text ++ (own ++ trees)) (sessions_text_is 0 acts)
-    ∙ ap (λ own. header_text ++ (text_of_rows (flat_map session_rows (enumerate_from 0 acts)) ++ own))
+    ∙ ap (λ own. header_text
+    ++ (text_of_rows (flat_map session_rows (enumerate_from 0 acts)) ++ own))
     (trees_text_is 0 lines)
     ∙ ap (λ own. header_text ++ own)
     (sym (flat_map-append text_of_row (flat_map session_rows (enumerate_from 0 acts))

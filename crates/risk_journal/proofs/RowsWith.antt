@@ -11,7 +11,8 @@ use Rattle.risk_journal.specs.Rows.{end_column, act_columns, columns_of}
 use Rattle.risk_journal.specs.RowWith.{below, word_of, byte_of, number_of, end_with, act_of_kind}
 use Rattle.risk_journal.specs.RowWith.{act_with, row_of_kind, row_with, are_same}
 use Rattle.risk_journal.specs.declared.acts.Act.{Act}
-use Rattle.risk_journal.specs.declared.acts.Act.TheVariants.{Post, Read, Sent, Refused, Noted, Ended}
+use Rattle.risk_journal.specs.declared.acts.Act.TheVariants.{Post, Read, Sent, Refused, Noted}
+use Rattle.risk_journal.specs.declared.acts.Act.TheVariants.{Ended}
 use Rattle.risk_journal.specs.declared.acts.End.{End}
 use Rattle.risk_journal.specs.declared.acts.End.TheVariants as ending
 use Rattle.risk_journal.specs.declared.rows.Row.{Row}
@@ -51,7 +52,8 @@ act_is session (Sent frame) h = ap Sent (word_is frame h)
 act_is session (Refused frame code first second) h =
     ap (λ own. Refused own (byte_of (Some code)) (word_of (Some first)) (word_of (Some second)))
     (word_is frame h.0)
-    ∙ ap (λ own. Refused frame own (word_of (Some first)) (word_of (Some second))) (byte_is code h.1)
+    ∙ ap (λ own. Refused frame own (word_of (Some first)) (word_of (Some second)))
+    (byte_is code h.1)
     ∙ ap (λ own. Refused frame code own (word_of (Some second))) (word_is first h.2)
     ∙ ap (Refused frame code first) (word_is second h.3)
 act_is session (Noted frame code first second) h =
@@ -193,7 +195,8 @@ act_kind columns session kind.Line other = absurd (other refl)
 session_kind : (columns : Columns) (session : ℕ) (k : Kind) → k ≢ kind.Line → columns.kind ≡ k
     → (act_columns session (act_with columns)).kind ≡ k
 session_kind columns session k other e =
-    ap (λ own. (act_columns session (act_of_kind own columns)).kind) e ∙ act_kind columns session k other
+    ap (λ own. (act_columns session (act_of_kind own columns)).kind) e
+    ∙ act_kind columns session k other
 
 row_kind : (columns : Columns) (k : Kind) → columns.kind ≡ k
     → (columns_of (row_of_kind k columns)).kind ≡ k

@@ -1,4 +1,4 @@
--- What was taken of rows that may follow one another has just these rows, and begins a sound journal.
+-- What was taken of rows that may follow one another: its rows, and how they grow by a line.
 use Rattle.std.proofs.Common.{◌≡◌, ◌≢◌, ◌⊎◌, ℕ, zero, suc, ◌+◌, ◌<◌, ◌≤◌, ◌^◌, List, []}
 use Rattle.std.proofs.Common.{◌∷◌, ◌++◌, length, refl, sym, ap, ◌∙◌, arith, map}
 use Rattle.std.proofs.Common.{append_assoc, get_or, add-zero}

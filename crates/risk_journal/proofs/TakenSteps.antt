@@ -11,14 +11,16 @@ use Rattle.risk_journal.specs.Reading.{with_rows, MayAllFollow}
 use Rattle.risk_journal.specs.Rows.{session_rows, journal_rows, FitsRow, FitsAct}
 use Rattle.risk_journal.specs.JournalGrammar.{IsNoEnd, HasEnded, HasFullEnd, IsSound}
 use Rattle.risk_journal.specs.declared.acts.Act.{Act}
-use Rattle.risk_journal.specs.declared.acts.Act.TheVariants.{Post, Read, Sent, Refused, Noted, Ended}
+use Rattle.risk_journal.specs.declared.acts.Act.TheVariants.{Post, Read, Sent, Refused, Noted}
+use Rattle.risk_journal.specs.declared.acts.Act.TheVariants.{Ended}
 use Rattle.risk_journal.specs.declared.acts.End.{End}
 use Rattle.risk_journal.specs.declared.acts.End.TheVariants as ending
 use Rattle.risk_journal.specs.declared.rows.Row.{Row}
 use Rattle.risk_journal.specs.declared.rows.Row.TheVariants.{OfSession, OfTree}
 use Rattle.risk_journal.proofs.RowTexts.{AllFitAct, AllFitLine, IsShort}
 use Rattle.risk_journal.proofs.TreeWalks.{length-put_line}
-use Rattle.risk_journal.proofs.TakenRows.{IsGood, taken_rows, numbered_push, trees_rows, row_at, put_row}
+use Rattle.risk_journal.proofs.TakenRows.{IsGood, taken_rows, numbered_push, trees_rows, row_at}
+use Rattle.risk_journal.proofs.TakenRows.{put_row}
 use Rattle.risk_journal.proofs.TakenRows.{put_fits, put_short, put_full}
 
 -- a sound state, with one row more

@@ -1,4 +1,4 @@
--- Rows taken one after another: a journal's rows may all follow, and what they leave is the journal.
+-- Rows taken one after another: those of whole sessions may all follow, and leave these sessions.
 use Rattle.std.proofs.Common.{◌≡◌, ℕ, ◌+◌, List, [], ◌∷◌, ◌++◌}
 use Rattle.std.proofs.Common.{length, refl, sym, ap, ◌∙◌, arith, map, subst, append_assoc}
 use Rattle.std.specs.List.{flat_map, enumerate_from, All}
@@ -9,7 +9,8 @@ use Rattle.risk_journal.specs.Reading.{with_rows, MayAllFollow}
 use Rattle.risk_journal.specs.Rows.{session_rows}
 use Rattle.risk_journal.specs.JournalGrammar.{IsNoEnd, HasEnded}
 use Rattle.risk_journal.specs.declared.acts.Act.{Act}
-use Rattle.risk_journal.specs.declared.acts.Act.TheVariants.{Post, Read, Sent, Refused, Noted, Ended}
+use Rattle.risk_journal.specs.declared.acts.Act.TheVariants.{Post, Read, Sent, Refused, Noted}
+use Rattle.risk_journal.specs.declared.acts.Act.TheVariants.{Ended}
 use Rattle.risk_journal.specs.declared.rows.Row.{Row}
 use Rattle.risk_journal.specs.declared.rows.Row.TheVariants.{OfSession}
 

@@ -1,11 +1,13 @@
 -- Which texts are a journal's, and otherwise which row is the first that no journal has there.
-use Rattle.std.specs.Prelude.{◌≡◌, ◌≢◌, ℕ, ◌+◌, ◌<◌, ◌≤◌, ◌^◌, List, [], ◌∷◌, ◌++◌, length, ⊤, replicate}
+use Rattle.std.specs.Prelude.{◌≡◌, ◌≢◌, ℕ, ◌+◌, ◌<◌, ◌≤◌, ◌^◌, List, [], ◌∷◌, ◌++◌, length, ⊤}
+use Rattle.std.specs.Prelude.{replicate}
 use Rattle.std.specs.List.{flat_map, All}
 use Rattle.risk_board.specs.declared.hand.Line.{Line}
 use Rattle.risk_journal.specs.JournalText.{journal_text}
 use Rattle.risk_journal.specs.Rows.{FitsAct, FitsLine}
 use Rattle.risk_journal.specs.declared.acts.Act.{Act}
-use Rattle.risk_journal.specs.declared.acts.Act.TheVariants.{Post, Read, Sent, Refused, Noted, Ended}
+use Rattle.risk_journal.specs.declared.acts.Act.TheVariants.{Post, Read, Sent, Refused, Noted}
+use Rattle.risk_journal.specs.declared.acts.Act.TheVariants.{Ended}
 use Rattle.risk_journal.specs.declared.acts.End.{End}
 
 -- the act isn't an end
@@ -45,7 +47,8 @@ pub record IsWithoutEmptyEnd (all trees : List (List Line)) : Type 0 where
   pub full : HasFullEnd trees
 
 -- the text is that of a journal with these acts and lines, no empty tree being the last
-pub record IsJournal (text : List ℕ) (acts : List (List Act)) (lines : List (List Line)) : Type 0 where
+pub record IsJournal (text : List ℕ) (acts : List (List Act)) (lines : List (List Line))
+    : Type 0 where
   pub sound : IsSound acts lines
   pub full : HasFullEnd lines
   pub is : text ≡ journal_text acts lines
@@ -72,8 +75,8 @@ IsNoJournal text =
     (acts : List (List Act)) (lines : List (List Line)) → IsSound acts lines
     → text ≢ journal_text acts lines
 
--- The row with this number, from 1, is the first fault of the text: some journal begins with the rows
--- before it, none with that row too, if a whole row follows, and the text is no journal's.
+-- The row with this number, from 1, is the first fault of the text: some journal begins with the
+-- rows before it, none with that row too, if a whole row follows, and the text is no journal's.
 pub record IsFirstFault (text : List ℕ) (number : ℕ) : Type 0 where
   pub rows : List (List ℕ)
   pub rest : List ℕ

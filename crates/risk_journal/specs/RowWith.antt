@@ -3,7 +3,8 @@ use Rattle.std.specs.Prelude.{ℕ, ◌^◌, Option, Some, None, if◌then◌else
 use Rattle.std.specs.Prelude.{Bool, ◌&&◌}
 use Rattle.std.specs.Option.{option_eq}
 use Rattle.risk_journal.specs.declared.acts.Act.{Act}
-use Rattle.risk_journal.specs.declared.acts.Act.TheVariants.{Post, Read, Sent, Refused, Noted, Ended}
+use Rattle.risk_journal.specs.declared.acts.Act.TheVariants.{Post, Read, Sent, Refused, Noted}
+use Rattle.risk_journal.specs.declared.acts.Act.TheVariants.{Ended}
 use Rattle.risk_journal.specs.declared.acts.End.{End}
 use Rattle.risk_journal.specs.declared.acts.End.TheVariants as ending
 use Rattle.risk_journal.specs.declared.rows.Row.{Row}

@@ -6,7 +6,8 @@ use Rattle.risk_board.specs.declared.hand.Line.{Line}
 use Rattle.risk_journal.specs.JournalText.{row_text, act_text, line_text, end_number}
 use Rattle.risk_journal.specs.RowCells.{cell_text}
 use Rattle.risk_journal.specs.declared.acts.Act.{Act}
-use Rattle.risk_journal.specs.declared.acts.Act.TheVariants.{Post, Read, Sent, Refused, Noted, Ended}
+use Rattle.risk_journal.specs.declared.acts.Act.TheVariants.{Post, Read, Sent, Refused, Noted}
+use Rattle.risk_journal.specs.declared.acts.Act.TheVariants.{Ended}
 use Rattle.risk_journal.specs.declared.acts.End.{End}
 use Rattle.risk_journal.specs.declared.acts.End.TheVariants as ending
 use Rattle.risk_journal.specs.declared.rows.Row.{Row}
@@ -86,6 +87,17 @@ end_column ending.ReadFault = None
 end_column ending.WriteFault = None
 end_column ending.Memory = None
 end_column (ending.NotBuilt place) = Some place
+
+-- columns with these last four
+abbrev pub columns_in : Kind → ℕ → Option ℕ → Option ℕ → Option ℕ → Option ℕ → Columns
+columns_in own number p q r s = record {
+  kind = own;
+  session = number;
+  a = p;
+  b = q;
+  c = r;
+  d = s;
+}
 
 -- the columns of an act of a session
 abbrev pub act_columns : ℕ → Act → Columns

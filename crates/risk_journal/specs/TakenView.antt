@@ -3,7 +3,8 @@ use Rattle.std.specs.Prelude.{◌≡◌, ℕ, List, [], ◌∷◌, ◌++◌, map
 use Rattle.std.specs.List.{flat_map, All}
 use Rattle.risk_journal.specs.JournalText.{header_text}
 use Rattle.risk_journal.specs.JournalGrammar.{rows_text, IsRow}
-use Rattle.risk_journal.specs.Reading.{Taken, none_taken, with_row, with_rows, MayFollow, MayAllFollow}
+use Rattle.risk_journal.specs.Reading.{Taken, none_taken, with_row, with_rows, MayFollow}
+use Rattle.risk_journal.specs.Reading.{MayAllFollow}
 use Rattle.risk_journal.specs.Rows.{FitsRow, text_of_row}
 use Rattle.risk_journal.specs.declared.reading.Reading.{Reading}
 use Rattle.risk_journal.specs.declared.rows.Row.{Row}

@@ -103,7 +103,7 @@ fn add_act(text: &mut Vec<u8>, session: u64, act: &Act) -> Result<(), Memory>
 }
 
 /// The cells of a refusal or a note.
-fn answer_cells(frame: u32, code: u8, first: u32, second: u32) -> Cells
+pub(crate) fn answer_cells(frame: u32, code: u8, first: u32, second: u32) -> Cells
     ensures frame { result.0 ≡ Some frame }
     ensures code { result.1 ≡ Some code }
     ensures first { result.2 ≡ Some first }

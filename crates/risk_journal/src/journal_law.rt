@@ -6,8 +6,8 @@ ghost use Rattle.risk_journal.specs.JournalGrammar.{IsSound, IsJournal, IsFirstF
 ghost use Rattle.risk_journal.specs.JournalGrammar.{IsWithoutEmptyEnd};
 ghost use Rattle.risk_journal.specs.declared.acts.Act.{Act};
 
-/// The text of a sound journal has no fault, and what is read of it is the same journal, the empty trees
-/// at the end left off.
+/// The text of a sound journal has no fault, and what is read of it is the same journal, the empty
+/// trees at the end left off.
 pub fn written_is_read()
     ensures no_fault { (acts : List (List Act)) (lines : List (List Line)) (row : ℕ)
         → IsSound acts lines → IsFirstFault (journal_text acts lines) row → ⊥ }

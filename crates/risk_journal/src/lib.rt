@@ -1,5 +1,5 @@
-//! What sessions did, act by act; the journal as text, each session's acts and then the lines of each
-//! tree; and the totals of a run as text.
+//! What sessions did, act by act; the journal as text, each session's acts and then the lines of
+//! each tree, both ways; and the totals of a run as text.
 #![tactic(auto)]
 
 mod acts;

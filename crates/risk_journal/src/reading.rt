@@ -1,6 +1,8 @@
 //! The journal, read row by row.
-ghost use Rattle.std.specs.Prelude.{◌≡◌, ◌≢◌, ◌↔◌, ℕ, ◌+◌, ◌-◌, ◌^◌, ◌≤◌, ◌<◌, ◌++◌, [], length, map};
-ghost use Rattle.std.specs.Prelude.{IsTrue, IfOk, IfErr, OnOk, MatchOption, Err, slice_index_or, drop};
+ghost use Rattle.std.specs.Prelude.{◌≡◌, ◌≢◌, ◌↔◌, ℕ, ◌+◌, ◌-◌, ◌^◌, ◌≤◌, ◌<◌, ◌++◌, [], length};
+ghost use Rattle.std.specs.Prelude.{map};
+ghost use Rattle.std.specs.Prelude.{IsTrue, IfOk, IfErr, OnOk, MatchOption, Err, slice_index_or};
+ghost use Rattle.std.specs.Prelude.{drop};
 ghost use Rattle.std.specs.Prelude.{replicate, List, ◌∷◌, true, false};
 ghost use Rattle.std.specs.List.{All};
 ghost use Rattle.risk_journal.specs.JournalText.{header_text};
@@ -28,8 +30,8 @@ pub enum JournalFault {
     Memory,
 }
 
-/// What was read so far: the sessions that ended, the acts of one that goes on, and the lines of each
-/// tree.
+/// What was read so far: the sessions that ended, the acts of one that goes on, and the lines of
+/// each tree.
 #[derive(Drop)]
 pub(crate) struct Reading {
     pub(crate) ended: Vec<Vec<Act>>,

@@ -1,5 +1,6 @@
 //! A row of text cut into its cells, and what they say.
-ghost use Rattle.std.specs.Prelude.{◌≡◌, ◌≢◌, ℕ, ◌<◌, ◌^◌, List, [], ◌∷◌, decimal, MatchOption, Option};
+ghost use Rattle.std.specs.Prelude.{◌≡◌, ◌≢◌, ℕ, ◌<◌, ◌^◌, List, [], ◌∷◌, decimal, MatchOption};
+ghost use Rattle.std.specs.Prelude.{Option};
 ghost use Rattle.std.specs.List.{slice_split, join_with_byte};
 ghost use Rattle.risk_journal.specs.RowCells.{cell_text, is_comma};
 ghost use Rattle.risk_journal.specs.Rows.{kind_text, FitsColumn, FitColumns, column_cells};
@@ -12,7 +13,7 @@ use memchr::memchr;
 
 /// The cells of a row: what kind it is, its session and four more.
 #[derive(Clone, Copy)]
-pub(crate) struct Cells<'a> {
+pub(crate) struct RowCells<'a> {
     pub(crate) kind: &'a [u8],
     pub(crate) session: &'a [u8],
     pub(crate) a: &'a [u8],
@@ -33,7 +34,7 @@ fn cut_cell(text: &[u8]) -> Option<(&[u8], &[u8])>
 }
 
 /// The six cells of a row without its LF.
-fn split_cells(row: &[u8]) -> Option<Cells<'_>>
+fn split_cells(row: &[u8]) -> Option<RowCells<'_>>
     ensures { MatchOption result ((p : List ℕ) (q : List ℕ) (r : List ℕ) (s : List ℕ)
         (t : List ℕ) (u : List ℕ)
         → slice_split is_comma row.now ≢ p ∷ q ∷ r ∷ s ∷ t ∷ u ∷ [])
@@ -47,7 +48,7 @@ fn split_cells(row: &[u8]) -> Option<Cells<'_>>
     let (c, d) = cut_cell(rest)?;
     match cut_cell(d) {
         Some(_) => None,
-        None => Some(Cells {
+        None => Some(RowCells {
             kind,
             session,
             a,

@@ -1,14 +1,15 @@
 //! The rows of a journal, read.
-ghost use Rattle.std.specs.Prelude.{◌≡◌, ◌≢◌, ◌++◌, ◌∷◌, [], ℕ, MatchOption, slice_index_or, Some, None};
-ghost use Rattle.risk_journal.specs.declared.acts.Act.TheVariants as Act;
-ghost use Rattle.risk_journal.specs.Rows.{FitsRow, FitColumns, columns_of, text_of_row, act_columns};
-ghost use Rattle.risk_journal.specs.Rows.{end_column};
+ghost use Rattle.std.specs.Prelude.{◌≡◌, ◌≢◌, ◌++◌, ◌∷◌, [], ℕ, MatchOption};
+ghost use Rattle.risk_journal.specs.Rows.{FitsRow, FitColumns, columns_of, text_of_row};
+ghost use Rattle.risk_journal.specs.Rows.{act_columns};
+ghost use Rattle.risk_journal.specs.Rows.{end_column, columns_in};
 ghost use Rattle.risk_journal.specs.RowWith.{row_with, act_with, end_with, word_of, byte_of};
 ghost use Rattle.risk_journal.specs.RowWith.{number_of, are_same};
 ghost use Rattle.risk_journal.specs.declared.rows.Row.{Row as RowValue};
 
 use crate::acts::{Act, End};
-use crate::journal::{number_of_end, some};
+use crate::csv_rows::Cells;
+use crate::journal::{answer_cells, number_of_end, some};
 use crate::row_cells::read_columns;
 use crate::rows::{Columns, Kind, Row};
 use risk_board::Line;
@@ -175,54 +176,14 @@ fn columns_for(row: &Row) -> Columns
     }
 }
 
-/// The columns of a row of this kind.
-fn columns(kind: Kind, session: u64, four: [Option<u64>; 4]) -> Columns
-    ensures { result ≡ record {
-      kind = kind;
-      session = session;
-      a = slice_index_or four 0 None;
-      b = slice_index_or four 1 None;
-      c = slice_index_or four 2 None;
-      d = slice_index_or four 3 None;
-    } }
-{
-    Columns {
-        kind,
-        session,
-        a: four[0],
-        b: four[1],
-        c: four[2],
-        d: four[3],
-    }
-}
-
-/// The columns of a refusal or a note.
-fn verdict_columns(kind: Kind, session: u64, frame: u32, code: u8, why: (u32, u32)) -> Columns
-    ensures { result ≡ record {
-      kind = kind;
-      session = session;
-      a = Some frame;
-      b = Some code;
-      c = Some why.0;
-      d = Some why.1;
-    } }
-{
-    let code = Some(u64::from(code));
-    columns(kind, session, [some(frame), code, some(why.0), some(why.1)])
-}
-
 /// The columns of an act of a session.
 fn act_columns_for(session: u32, act: Act) -> Columns
     ensures { result ≡ act_columns session act }
 {
-    let session = u64::from(session);
     match act {
         Act::Post { tree, index, value } => {
-            columns(
-                Kind::Post,
-                session,
-                [some(tree), some(index), Some(value), None],
-            )
+            let cells = (some(tree), some(index), Some(value), None);
+            columns(Kind::Post, session, cells)
         }
         Act::Read {
             tree,
@@ -230,36 +191,47 @@ fn act_columns_for(session: u32, act: Act) -> Columns
             place,
             value,
         } => {
-            let four = [some(tree), some(stamp), some(place), Some(value)];
-            columns(Kind::Read, session, four)
+            let cells = (some(tree), some(stamp), some(place), Some(value));
+            columns(Kind::Read, session, cells)
         }
-        Act::Sent { frame } => columns(Kind::Sent, session, [some(frame), None, None, None]),
+        Act::Sent { frame } => columns(Kind::Sent, session, (some(frame), None, None, None)),
         Act::Refused {
             frame,
             code,
             first,
             second,
-        } => verdict_columns(Kind::Refused, session, frame, code, (first, second)),
+        } => {
+            let cells = answer_cells(frame, code, first, second);
+            columns(Kind::Refused, session, cells)
+        }
         Act::Noted {
             frame,
             code,
             first,
             second,
-        } => verdict_columns(Kind::Noted, session, frame, code, (first, second)),
-        Act::Ended { end } => ended_columns(session, end),
+        } => {
+            let cells = answer_cells(frame, code, first, second);
+            columns(Kind::Noted, session, cells)
+        }
+        Act::Ended { end } => {
+            let cells = (Some(number_of_end(end)), column_of_end(end), None, None);
+            columns(Kind::Ended, session, cells)
+        }
     }
 }
 
-/// The columns of the end of a session.
-fn ended_columns(session: u64, end: End) -> Columns
-    ensures { result ≡ act_columns session (Act.Ended end) }
+/// Columns with these last four.
+fn columns(kind: Kind, session: u32, cells: Cells) -> Columns
+    ensures { result ≡ columns_in kind session cells.0 cells.1 cells.2 cells.3 }
 {
-    let number = Some(number_of_end(end));
-    columns(
-        Kind::Ended,
-        session,
-        [number, column_of_end(end), None, None],
-    )
+    Columns {
+        kind,
+        session: u64::from(session),
+        a: cells.0,
+        b: cells.1,
+        c: cells.2,
+        d: cells.3,
+    }
 }
 
 /// The place of an end as a column.

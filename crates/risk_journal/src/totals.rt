@@ -32,8 +32,8 @@ pub struct SessionTotal {
     pub noted: u32,
 }
 
-/// A tree after the run: its posts, its root at the end and its limit, in whole currency units. Only
-/// an account's and a symbol's name is shown.
+/// A tree after the run: its posts, its root at the end, and its limit. Values are in whole currency
+/// units. Only an account's and a symbol's name is shown.
 #[derive(Clone, Copy, Debug)]
 pub struct TreeTotal {
     pub kind: TreeKind,

@@ -1,5 +1,5 @@
-//! The text of totals, by whole texts: no clause shows the words byte for byte. With ample memory it is
-//! written.
+//! The text of totals, by whole texts: no clause shows the words byte for byte. With ample memory
+//! it is written.
 use crate::{End, Id64, SessionTotal, Totals, TreeKind, TreeTotal, write_totals};
 use std::test::Fail;
 

@@ -18,7 +18,8 @@ returns-then-not-has_ended-clause-refused c = λ row e.
     let number : c.in_ok-number.number ≡ row = cc e in
     let cases = c.in-Some.ensures.cases in
     let text = header_there c.args.bytes.now c.in-Some.rest.now cases.0 cases.1 in
-    let P = λ (own : List ℕ). Reached own [] c.in_ok-number.number (taken_of c.read_rows.new.reading) in
+    let P = λ (own : List ℕ).
+    Reached own [] c.in_ok-number.number (taken_of c.read_rows.new.reading) in
     subst (IsFirstFault c.args.bytes.now) number
     (fault_at_end c.args.bytes.now c.in_ok-number.number (taken_of c.read_rows.new.reading)
     (subst P (sym text) c.in_ok-number.ensures.read)
@@ -28,7 +29,8 @@ pub returns-clause-read : goal.returns-clause-read
 returns-clause-read c =
     let cases = c.in-Some.ensures.cases in
     let text = header_there c.args.bytes.now c.in-Some.rest.now cases.0 cases.1 in
-    let P = λ (own : List ℕ). Reached own [] c.in_ok-number.number (taken_of c.read_rows.new.reading) in
+    let P = λ (own : List ℕ).
+    Reached own [] c.in_ok-number.number (taken_of c.read_rows.new.reading) in
     whole_text c.args.bytes.now c.in_ok-number.number (taken_of c.read_rows.new.reading)
     (subst P (sym text) c.in_ok-number.ensures.read)
     (c.has_ended.ensures.0 c.if-not-has_ended.false)
