@@ -89,7 +89,7 @@ pub(crate) mod place {
 }
 
 /// The fields that are read, in the order in which faults are looked for.
-pub(crate) const TABLE: [Row; ROWS] = [
+pub(crate) static TABLE: [Row; ROWS] = [
     // MsgSeqNum.
     Row {
         tag: 34,
