@@ -1,7 +1,7 @@
 -- What the map of a tree's installs says: where a node has at most one install of each stamp, what
 -- the found install read is the sum over all trails.
-use Rattle.std.proofs.Common.{◌≡◌, ℕ, zero, suc, ◌+◌, ◌/◌, ◌<◌, ◌≤◌, Bool, true, false, ◌&&◌, ◌==◌}
-use Rattle.std.proofs.Common.{List, [], ◌∷◌, cond, refl, ap, sym, ◌∙◌, arith}
+use Rattle.std.proofs.Common.{◌≡◌, ℕ, ◌+◌, ◌/◌, ◌≤◌, Bool, true, false, ◌&&◌, ◌==◌}
+use Rattle.std.proofs.Common.{List, [], ◌∷◌, cond, refl, ap, ◌∙◌, arith}
 use Rattle.std.specs.Prelude.{Option, None, Some, fold}
 use Rattle.std.specs.Ordering.{is_eq, ordering_then, nat_cmp}
 use Rattle.std.specs.declared.cmp.Ordering.{Ordering}
@@ -10,7 +10,7 @@ use Rattle.std.specs.Cmp.{unsigned_tied}
 use Rattle.std.proofs.lemmas.Bool.{ne_eqb, eq-eqb}
 use Rattle.node_rule.specs.declared.view.Install.{Install}
 use Rattle.node_rule.specs.Views.{pick, is_left}
-use Rattle.node_rule.specs.Sums.{total, when, read_by, is_at}
+use Rattle.node_rule.specs.Sums.{total, when, is_at}
 use Rattle.f_array.specs.Records.{Did}
 use Rattle.trail_replay.specs.Sums.{read_in, read_in_all}
 use Rattle.trail_replay.specs.Installs.{by_node_and_stamp, is_of, install_or, install_after}

@@ -51,7 +51,10 @@ fn add_install(
     if install.tree != tree {
         return Ok(());
     }
-    if found.insert((install.node, install.stamp), *install).is_err() {
+    if found
+        .insert((install.node, install.stamp), *install)
+        .is_err()
+    {
         return Err(Memory);
     }
     Ok(())
