@@ -1,59 +1,15 @@
 -- What the map of a tree's installs says: where a node has at most one install of each stamp, what
 -- the found install read is the sum over all trails.
-use Rattle.std.proofs.Common.{◌≡◌, ℕ, zero, suc, ◌+◌, ◌/◌, ◌<◌, ◌≤◌, Bool, true, false, ◌&&◌, ◌==◌}
-use Rattle.std.proofs.Common.{List, [], ◌∷◌, cond, refl, ap, sym, ◌∙◌, arith}
+use Rattle.std.proofs.Common.{◌≡◌, ℕ, ◌+◌, ◌/◌, ◌≤◌, Bool, true, false, ◌&&◌, ◌==◌}
+use Rattle.std.proofs.Common.{List, [], ◌∷◌, refl, arith}
 use Rattle.std.specs.Prelude.{Option, None, Some, fold}
-use Rattle.std.specs.Ordering.{is_eq, ordering_then, nat_cmp}
-use Rattle.std.specs.declared.cmp.Ordering.{Ordering}
-use Rattle.std.specs.declared.cmp.Ordering.TheVariants.{Less, Equal, Greater}
-use Rattle.std.specs.Cmp.{unsigned_tied}
-use Rattle.std.proofs.lemmas.Bool.{ne_eqb, eq-eqb}
 use Rattle.node_rule.specs.declared.view.Install.{Install}
 use Rattle.node_rule.specs.Views.{pick, is_left}
-use Rattle.node_rule.specs.Sums.{total, when, read_by, is_at}
+use Rattle.node_rule.specs.Sums.{total, when, is_at}
 use Rattle.f_array.specs.Records.{Did}
 use Rattle.trail_replay.specs.Sums.{read_in, read_in_all}
-use Rattle.trail_replay.specs.Installs.{by_node_and_stamp, is_of, install_or, install_after}
+use Rattle.trail_replay.specs.Installs.{is_of, install_or, install_after}
 use Rattle.trail_replay.specs.Installs.{install_in, child_stamp}
-
-then_tied : (a b : Ordering) → is_eq (ordering_then a b) ≡ is_eq a && is_eq b
-then_tied Less b = refl
-then_tied Equal b = refl
-then_tied Greater b = refl
-
--- two nodes with stamps are equal in the order where both are
-keys_tied : (p q : ℕ × ℕ) → is_eq (by_node_and_stamp p q) ≡ p.0 == q.0 && p.1 == q.1
-keys_tied p q =
-    then_tied (nat_cmp p.0 q.0) (nat_cmp p.1 q.1)
-    ∙ (λ k. unsigned_tied p.0 q.0 k && unsigned_tied p.1 q.1 k)
-
-cond-pick : (b c d : Bool) (x : Install) (was : Option Install) → b ≡ true
-    → cond (c && d) (Some x) was ≡ pick ((b && c) && d) (Some x) was
-cond-pick true true true x was e = refl
-cond-pick true true false x was e = refl
-cond-pick true false d x was e = refl
-cond-pick false c d x was e = absurd (cc)
-
-pick-none : (b c d : Bool) (x : Install) (was : Option Install) → b ≡ false
-    → was ≡ pick ((b && c) && d) (Some x) was
-pick-none true c d x was e = absurd (cc)
-pick-none false c d x was e = refl
-
--- what is found after an install of the tree was put in
-pub put_in : (tree : ℕ) (x : Install) (key : ℕ × ℕ) (was : Option Install) → x.tree ≡ tree
-    → cond (is_eq (by_node_and_stamp (x.node, x.stamp) key)) (Some x) was
-    ≡ install_or tree key was x
-put_in tree x key was same =
-    ap (λ b. cond b (Some x) was) (keys_tied (x.node, x.stamp) key)
-    ∙ cond-pick (x.tree == tree) (x.node == key.0) (x.stamp == key.1) x was
-    (eq-eqb x.tree tree same)
-
--- an install of another tree changes nothing
-pub passed_over : (tree : ℕ) (x : Install) (key : ℕ × ℕ) (was : Option Install)
-    → (x.tree ≡ tree → ⊥) → was ≡ install_or tree key was x
-passed_over tree x key was apart =
-    pick-none (x.tree == tree) (x.node == key.0) (x.stamp == key.1) x was
-    (ne_eqb x.tree tree apart)
 
 -- how many installs were found
 abbrev count : Option Install → ℕ

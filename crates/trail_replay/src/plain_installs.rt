@@ -51,7 +51,8 @@ fn add_install(
     if install.tree != tree {
         return Ok(());
     }
-    if found.insert((install.node, install.stamp), *install).is_err() {
+    let key = (install.node, install.stamp);
+    if found.insert(key, *install).is_err() {
         return Err(Memory);
     }
     Ok(())
