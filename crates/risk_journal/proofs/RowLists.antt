@@ -3,21 +3,31 @@ use Rattle.std.proofs.Common.{◌≡◌, ℕ, ◌+◌, ◌<◌, List, [], ◌∷
 use Rattle.std.proofs.Common.{◌∙◌, arith, append_assoc, add-zero, length-take}
 use Rattle.std.specs.List.{flat_map, enumerate_from}
 use Rattle.std.proofs.Math.ListN.{get_or}
-use Rattle.std.proofs.lemmas.List.{take_more, append-nil}
+use Rattle.std.proofs.lemmas.List.{take_more, append-nil, map-append, length-map}
 
 -- the rows of the first elements by their numbers
 abbrev pub numbered : {X Y : Type 0} → (ℕ × Y → List ℕ) → (X → Y) → ℕ → List X → List ℕ
 numbered f g n xs = flat_map f (enumerate_from n (map g xs))
 
+-- numbered parts, one more at the end
+pub numbered_push : {X A : Type 0} (f : ℕ × X → List A) (n : ℕ) (xs : List X) (x : X)
+    → flat_map f (enumerate_from n (xs ++ x ∷ []))
+    ≡ flat_map f (enumerate_from n xs) ++ f (n + length xs, x)
+numbered_push f n [] x = rw (add-zero n) (append-nil (f (n, x)))
+numbered_push f n (y ∷ xs) x =
+    let more = numbered_push f (n + 1) xs x in
+    let place : n + 1 + length xs ≡ n + length (y ∷ xs) = omega arith in
+    ap (λ rest. f (n, y) ++ rest) more
+    ∙ sym (append_assoc (f (n, y)) (flat_map f (enumerate_from (n + 1) xs))
+    (f (n + 1 + length xs, x)))
+    ∙ ap (λ at. (f (n, y) ++ flat_map f (enumerate_from (n + 1) xs)) ++ f (at, x)) place
+
 numbered-snoc : {X Y : Type 0} (f : ℕ × Y → List ℕ) (g : X → Y) (n : ℕ) (xs : List X) (x : X)
     → numbered f g n (xs ++ x ∷ []) ≡ numbered f g n xs ++ f (n + length xs, g x)
-numbered-snoc f g n [] x = rw (add-zero n) (append-nil (f (n, g x)))
-numbered-snoc f g n (y ∷ xs) x =
-    let more = numbered-snoc f g (n + 1) xs x in
-    let place : n + 1 + length xs ≡ n + length (y ∷ xs) = omega arith in
-    ap (λ rest. f (n, g y) ++ rest) more
-    ∙ sym (append_assoc (f (n, g y)) (numbered f g (n + 1) xs) (f (n + 1 + length xs, g x)))
-    ∙ ap (λ at. (f (n, g y) ++ numbered f g (n + 1) xs) ++ f (at, g x)) place
+numbered-snoc f g n xs x =
+    ap (λ own. flat_map f (enumerate_from n own)) (map-append g xs (x ∷ []))
+    ∙ numbered_push f n (map g xs) (g x)
+    ∙ ap (λ count. numbered f g n xs ++ f (n + count, g x)) (length-map xs g)
 
 -- the row of one element more, by its number
 pub numbered_more : {X Y : Type 0} (f : ℕ × Y → List ℕ) (g : X → Y) (n : ℕ) (xs : List X) (i : ℕ)

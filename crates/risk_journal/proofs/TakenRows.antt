@@ -33,19 +33,6 @@ pub record IsGood (taken : Taken) : Type 0 where
   pub full : HasFullEnd taken.trees
   pub apart : (taken.begun ≡ []) ⊎ ((taken.trees ≡ []) × (length taken.ended < 2 ^ 32))
 
--- numbered parts, one more at the end
-pub numbered_push : {X A : Type 0} (f : ℕ × X → List A) (n : ℕ) (xs : List X) (x : X)
-    → flat_map f (enumerate_from n (xs ++ x ∷ []))
-    ≡ flat_map f (enumerate_from n xs) ++ f (n + length xs, x)
-numbered_push f n [] x = rw (add-zero n) (append-nil (f (n, x)))
-numbered_push f n (y ∷ xs) x =
-    let more = numbered_push f (n + 1) xs x in
-    let place : n + 1 + length xs ≡ n + length (y ∷ xs) = omega arith in
-    ap (λ rest. f (n, y) ++ rest) more
-    ∙ sym (append_assoc (f (n, y)) (flat_map f (enumerate_from (n + 1) xs))
-    (f (n + 1 + length xs, x)))
-    ∙ ap (λ at. (f (n, y) ++ flat_map f (enumerate_from (n + 1) xs)) ++ f (at, x)) place
-
 enumerate_push : {X : Type 0} (n : ℕ) (xs : List X) (x : X)
     → enumerate_from n (xs ++ x ∷ []) ≡ enumerate_from n xs ++ (n + length xs, x) ∷ []
 enumerate_push n [] x = ap (λ at. (at, x) ∷ []) (sym (add-zero n))

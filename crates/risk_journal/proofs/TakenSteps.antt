@@ -17,9 +17,10 @@ use Rattle.risk_journal.specs.declared.acts.End.{End}
 use Rattle.risk_journal.specs.declared.acts.End.TheVariants as ending
 use Rattle.risk_journal.specs.declared.rows.Row.{Row}
 use Rattle.risk_journal.specs.declared.rows.Row.TheVariants.{OfSession, OfTree}
+use Rattle.risk_journal.proofs.RowLists.{numbered_push}
 use Rattle.risk_journal.proofs.RowTexts.{AllFitAct, AllFitLine, IsShort}
 use Rattle.risk_journal.proofs.TreeWalks.{length-put_line}
-use Rattle.risk_journal.proofs.TakenRows.{IsGood, taken_rows, numbered_push, trees_rows, row_at}
+use Rattle.risk_journal.proofs.TakenRows.{IsGood, taken_rows, trees_rows, row_at}
 use Rattle.risk_journal.proofs.TakenRows.{put_row}
 use Rattle.risk_journal.proofs.TakenRows.{put_fits, put_short, put_full}
 

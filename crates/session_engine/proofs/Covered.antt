@@ -1,9 +1,9 @@
 -- After each frame what a session has admitted in a tree is its last post there, and that is what its
 -- orders are worth there.
-use Rattle.std.proofs.Common.{◌≡◌, ℕ, ◌+◌, ◌/◌, ◌≤◌, ◌<◌, ◌==◌, List, [], ◌∷◌, ◌++◌, fold, length}
+use Rattle.std.proofs.Common.{◌≡◌, ℕ, ◌+◌, ◌≤◌, ◌<◌, ◌==◌, List, [], ◌∷◌, ◌++◌, fold}
 use Rattle.std.proofs.Common.{refl, ap, sym, ◌∙◌, arith, Bool, true, false, cond, min, subst}
 use Rattle.std.proofs.Common.{length-append}
-use Rattle.std.specs.Prelude.{Option, Some, None, Result, Ok, Err, nat_le, nat_lt, sum_by, drop}
+use Rattle.std.specs.Prelude.{Option, Some, None, Result, Ok, Err, nat_le, nat_lt, drop}
 use Rattle.std.specs.Prelude.{IfSome, slice_index_or}
 use Rattle.std.specs.List.{list_any}
 use Rattle.std.proofs.lemmas.List.{length-map}
@@ -18,7 +18,7 @@ use Rattle.risk_board.specs.History.Event.{Posted, Saw}
 use Rattle.risk_journal.specs.declared.acts.Act.{Act}
 use Rattle.risk_journal.specs.declared.acts.Act.TheVariants.{Post, Read, Sent, Refused, Noted}
 use Rattle.risk_journal.specs.declared.acts.Act.TheVariants.{Ended}
-use Rattle.risk_journal.specs.ActLists.{SeenAt, last_post, latest, posts_in, events_of}
+use Rattle.risk_journal.specs.ActLists.{SeenAt, last_post, latest, events_of}
 use Rattle.limit_table.specs.declared.kind.AccountRow.{AccountRow}
 use Rattle.limit_table.specs.declared.kind.SymbolRow.{SymbolRow}
 use Rattle.session_engine.specs.declared.refusal.Refusal.{Refusal}
@@ -36,14 +36,14 @@ use Rattle.session_engine.specs.declared.note.Note.TheVariants as note
 use Rattle.session_engine.specs.Reserves.{order_of}
 use Rattle.session_engine.specs.Session.{SessionValue, Leg, opening, next_read, after_frames}
 use Rattle.session_engine.specs.Session.{after_frame, after_rows, after_checks, after_verdict}
-use Rattle.session_engine.specs.Session.{early_refusal, legs_of, verdict_of, named, asks}
+use Rattle.session_engine.specs.Session.{legs_of, verdict_of, named, asks}
 use Rattle.session_engine.specs.Session.{after_message, after_fault, after_result}
 use Rattle.session_engine.specs.Session.{post_new, read_root, roots_of}
 use Rattle.session_engine.specs.Answers.{code_of, fault_code, note_code}
 use Rattle.session_engine.specs.Stands.{read_act}
 use Rattle.session_engine.specs.Admitted.{Standing, nothing, after_event, after_post, after_read}
 use Rattle.session_engine.specs.Admitted.{CoversOrders, IsCovered}
-use Rattle.session_engine.proofs.Places.{AreRows, TreeTests, tree_tests, known_rows}
+use Rattle.session_engine.proofs.Places.{TreeTests, tree_tests, known_rows}
 use Rattle.session_engine.proofs.StepLemmas.{snocs}
 
 -- an event that counts or doesn't, in front of others

@@ -11,7 +11,6 @@ use Rattle.std.proofs.Math.Seq.{take-append-add}
 use Rattle.fix_fields.specs.Fields.{FieldValue}
 use Rattle.fix_fields.specs.Frames.{FrameValue, IsFrameAt}
 use Rattle.fix_fields.specs.Found.{Finds, IsSettled, place_after, frame_value}
-use Rattle.fix_fields.specs.declared.frame.Frame.{Frame}
 use Rattle.fix_fields.specs.declared.frame.Found.{Found}
 use Rattle.fix_fields.specs.declared.frame.Found.TheVariants as found
 use Rattle.risk_journal.specs.declared.acts.Act.{Act}

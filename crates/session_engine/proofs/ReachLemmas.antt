@@ -1,7 +1,7 @@
 -- Frame by frame, the bytes lead to a session.
 use Rattle.std.proofs.Common.{◌≡◌, ℕ, List, [], ◌∷◌, ◌++◌, refl, sym}
 use Rattle.std.proofs.Common.{ap, ◌∙◌, subst, true}
-use Rattle.std.specs.Prelude.{Option, Some, IsTrue}
+use Rattle.std.specs.Prelude.{Option, IsTrue}
 use Rattle.std.proofs.lemmas.List.{append_assoc}
 use Rattle.fix_fields.specs.Fields.{FieldValue}
 use Rattle.fix_fields.specs.Frames.{FrameValue, IsFrameAt}

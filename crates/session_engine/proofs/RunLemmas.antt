@@ -5,18 +5,16 @@ use Rattle.std.specs.Prelude.{Option, Some, None, false}
 use Rattle.std.specs.List.{concat}
 use Rattle.std.specs.Io.KnownBytes.{Appends}
 use Rattle.std.proofs.lemmas.List.{append_assoc, append-nil, length-replicate}
-use Rattle.fix_fields.specs.Fields.{FieldValue}
 use Rattle.fix_fields.specs.Frames.{FrameValue, IsFrameAt}
 use Rattle.fix_fields.specs.Found.{Finds, frame_value}
 use Rattle.fix_fields.specs.declared.frame.Frame.{Frame}
 use Rattle.fix_fields.specs.declared.frame.Found.TheVariants as found
-use Rattle.fold_law.specs.declared.limits.TheConstants.{LEAF}
 use Rattle.risk_board.specs.Hands.{HandValue}
 use Rattle.risk_journal.specs.declared.acts.Act.{Act}
 use Rattle.session_engine.specs.declared.totals.Totals.{Totals}
 use Rattle.session_engine.specs.declared.totals.TreeTotals.{TreeTotals}
 use Rattle.session_engine.specs.Trees.{LimitsValue, halt_tree}
-use Rattle.session_engine.specs.Session.{SessionValue, opening, is_taken, unnamed_client}
+use Rattle.session_engine.specs.Session.{opening, unnamed_client}
 use Rattle.session_engine.specs.Counted.{no_totals, no_tree}
 use Rattle.session_engine.specs.Hands.{IsSumHand, IsHaltHand}
 use Rattle.session_engine.specs.Stands.{InStep, totals_at}

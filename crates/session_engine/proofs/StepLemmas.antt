@@ -1,7 +1,7 @@
 -- What is done with an order leads from a session to the next.
 use Rattle.std.proofs.Common.{◌≡◌, ℕ, ◌+◌, ◌==◌, List, [], ◌∷◌, ◌++◌, refl, sym, ap, ◌∙◌}
 use Rattle.std.proofs.Common.{arith, true, false, Bool, ◌||◌, cond, inl, inr, subst}
-use Rattle.std.specs.Prelude.{sum_by, Option, Some, None, Ok, Err, Result, fold, if◌then◌else◌}
+use Rattle.std.specs.Prelude.{Option, Some, None, Ok, Err, Result, fold, if◌then◌else◌}
 use Rattle.std.specs.List.{list_any}
 use Rattle.std.specs.Str.{bytes_eq}
 use Rattle.std.proofs.lemmas.List.{append-nil, length-append, append_assoc}
@@ -20,15 +20,15 @@ use Rattle.session_engine.specs.Trees.{LimitsValue, halt_tree, account_tree, sym
 use Rattle.session_engine.specs.OrderTrees.{OrderValue, exposure_of, exposure_in, exposures_in}
 use Rattle.session_engine.specs.OrderTrees.{counts_in, rows_of, trees_by, units_up, value_in}
 use Rattle.session_engine.specs.Session.{SessionValue, Leg, legs_of}
-use Rattle.session_engine.specs.Session.{after_order, after_rows, after_checks, after_verdict}
+use Rattle.session_engine.specs.Session.{after_rows, after_checks, after_verdict}
 use Rattle.session_engine.specs.Session.{after_sending, after_refusing, post_new, post_old, read_root}
 use Rattle.session_engine.specs.Session.{early_refusal, verdict_of, roots_of}
 use Rattle.session_engine.specs.Answers.{code_of}
 use Rattle.session_engine.specs.Ids.{AddsId, SameIds}
 use Rattle.session_engine.specs.Stands.{StandsFor, Decides, totals_at, legs_by, Roots, roots_read}
 use Rattle.session_engine.specs.Stands.{asked_acts, retracted_acts, posts_after, read_acts}
-use Rattle.session_engine.specs.Stands.{sent_totals, refused_totals, SendsIn, IsJudged, early_at}
-use Rattle.session_engine.specs.Stands.{AsksSent, AsksLate, AsksEarly, sent_tree, early_by}
+use Rattle.session_engine.specs.Stands.{sent_totals, refused_totals, SendsIn, early_at}
+use Rattle.session_engine.specs.Stands.{AsksSent, AsksLate, AsksEarly, sent_tree}
 use Rattle.session_engine.specs.Reaches.{with_reads, next_session, forward_of, refusal_of, Orders}
 use Rattle.session_engine.proofs.InStepLemmas.{posts_in-own, posts_in-other, posts_in-read}
 use Rattle.session_engine.proofs.Places.{AreRows, TreeTests, tree_tests, known_rows}

@@ -4,11 +4,10 @@ use Rattle.std.proofs.Common.{subst, Bool, true, false, codes, arith, inl, inr, 
 use Rattle.std.proofs.Math.Nat.{mul-le-mul_left}
 use Rattle.std.specs.Prelude.{Option, Some, None, not, Result, Ok, Err, ◌||◌}
 use Rattle.std.specs.Prelude.{if◌then◌else◌}
-use Rattle.std.specs.List.{concat, list_any}
+use Rattle.std.specs.List.{concat}
 use Rattle.std.specs.Option.{unwrap_or}
 use Rattle.std.specs.Result.{is_err}
 use Rattle.std.specs.Io.KnownBytes.{Appends}
-use Rattle.std.specs.Str.{bytes_eq}
 use Rattle.std.proofs.lemmas.List.{append-nil, length-append}
 use Rattle.std.proofs.lemmas.List.Folds.{concat-append}
 use Rattle.fix_fields.specs.Fields.{FieldValue}
@@ -31,7 +30,6 @@ use Rattle.session_engine.specs.OrderTrees.{OrderValue, exposure_of, counts_in, 
 use Rattle.session_engine.specs.Reserves.{order_of}
 use Rattle.session_engine.specs.Session.{LimitsValue, SessionValue, is_taken, is_taken_read}
 use Rattle.session_engine.specs.Session.{after_frame, after_result, asks, named, client_after}
-use Rattle.session_engine.specs.Session.{after_noting, after_rejecting, after_returning}
 use Rattle.session_engine.specs.Stands.{StandsFor, Decides, SendsIn, sent_tree, totals_at}
 use Rattle.session_engine.specs.Stands.{sent_totals, refused_totals}
 use Rattle.session_engine.specs.Reaches.{next_session, forward_of, refusal_of, with_reads, Steps}

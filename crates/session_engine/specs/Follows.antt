@@ -1,8 +1,8 @@
 -- What one session did with its input.
-use Rattle.std.specs.Prelude.{◌≡◌, ℕ, List, [], ◌∷◌, ◌++◌, length, take, Option, IfSome, false, nat_lt}
+use Rattle.std.specs.Prelude.{◌≡◌, ℕ, ◌+◌, ◌≤◌, List, [], ◌∷◌, ◌++◌, length, take, Option, IfSome, false, nat_lt}
 use Rattle.std.specs.Prelude.{◌⊎◌}
 use Rattle.std.specs.List.{concat}
-use Rattle.std.specs.Io.KnownBytes.{Appends}
+use Rattle.std.specs.Io.KnownBytes.{Appends, Consumes}
 use Rattle.fix_fields.specs.Fields.{FieldValue}
 use Rattle.fix_fields.specs.Frames.{FrameValue}
 use Rattle.fix_fields.specs.Found.{Splits, StandsAt, place_after}
@@ -63,6 +63,11 @@ FollowsSource limits left acts end venue venue_after client client_after =
     IfSome left (λ bytes. (to_venue : List ℕ) × (to_client : List ℕ)
     × Appends venue venue_after to_venue × Appends client client_after to_client
     × FollowsInput limits bytes acts end to_venue to_client)
+
+-- of what the source had left, at most the bytes of an input and one more were fetched
+abbrev pub FetchesInput : Option (List ℕ) → Option (List ℕ) → Type 0
+FetchesInput left left_after =
+    (taken : List ℕ) × (length taken ≤ input_most + 1) × Consumes left left_after taken
 
 -- the last act says how the session ended; there is none only where memory was wanting
 abbrev pub EndsAs : List Act → End → Type 0

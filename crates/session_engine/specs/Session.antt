@@ -1,5 +1,5 @@
 -- What a session does with each frame, as a function of the frames and of the reads.
-use Rattle.std.specs.Prelude.{ℕ, ◌+◌, ◌==◌, ◌||◌, List, [], ◌∷◌, ◌++◌, length, drop, fold, map}
+use Rattle.std.specs.Prelude.{ℕ, ◌+◌, ◌||◌, List, [], ◌∷◌, ◌++◌, length, drop, fold, map}
 use Rattle.std.specs.Prelude.{Option, Some, None, IsTrue, Bool, true, false}
 use Rattle.std.specs.Prelude.{not, nat_lt, if◌then◌else◌, codes, Result, Ok, Err}
 use Rattle.std.specs.List.{list_any, slice_index_or}

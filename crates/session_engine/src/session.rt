@@ -4,7 +4,7 @@ ghost use Rattle.std.specs.BTreeSet.{IsEmpty};
 ghost use Rattle.limit_table.specs.Files.{IsHeldByFile};
 ghost use Rattle.gate_ports.specs.Faults.{Rose};
 ghost use Rattle.risk_journal.specs.ActLists.{calls_below, calls_at};
-ghost use Rattle.session_engine.specs.Follows.{IsByInput, FollowsSource, EndsAs};
+ghost use Rattle.session_engine.specs.Follows.{IsByInput, FollowsSource, FetchesInput, EndsAs};
 ghost use Rattle.session_engine.specs.Hands.{IsSumHand, IsHaltHand};
 ghost use Rattle.session_engine.specs.Trees.{halt_tree};
 ghost use Rattle.session_engine.specs.Stands.{InStep};
@@ -170,6 +170,7 @@ pub fn run_session<H: Hand, M: Hand, S: Source, V: Sink, C: Sink>(
     ensures follows { IsByInput result.end → FollowsSource limits.now (S.left source)
         result.acts.items result.end (V.held venue) (V.held result.venue)
         (C.held client) (C.held result.client) }
+    ensures fetched { FetchesInput (S.left source) (S.left result.source) }
     ensures read_fault { result.end ≡ End.ReadFault
         → Rose (S.faults source) (S.faults result.source) }
     ensures write_fault { result.end ≡ End.WriteFault
@@ -255,6 +256,7 @@ fn run_frames<H: Hand, M: Hand, S: Source, V: Sink, C: Sink>(
         (state.new.acts.items ++ Act.Ended result ∷ []) result
         (V.held sinks.old.venue) (V.held sinks.new.venue)
         (C.held sinks.old.client) (C.held sinks.new.client) }
+    ensures fetched { FetchesInput (S.left source.old) (S.left source.new) }
     ensures read_fault { result ≡ End.ReadFault → Rose (S.faults source.old) (S.faults source.new) }
     ensures write_fault { result ≡ End.WriteFault
         → Rose (V.faults sinks.old.venue) (V.faults sinks.new.venue)

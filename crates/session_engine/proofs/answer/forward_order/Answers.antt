@@ -1,5 +1,5 @@
 -- The forward that was written is that of the fields.
-use Rattle.std.proofs.Common.{◌≡◌, ℕ, List, refl, subst, sym, ap, ◌∙◌, codes, true}
+use Rattle.std.proofs.Common.{◌≡◌, ℕ, List, refl, subst, ap, ◌∙◌, codes}
 use Rattle.std.specs.Io.KnownBytes.{Appends}
 use Rattle.fix_fields.specs.Messages.{message_text}
 use Rattle.fix_orders.specs.declared.message.Message.TheVariants as message

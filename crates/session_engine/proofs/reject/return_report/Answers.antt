@@ -1,5 +1,5 @@
 -- A report with a field fault was taken.
-use Rattle.std.proofs.Common.{refl, ◌∙◌, ap, subst, ℕ, List}
+use Rattle.std.proofs.Common.{refl, ◌∙◌, subst, ℕ, List}
 use Rattle.std.specs.BTreeSet.{contains}
 use Rattle.std.specs.Ordering.{nat_cmp}
 use Rattle.std.specs.Cmp.Lexicographic.{slice_cmp}

@@ -1,7 +1,4 @@
 -- The price is that of the symbol's row.
-use Rattle.std.proofs.Common.{ℕ, List, ◌≡◌, ◌≤◌, subst, sym, slice_index_or}
-use Rattle.limit_table.specs.declared.kind.SymbolRow.{SymbolRow}
-use Rattle.session_engine.specs.Reserves.{upper_price}
 use Rattle.session_engine.proofs.Prices.{price_is, price_fits, no_price}
 use Rattle.session_engine.proofs.reserve.upper_price.Goals as goal
 

@@ -1,7 +1,7 @@
 -- Frame by frame, and where the session stops.
 use Rattle.std.proofs.Common.{arith, ◌∙◌}
 use Rattle.session_engine.specs.Taken.{Kept, kept_by}
-use Rattle.session_engine.proofs.RunLemmas.{runs_next, stops_here, small_counts, few_messages}
+use Rattle.session_engine.proofs.RunLemmas.{runs_next, stops_here}
 use Rattle.session_engine.proofs.session.take_frames.Goals as goal
 
 pub loop-frame-preserved : goal.loop-frame-preserved

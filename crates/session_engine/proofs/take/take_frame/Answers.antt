@@ -1,9 +1,9 @@
 -- A frame that is sound or isn't leads to the next session.
-use Rattle.std.proofs.Common.{refl, sym, ◌∙◌, List, subst}
+use Rattle.std.proofs.Common.{refl, sym, List, subst}
 use Rattle.risk_journal.specs.declared.acts.Act.{Act}
 use Rattle.session_engine.specs.Taken.{Kept, kept_by, TakesFrom}
 use Rattle.session_engine.proofs.InStepLemmas.{in_step_after_noted, in_step_reserved}
-use Rattle.session_engine.proofs.SoundLemmas.{sound_takes, sound_leaves, unsound_takes}
+use Rattle.session_engine.proofs.SoundLemmas.{sound_takes, unsound_takes}
 use Rattle.session_engine.proofs.take.take_frame.Goals as goal
 
 pub returns-then-frame-clause-taken : goal.returns-then-frame-clause-taken

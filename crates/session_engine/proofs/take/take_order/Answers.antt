@@ -1,5 +1,5 @@
 -- An order that was sent or refused, and answered, leads to the next session.
-use Rattle.std.proofs.Common.{refl, sym, ap, ◌∙◌, Ok, ◌≡◌, subst, true}
+use Rattle.std.proofs.Common.{refl, Ok, ◌≡◌, subst, true}
 use Rattle.std.specs.BTreeSet.{contains}
 use Rattle.std.specs.Ordering.{nat_cmp}
 use Rattle.std.specs.Cmp.Lexicographic.{slice_cmp}

@@ -1,9 +1,5 @@
 -- What was read of the frame leads to the next session.
-use Rattle.std.proofs.Common.{refl, sym, ap, ◌∙◌, Ok, ◌≡◌, subst}
-use Rattle.std.specs.Prelude.{Result}
-use Rattle.std.specs.BTreeSet.{contains}
-use Rattle.std.specs.Ordering.{nat_cmp}
-use Rattle.std.specs.Cmp.Lexicographic.{slice_cmp}
+use Rattle.std.proofs.Common.{refl, Ok, ◌≡◌}
 use Rattle.fix_orders.specs.declared.message.Message.TheVariants as message
 use Rattle.fix_orders.specs.Reading.{read_of}
 use Rattle.session_engine.specs.Taken.{Kept, kept_by, counted_totals}
