@@ -1,0 +1,6 @@
+pub mod Collar
+pub mod Laws
+pub mod Repeat
+pub mod Screens
+pub mod Sets
+pub mod Size
