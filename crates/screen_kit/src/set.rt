@@ -1,5 +1,6 @@
 //! A set of screens: asked in order, and a screen taken out by its name.
-ghost use Rattle.std.specs.Prelude.{◌≡◌, ◌<◌, ℕ, map, IsTrue, OnTrue, OnFalse, ◌↔◌, ¬◌};
+ghost use Rattle.std.specs.Prelude.{◌≡◌, map, IsTrue, ◌↔◌};
+ghost use Rattle.std.specs.Bool.{OnTrue, OnFalse};
 ghost use Rattle.screen_kit.specs.Screens.{code_for, judged};
 ghost use Rattle.screen_kit.specs.Sets.{first_code, after_asking, HasName, LosesFirst};
 
