@@ -1,0 +1,70 @@
+-- The first screen of a name is taken out of a set.
+use Rattle.std.proofs.Common.{◌≡◌, ◌≢◌, ℕ, ◌+◌, ◌<◌, List, [], ◌∷◌, ◌++◌, All, length, map, take, drop, ap, arith, slice_index_or, suc, zero, refl, remove, sym, ◌∙◌, subst}
+use Rattle.screen_kit.specs.Screens.{ScreenValue}
+use Rattle.screen_kit.specs.Sets.{HasName, LosesFirst}
+
+-- none of the first i screens has the name
+abbrev pub NoneBefore : List ℕ → ℕ → List ScreenValue → Type 0
+NoneBefore name zero screens = Unit {0}
+NoneBefore name (suc i) [] = Unit {0}
+NoneBefore name (suc i) (screen ∷ screens) = (screen.name ≢ name) × NoneBefore name i screens
+
+-- nor has the next
+pub none_before_next : {B : Type 0} (f : B → ScreenValue) (name : List ℕ) (xs : List B) (i : ℕ) (d : B)
+    → i < length xs → d ≡ slice_index_or xs i d → (f d).name ≢ name
+    → NoneBefore name i (map f xs) → NoneBefore name (suc i) (map f xs)
+none_before_next f name [] i d in_range is other before = absurd (omega arith)
+none_before_next f name (x ∷ xs) zero d in_range is other before =
+    ((λ named. other (ap (λ b. (f b).name) is ∙ named)), tt)
+none_before_next f name (x ∷ xs) (suc i) d in_range is other before =
+    (before.0, none_before_next f name xs i d (omega arith) is other before.1)
+
+-- where none of all has the name, no screen has it
+pub none_has_name : (name : List ℕ) (screens : List ScreenValue)
+    → NoneBefore name (length screens) screens → ¬ HasName name screens
+none_has_name name [] before (k, screen, in_range, is, named) = absurd (omega arith)
+none_has_name name (x ∷ screens) before (zero, screen, in_range, is, named) =
+    before.0 (ap (λ s. s.name) is ∙ named)
+none_has_name name (x ∷ screens) before (suc k, screen, in_range, is, named) =
+    none_has_name name screens before.1 (k, screen, omega arith, is, named)
+
+-- where the screen at i has it and none before, it is the first
+pub loses_first : {B : Type 0} (f : B → ScreenValue) (name : List ℕ) (xs : List B) (i : ℕ) (d : B)
+    → i < length xs → d ≡ slice_index_or xs i d → (f d).name ≡ name
+    → NoneBefore name i (map f xs) → LosesFirst name (map f xs) (map f (remove xs i))
+loses_first f name [] i d in_range is named before = absurd (omega arith)
+loses_first f name (x ∷ xs) zero d in_range is named before = record {
+  before = [];
+  screen = f x;
+  later = map f xs;
+  stood = refl;
+  left = refl;
+  named = ap (λ b. (f b).name) (sym is) ∙ named;
+  first = λ k e short. absurd (omega arith);
+}
+loses_first f name (x ∷ xs) (suc i) d in_range is named before =
+    let rest : LosesFirst name (map f xs) (map f (remove xs i)) = loses_first f name xs i d (omega arith) is named before.1 in
+    record {
+      before = f x ∷ rest.before;
+      screen = rest.screen;
+      later = rest.later;
+      stood = ap (λ s. f x ∷ s) rest.stood;
+      left = ap (λ s. f x ∷ s) rest.left;
+      named = rest.named;
+      first = all_cons (f x) rest.before before.0 rest.first;
+    }
+  where
+    all_cons : (screen : ScreenValue) (screens : List ScreenValue) → screen.name ≢ name
+        → All (λ other. other.name ≢ name) screens → All (λ other. other.name ≢ name) (screen ∷ screens)
+    all_cons screen screens other others zero e short = other
+    all_cons screen screens other others (suc k) e short = others k e (omega arith)
+
+-- and one of the set has the name
+pub has_name_at : {B : Type 0} (f : B → ScreenValue) (name : List ℕ) (xs : List B) (i : ℕ) (d : B)
+    → i < length xs → d ≡ slice_index_or xs i d → (f d).name ≡ name → HasName name (map f xs)
+has_name_at f name [] i d in_range is named = absurd (omega arith)
+has_name_at f name (x ∷ xs) zero d in_range is named =
+    (0, f x, omega arith, refl, ap (λ b. (f b).name) (sym is) ∙ named)
+has_name_at f name (x ∷ xs) (suc i) d in_range is named =
+    let (k, screen, short, at, said) = has_name_at f name xs i d (omega arith) is named in
+    (suc k, screen, omega arith, at, said)
