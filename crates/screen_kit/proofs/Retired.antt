@@ -1,5 +1,5 @@
 -- The first screen of a name is taken out of a set.
-use Rattle.std.proofs.Common.{◌≡◌, ◌≢◌, ℕ, ◌+◌, ◌<◌, List, [], ◌∷◌, ◌++◌, All, length, map, take, drop, ap, arith, slice_index_or, suc, zero, refl, remove, sym, ◌∙◌, subst}
+use Rattle.std.proofs.Common.{◌≡◌, ◌≢◌, ℕ, ◌+◌, ◌<◌, ◌≤◌, List, [], ◌∷◌, ◌++◌, All, length, map, take, drop, ap, arith, slice_index_or, suc, zero, refl, remove, sym, ◌∙◌, subst}
 use Rattle.screen_kit.specs.Screens.{ScreenValue}
 use Rattle.screen_kit.specs.Sets.{HasName, LosesFirst}
 
@@ -20,13 +20,14 @@ none_before_next f name (x ∷ xs) (suc i) d in_range is other before =
     (before.0, none_before_next f name xs i d (omega arith) is other before.1)
 
 -- where none of all has the name, no screen has it
-pub none_has_name : (name : List ℕ) (screens : List ScreenValue)
-    → NoneBefore name (length screens) screens → ¬ HasName name screens
-none_has_name name [] before (k, screen, in_range, is, named) = absurd (omega arith)
-none_has_name name (x ∷ screens) before (zero, screen, in_range, is, named) =
+pub none_has_name : {B : Type 0} (f : B → ScreenValue) (name : List ℕ) (xs : List B) (i : ℕ) → length xs ≤ i
+    → NoneBefore name i (map f xs) → ¬ HasName name (map f xs)
+none_has_name f name [] i all before (k, screen, in_range, is, named) = absurd (omega arith)
+none_has_name f name (x ∷ xs) zero all before found = absurd (omega arith)
+none_has_name f name (x ∷ xs) (suc i) all before (zero, screen, in_range, is, named) =
     before.0 (ap (λ s. s.name) is ∙ named)
-none_has_name name (x ∷ screens) before (suc k, screen, in_range, is, named) =
-    none_has_name name screens before.1 (k, screen, omega arith, is, named)
+none_has_name f name (x ∷ xs) (suc i) all before (suc k, screen, in_range, is, named) =
+    none_has_name f name xs i (omega arith) before.1 (k, screen, omega arith, is, named)
 
 -- where the screen at i has it and none before, it is the first
 pub loses_first : {B : Type 0} (f : B → ScreenValue) (name : List ℕ) (xs : List B) (i : ℕ) (d : B)
