@@ -3,6 +3,7 @@ use Rattle.std.proofs.Common.{◌≡◌, ◌≢◌, ℕ, ◌+◌, ◌<◌, List,
 use Rattle.screen_kit.specs.Screens.{ScreenValue, judged, code_for}
 use Rattle.screen_kit.specs.Sets.{first_code, after_asking}
 use Rattle.screen_kit.specs.declared.order.Order.{Order}
+
 -- the screen at i refuses with its code
 pub stops_code : {B : Type 0} (f : B → ScreenValue) (order : Order) (xs : List B) (i : ℕ) (d : B) → i < length xs → d ≡ slice_index_or xs i d
     → code_for order (f d) ≢ 0 → first_code order (drop i (map f xs)) ≡ code_for order (f d)

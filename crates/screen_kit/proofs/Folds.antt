@@ -20,8 +20,8 @@ later_judge_what_passed screen later [] = refl
 later_judge_what_passed screen later (order ∷ orders) =
     let next : ScreenValue = judged order screen in
     elim (code_for order screen == 0) as (λ b.
-        asked_all orders (next ∷ (if b then after_asking order later else later))
-        ≡ judged_all orders next ∷ asked_all (if b then order ∷ let_pass orders next else let_pass orders next) later) [
+    asked_all orders (next ∷ (if b then after_asking order later else later))
+    ≡ judged_all orders next ∷ asked_all (if b then order ∷ let_pass orders next else let_pass orders next) later) [
       | true ↦ later_judge_what_passed next (after_asking order later) orders
       | false ↦ later_judge_what_passed next later orders
     ]

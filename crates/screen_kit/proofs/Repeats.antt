@@ -54,13 +54,13 @@ same_from_test a b held =
 pub test_from_same : (a b : Order) → SameOrder a b → is_same a b ≡ true
 test_from_same a b same =
     and_both _ (a.price == b.price) (and_both _ (a.quantity == b.quantity)
-        (and_both _ (kind_number a.kind == kind_number b.kind) (and_both _ (a.side == b.side)
-            (and_both (a.account == b.account) (a.symbol == b.symbol)
-                (equal_passes a.account b.account same.account) (equal_passes a.symbol b.symbol same.symbol))
-            (equal_passes a.side b.side same.side))
-            (equal_passes (kind_number a.kind) (kind_number b.kind) (ap kind_number same.kind)))
-        (equal_passes a.quantity b.quantity same.quantity))
-        (equal_passes a.price b.price same.price)
+    (and_both _ (kind_number a.kind == kind_number b.kind) (and_both _ (a.side == b.side)
+    (and_both (a.account == b.account) (a.symbol == b.symbol)
+    (equal_passes a.account b.account same.account) (equal_passes a.symbol b.symbol same.symbol))
+    (equal_passes a.side b.side same.side))
+    (equal_passes (kind_number a.kind) (kind_number b.kind) (ap kind_number same.kind)))
+    (equal_passes a.quantity b.quantity same.quantity))
+    (equal_passes a.price b.price same.price)
 
 -- the code where the test holds, and otherwise
 abbrev code_of : Bool → ℕ
@@ -89,7 +89,7 @@ tells_repeats terms orders order =
     let last : List Order = keep_last terms.repeat orders in
     let test : Order → Bool = λ kept. is_same order kept in
     let code : code_for order (judged_all orders (armed terms (repeat_screen []))) ≡ code_of (list_any test last) =
-        repeat_code-last terms orders order in
+    repeat_code-last terms orders order in
     record {
       refuses = (
         (λ is. let found : Any (λ kept. test kept ≡ true) last = Any-from_list_any test last (three_is_true (list_any test last) (sym code ∙ is)) in

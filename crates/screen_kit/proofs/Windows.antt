@@ -64,6 +64,6 @@ pub fold-repeat_next : (most : ℕ) (before orders : List Order)
 fold-repeat_next most before [] = ap (λ s. window_of most (keep_last most s)) (sym (append-nil before))
 fold-repeat_next most before (order ∷ orders) =
     ap (λ s. fold repeat_next s orders) (repeat_next-window_of most (keep_last most before) order
-        ∙ ap (λ s. window_of most s) (keep_last-again most before (order ∷ [])))
+    ∙ ap (λ s. window_of most s) (keep_last-again most before (order ∷ [])))
     ∙ fold-repeat_next most (before ++ order ∷ []) orders
     ∙ ap (λ s. window_of most (keep_last most s)) (append_assoc before (order ∷ []) orders)

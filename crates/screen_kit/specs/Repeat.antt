@@ -39,7 +39,7 @@ sixes_of (order ∷ orders) = six_of order ++ sixes_of orders
 abbrev pub is_among : Order → List ℕ → Bool
 is_among order (account ∷ symbol ∷ side ∷ kind ∷ quantity ∷ price ∷ later) =
     (order.account == account && order.symbol == symbol && order.side == side
-        && kind_number order.kind == kind && order.quantity == quantity && order.price == price)
+    && kind_number order.kind == kind && order.quantity == quantity && order.price == price)
     || is_among order later
 is_among order _ = false
 

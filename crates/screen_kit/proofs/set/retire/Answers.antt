@@ -5,8 +5,8 @@ use Rattle.screen_kit.proofs.set.retire.Goals as goal
 pub returns-then-has_name-clause-dropped : goal.returns-then-has_name-clause-dropped
 returns-then-has_name-clause-dropped g c = rw (c.remove-dropped.ensures.items, ← c.loop-i.invariant.same)
     (loses_first (λ b. (goal.Screen-dyn g (b.vtable, b.value)).meaning b.value) c.args.name.now
-        c.loop-i.screens.items c.loop-i.i c.index.result.now (omega arith) c.index.ensures
-        (c.has_name.ensures.0 c.if-has_name.true) c.loop-i.invariant.before)
+    c.loop-i.screens.items c.loop-i.i c.index.result.now (omega arith) c.index.ensures
+    (c.has_name.ensures.0 c.if-has_name.true) c.loop-i.invariant.before)
 
 pub loop-i-preserved : goal.loop-i-preserved
 loop-i-preserved g c = record {
@@ -19,7 +19,7 @@ loop-i-preserved g c = record {
 
 pub returns-clause-found : goal.returns-clause-found
 returns-clause-found g c = rw (← c.loop-i.invariant.same) (
-    (λ no. cc no),
-    (λ found. absurd (none_has_name (λ b. (goal.Screen-dyn g (b.vtable, b.value)).meaning b.value) c.args.name.now
-        c.loop-i.screens.items c.loop-i.i (omega arith) c.loop-i.invariant.before found)),
-  )
+  (λ no. cc no),
+  (λ found. absurd (none_has_name (λ b. (goal.Screen-dyn g (b.vtable, b.value)).meaning b.value) c.args.name.now
+      c.loop-i.screens.items c.loop-i.i (omega arith) c.loop-i.invariant.before found)),
+)
