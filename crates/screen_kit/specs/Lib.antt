@@ -1,4 +1,5 @@
 pub mod Collar
+pub mod FirstOrders
 pub mod Laws
 pub mod Repeat
 pub mod Screens

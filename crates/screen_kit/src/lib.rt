@@ -26,4 +26,8 @@ pub use set::{ask, retire};
 pub use size::SizeScreen;
 
 #[cfg(test)]
+mod counted;
+#[cfg(test)]
+mod first_orders;
+#[cfg(test)]
 mod tests;
