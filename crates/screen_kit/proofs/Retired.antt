@@ -1,7 +1,8 @@
 -- The first screen of a name is taken out of a set.
-use Rattle.std.proofs.Common.{◌≡◌, ◌≢◌, ℕ, ◌+◌, ◌<◌, ◌≤◌, List, [], ◌∷◌, ◌++◌, All, length, map, take, drop, ap, arith, slice_index_or, suc, zero, refl, remove, sym, ◌∙◌, subst}
+use Rattle.std.proofs.Common.{◌≡◌, ◌≢◌, ℕ, ◌+◌, ◌<◌, ◌≤◌, List, [], ◌∷◌, ◌++◌, All, length, map, take, drop, ap, arith, slice_index_or, suc, zero, refl, remove, sym, ◌∙◌, subst, Bool, true, false}
+use Rattle.std.specs.Cmp.Lexicographic.{bytes_decides}
 use Rattle.screen_kit.specs.Screens.{ScreenValue}
-use Rattle.screen_kit.specs.Sets.{HasName, LosesFirst}
+use Rattle.screen_kit.specs.Sets.{HasName, LosesFirst, is_named, without_first}
 
 -- none of the first i screens has the name
 abbrev pub NoneBefore : List ℕ → ℕ → List ScreenValue → Type 0
@@ -69,3 +70,33 @@ has_name_at f name (x ∷ xs) zero d in_range is named =
 has_name_at f name (x ∷ xs) (suc i) d in_range is named =
     let (k, screen, short, at, said) = has_name_at f name xs i d (omega arith) is named in
     (suc k, screen, omega arith, at, said)
+
+-- the test of a name
+named_passes : (name : List ℕ) (screen : ScreenValue) → screen.name ≡ name → is_named name screen ≡ true
+named_passes name screen named = (bytes_decides screen.name name).1 named
+
+other_fails : (name : List ℕ) (screen : ScreenValue) → screen.name ≢ name → is_named name screen ≡ false
+other_fails name screen other = by (is_named name screen) (λ held. other ((bytes_decides screen.name name).0 held))
+  where
+    by : (b : Bool) → (b ≢ true) → b ≡ false
+    by true never = absurd (never refl)
+    by false never = refl
+
+-- where the screen at i has the name and none before, the set without it is the set without the first
+pub without_first-at : {B : Type 0} (f : B → ScreenValue) (name : List ℕ) (xs : List B) (i : ℕ) (d : B)
+    → i < length xs → d ≡ slice_index_or xs i d → (f d).name ≡ name
+    → NoneBefore name i (map f xs) → map f (remove xs i) ≡ without_first name (map f xs)
+without_first-at f name [] i d in_range is named before = absurd (omega arith)
+without_first-at f name (x ∷ xs) zero d in_range is named before =
+    rw (named_passes name (f x) (ap (λ b. (f b).name) (sym is) ∙ named)) refl
+without_first-at f name (x ∷ xs) (suc i) d in_range is named before =
+    rw (other_fails name (f x) before.0)
+        (ap (λ s. f x ∷ s) (without_first-at f name xs i d (omega arith) is named before.1))
+
+-- and where none of all has it, that is the set
+pub without_first-none : {B : Type 0} (f : B → ScreenValue) (name : List ℕ) (xs : List B) (i : ℕ) → length xs ≤ i
+    → NoneBefore name i (map f xs) → map f xs ≡ without_first name (map f xs)
+without_first-none f name [] i all before = refl
+without_first-none f name (x ∷ xs) zero all before = absurd (omega arith)
+without_first-none f name (x ∷ xs) (suc i) all before =
+    rw (other_fails name (f x) before.0) (ap (λ s. f x ∷ s) (without_first-none f name xs i (omega arith) before.1))

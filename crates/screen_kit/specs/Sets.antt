@@ -1,5 +1,6 @@
 -- A set of screens, in the order in which they are asked.
-use Rattle.std.specs.Prelude.{◌≡◌, ◌≢◌, ℕ, ◌==◌, List, [], ◌∷◌, ◌++◌, All, Any, if◌then◌else◌}
+use Rattle.std.specs.Prelude.{◌≡◌, ◌≢◌, ℕ, ◌==◌, List, [], ◌∷◌, ◌++◌, Bool, All, Any, if◌then◌else◌}
+use Rattle.std.specs.Str.{bytes_eq}
 use Rattle.screen_kit.specs.declared.order.Order.{Order}
 use Rattle.screen_kit.specs.Screens.{ScreenValue, code_for, judged}
 
@@ -18,6 +19,16 @@ after_asking order (screen ∷ later) =
 -- one screen of the set has the name
 abbrev pub HasName : List ℕ → List ScreenValue → Type 0
 HasName name screens = Any (λ screen. screen.name ≡ name) screens
+
+-- whether the screen has the name
+abbrev pub is_named : List ℕ → ScreenValue → Bool
+is_named name screen = bytes_eq screen.name name
+
+-- the set without the first screen of the name; the same set where none has it
+abbrev pub without_first : List ℕ → List ScreenValue → List ScreenValue
+without_first name [] = []
+without_first name (screen ∷ later) =
+    if is_named name screen then later else screen ∷ without_first name later
 
 -- the set loses the first screen of the name, and no other; the others keep their order
 pub record LosesFirst (name : List ℕ) (old new : List ScreenValue) : Type 0 where

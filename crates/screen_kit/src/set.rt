@@ -1,8 +1,8 @@
 //! A set of screens: asked in order, and a screen taken out by its name.
 ghost use Rattle.std.specs.Prelude.{◌≡◌, map, IsTrue, ◌↔◌};
-ghost use Rattle.std.specs.Bool.{OnTrue, OnFalse};
+ghost use Rattle.std.specs.Bool.{OnTrue};
 ghost use Rattle.screen_kit.specs.Screens.{code_for, judged};
-ghost use Rattle.screen_kit.specs.Sets.{first_code, after_asking, HasName, LosesFirst};
+ghost use Rattle.screen_kit.specs.Sets.{first_code, after_asking, HasName, LosesFirst, without_first};
 
 use crate::order::Order;
 use crate::screen::Screen;
@@ -35,10 +35,10 @@ fn judge_one(screen: &mut Box<dyn Screen + Send>, order: &Order) -> u16
 /// dropped one.
 pub fn retire(screens: &mut Vec<Box<dyn Screen + Send>>, name: &str) -> bool
     ensures found { IsTrue result ↔ HasName name.now (map (λ b. meaning b) screens.old.items) }
+    ensures after { map (λ b. meaning b) screens.new.items
+        ≡ without_first name.now (map (λ b. meaning b) screens.old.items) }
     ensures dropped { OnTrue result (LosesFirst name.now
         (map (λ b. meaning b) screens.old.items) (map (λ b. meaning b) screens.new.items)) }
-    ensures none { OnFalse result (map (λ b. meaning b) screens.new.items
-        ≡ map (λ b. meaning b) screens.old.items) }
 {
     for i in 0..screens.len() {
         if has_name(&screens[i], name) {
