@@ -1,7 +1,6 @@
 -- A screen that judges one order after another, alone and in a set.
-use Rattle.std.proofs.Common.{◌≡◌, ℕ, List, [], ◌∷◌, Bool, true, false, ap, refl, fold, ◌==◌, if◌then◌else◌}
+use Rattle.std.proofs.Common.{◌≡◌, List, [], ◌∷◌, true, false, ap, refl, fold, ◌==◌, if◌then◌else◌}
 use Rattle.screen_kit.specs.declared.order.Order.{Order}
-use Rattle.screen_kit.specs.declared.order.Terms.{Terms}
 use Rattle.screen_kit.specs.Screens.{ScreenValue, keeping, armed, code_for, judged}
 use Rattle.screen_kit.specs.Sets.{after_asking}
 use Rattle.screen_kit.specs.Laws.{judged_all, let_pass, asked_all, CodeIsFold, LaterJudgeWhatPassed}

@@ -1,17 +1,16 @@
 -- What the screen for repeats tells of the orders that it judged.
-use Rattle.std.proofs.Common.{◌≡◌, ℕ, ◌-◌, ◌==◌, Bool, true, false, ◌&&◌, ◌||◌, List, [], ◌∷◌, ◌++◌, Any, ap, refl, sym, ◌∙◌, ◌↔◌, ◌⊎◌, inl, inr, arith, fold, drop, length, if◌then◌else◌}
+use Rattle.std.proofs.Common.{◌≡◌, ℕ, ◌-◌, ◌==◌, Bool, true, false, ◌&&◌, List, [], Any, ap, refl, sym, ◌∙◌, ◌⊎◌, inl, inr, arith, fold, if◌then◌else◌}
 use Rattle.std.specs.List.{list_any}
 use Rattle.std.proofs.lemmas.Bool.{eqb-true}
 use Rattle.std.proofs.lemmas.List.Folds.{Any-from_list_any, list_any-from_Any}
-use Rattle.std.proofs.Math.Dec.{eqb_refl}
 use Rattle.std.proofs.Math.Seq.{drop-nil}
 use Rattle.circular_buffer.specs.Buffer.{keep_last}
 use Rattle.fix_orders.specs.declared.message.OrderKind.{OrderKind}
 use Rattle.fix_orders.specs.declared.message.OrderKind.TheVariants.{Market, Limit}
 use Rattle.screen_kit.specs.declared.order.Order.{Order}
 use Rattle.screen_kit.specs.declared.order.Terms.{Terms}
-use Rattle.screen_kit.specs.Screens.{ScreenValue, armed, code_for}
-use Rattle.screen_kit.specs.Repeat.{SameOrder, kind_number, is_same, sixes_of, window_of, repeat_code, repeat_next, repeat_screen}
+use Rattle.screen_kit.specs.Screens.{armed, code_for}
+use Rattle.screen_kit.specs.Repeat.{SameOrder, kind_number, is_same, window_of, repeat_code, repeat_next, repeat_screen}
 use Rattle.screen_kit.specs.Laws.{judged_all, TellsRepeats}
 use Rattle.screen_kit.proofs.Folds.{code_is_fold}
 use Rattle.screen_kit.proofs.Windows.{fold-repeat_next, is_among-sixes_of}

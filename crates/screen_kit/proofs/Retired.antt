@@ -1,5 +1,5 @@
 -- The first screen of a name is taken out of a set.
-use Rattle.std.proofs.Common.{◌≡◌, ◌≢◌, ℕ, ◌+◌, ◌<◌, ◌≤◌, List, [], ◌∷◌, ◌++◌, All, length, map, take, drop, ap, arith, slice_index_or, suc, zero, refl, remove, sym, ◌∙◌, subst, Bool, true, false}
+use Rattle.std.proofs.Common.{◌≡◌, ◌≢◌, ℕ, ◌<◌, ◌≤◌, List, [], ◌∷◌, All, length, map, ap, arith, slice_index_or, suc, zero, refl, remove, sym, ◌∙◌, Bool, true, false}
 use Rattle.std.specs.Cmp.Lexicographic.{bytes_decides}
 use Rattle.screen_kit.specs.Screens.{ScreenValue}
 use Rattle.screen_kit.specs.Sets.{HasName, LosesFirst, is_named, without_first}
@@ -91,7 +91,7 @@ without_first-at f name (x ∷ xs) zero d in_range is named before =
     rw (named_passes name (f x) (ap (λ b. (f b).name) (sym is) ∙ named)) refl
 without_first-at f name (x ∷ xs) (suc i) d in_range is named before =
     rw (other_fails name (f x) before.0)
-        (ap (λ s. f x ∷ s) (without_first-at f name xs i d (omega arith) is named before.1))
+    (ap (λ s. f x ∷ s) (without_first-at f name xs i d (omega arith) is named before.1))
 
 -- and where none of all has it, that is the set
 pub without_first-none : {B : Type 0} (f : B → ScreenValue) (name : List ℕ) (xs : List B) (i : ℕ) → length xs ≤ i

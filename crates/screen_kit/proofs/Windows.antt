@@ -1,5 +1,5 @@
 -- The window of the screen for repeats: as a list of orders, and as the numbers that it keeps.
-use Rattle.std.proofs.Common.{◌≡◌, ℕ, ◌+◌, ◌-◌, ◌*◌, ◌≤◌, ◌==◌, Bool, true, false, List, [], ◌∷◌, ◌++◌, length, drop, zero, suc, ap, refl, sym, ◌∙◌, arith, fold, append_assoc, length-append, length-drop, ◌&&◌, ◌||◌}
+use Rattle.std.proofs.Common.{◌≡◌, ℕ, ◌+◌, ◌-◌, ◌*◌, List, [], ◌∷◌, ◌++◌, length, drop, zero, suc, ap, refl, sym, ◌∙◌, arith, fold, append_assoc, length-append, length-drop, ◌||◌}
 use Rattle.std.specs.List.{list_any}
 use Rattle.std.proofs.lemmas.List.{drop-append-le, drop-drop, append-nil}
 use Rattle.std.proofs.Math.Seq.{drop-nil}

@@ -2,7 +2,6 @@
 use Rattle.std.specs.Prelude.{ℕ, [], codes, nat_lt, ◌||◌, if◌then◌else◌}
 use Rattle.fix_orders.specs.declared.message.OrderKind.{OrderKind}
 use Rattle.fix_orders.specs.declared.message.OrderKind.TheVariants.{Market, Limit}
-use Rattle.screen_kit.specs.declared.order.Order.{Order}
 use Rattle.screen_kit.specs.Screens.{ScreenValue}
 
 -- by kind, price, and the least and the largest price of the symbol: 2 exactly where a limit price

@@ -1,6 +1,5 @@
 -- A screen of a firm's own, which tests make: it lets so many first orders pass.
 use Rattle.std.specs.Prelude.{ℕ, ◌+◌, List, [], ◌∷◌, codes, nat_lt, if◌then◌else◌}
-use Rattle.screen_kit.specs.declared.order.Order.{Order}
 use Rattle.screen_kit.specs.Screens.{ScreenValue}
 
 -- 100 exactly where it has let the most orders pass

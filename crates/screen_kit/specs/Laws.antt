@@ -1,5 +1,5 @@
 -- What follows for a screen from the orders that it judged since it was armed.
-use Rattle.std.specs.Prelude.{◌≡◌, ℕ, ◌==◌, List, [], ◌∷◌, ◌++◌, Any, fold, ◌↔◌, ◌⊎◌, if◌then◌else◌}
+use Rattle.std.specs.Prelude.{◌≡◌, ◌==◌, List, [], ◌∷◌, Any, fold, ◌↔◌, ◌⊎◌, if◌then◌else◌}
 use Rattle.circular_buffer.specs.Buffer.{keep_last}
 use Rattle.screen_kit.specs.declared.order.Order.{Order}
 use Rattle.screen_kit.specs.declared.order.Terms.{Terms}

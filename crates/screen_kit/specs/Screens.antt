@@ -1,5 +1,5 @@
 -- What a screen is, and what arming it and judging orders leave.
-use Rattle.std.specs.Prelude.{◌≡◌, ℕ, List, [], ◌∷◌}
+use Rattle.std.specs.Prelude.{◌≡◌, ℕ, List}
 use Rattle.screen_kit.specs.declared.order.Order.{Order}
 use Rattle.screen_kit.specs.declared.order.Terms.{Terms}
 

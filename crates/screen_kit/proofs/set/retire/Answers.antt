@@ -1,4 +1,4 @@
-use Rattle.std.proofs.Common.{arith, add-one, ◌≤◌, length, sym, ◌∙◌}
+use Rattle.std.proofs.Common.{arith, add-one}
 use Rattle.screen_kit.proofs.Retired.{none_before_next, none_has_name, loses_first, without_first-at, without_first-none}
 use Rattle.screen_kit.proofs.set.retire.Goals as goal
 
@@ -27,10 +27,10 @@ returns-clause-found g c = rw (← c.loop-i.invariant.same) (
 pub returns-then-has_name-clause-after : goal.returns-then-has_name-clause-after
 returns-then-has_name-clause-after g c = rw (c.remove-dropped.ensures.items, ← c.loop-i.invariant.same)
     (without_first-at (λ b. (goal.Screen-dyn g (b.vtable, b.value)).meaning b.value) c.args.name.now
-        c.loop-i.screens.items c.loop-i.i c.index.result.now (omega arith) c.index.ensures
-        (c.has_name.ensures.0 c.if-has_name.true) c.loop-i.invariant.before)
+    c.loop-i.screens.items c.loop-i.i c.index.result.now (omega arith) c.index.ensures
+    (c.has_name.ensures.0 c.if-has_name.true) c.loop-i.invariant.before)
 
 pub returns-clause-after : goal.returns-clause-after
 returns-clause-after g c = rw (← c.loop-i.invariant.same)
     (without_first-none (λ b. (goal.Screen-dyn g (b.vtable, b.value)).meaning b.value) c.args.name.now
-        c.loop-i.screens.items c.loop-i.i (omega arith) c.loop-i.invariant.before)
+    c.loop-i.screens.items c.loop-i.i (omega arith) c.loop-i.invariant.before)
