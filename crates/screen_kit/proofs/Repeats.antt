@@ -9,7 +9,7 @@ use Rattle.fix_orders.specs.declared.message.OrderKind.{OrderKind}
 use Rattle.fix_orders.specs.declared.message.OrderKind.TheVariants.{Market, Limit}
 use Rattle.screen_kit.specs.declared.order.Order.{Order}
 use Rattle.screen_kit.specs.declared.order.Terms.{Terms}
-use Rattle.screen_kit.specs.Screens.{armed, code_for}
+use Rattle.screen_kit.specs.Screens.{ScreenValue, armed, code_for}
 use Rattle.screen_kit.specs.Repeat.{SameOrder, kind_number, is_same, window_of, repeat_code, repeat_next, repeat_screen}
 use Rattle.screen_kit.specs.Laws.{judged_all, TellsRepeats}
 use Rattle.screen_kit.proofs.Folds.{code_is_fold}
@@ -45,7 +45,8 @@ same_from_test a b held =
       account = eqb-true a.account b.account symbol.0;
       symbol = eqb-true a.symbol b.symbol symbol.1;
       side = eqb-true a.side b.side side.1;
-      kind = kind_number-same a.kind b.kind (eqb-true (kind_number a.kind) (kind_number b.kind) kind.1);
+      kind = kind_number-same a.kind b.kind
+          (eqb-true (kind_number a.kind) (kind_number b.kind) kind.1);
       quantity = eqb-true a.quantity b.quantity quantity.1;
       price = eqb-true a.price b.price price.1;
     }
@@ -71,7 +72,8 @@ repeat_code-last : (terms : Terms) (orders : List Order) (order : Order)
     ≡ code_of (list_any (λ kept. is_same order kept) (keep_last terms.repeat orders))
 repeat_code-last terms orders order =
     code_is_fold (repeat_screen []) terms orders order
-    ∙ ap (λ s. repeat_code (fold repeat_next (window_of terms.repeat s) orders) order) (sym (drop-nil (0 - terms.repeat)))
+    ∙ ap (λ s. repeat_code (fold repeat_next (window_of terms.repeat s) orders) order)
+    (sym (drop-nil (0 - terms.repeat)))
     ∙ ap (λ s. repeat_code s order) (fold-repeat_next terms.repeat [] orders)
     ∙ ap code_of (is_among-sixes_of order (keep_last terms.repeat orders))
 
@@ -83,20 +85,25 @@ three_or_none : (b : Bool) → (code_of b ≡ 3) ⊎ (code_of b ≡ 0)
 three_or_none true = inl refl
 three_or_none false = inr refl
 
-pub tells_repeats : (terms : Terms) (orders : List Order) (order : Order) → TellsRepeats terms orders order
+pub tells_repeats : (terms : Terms) (orders : List Order) (order : Order)
+    → TellsRepeats terms orders order
 tells_repeats terms orders order =
     let last : List Order = keep_last terms.repeat orders in
     let test : Order → Bool = λ kept. is_same order kept in
-    let code : code_for order (judged_all orders (armed terms (repeat_screen []))) ≡ code_of (list_any test last) =
+    let judged : ScreenValue = judged_all orders (armed terms (repeat_screen [])) in
+    let code : code_for order judged ≡ code_of (list_any test last) =
     repeat_code-last terms orders order in
     record {
       refuses = (
-        (λ is. let found : Any (λ kept. test kept ≡ true) last = Any-from_list_any test last (three_is_true (list_any test last) (sym code ∙ is)) in
+        (λ is.
+            let found : Any (λ kept. test kept ≡ true) last = Any-from_list_any test last
+            (three_is_true (list_any test last) (sym code ∙ is)) in
             (found.0, found.1, found.2, found.3, same_from_test order found.1 found.4)),
-        (λ found. code ∙ ap code_of
-            (list_any-from_Any test last (found.0, found.1, found.2, found.3, test_from_same order found.1 found.4))),
+        (λ found. code ∙ ap code_of (list_any-from_Any test last
+            (found.0, found.1, found.2, found.3, test_from_same order found.1 found.4))),
       );
-      passes = let b : Bool = list_any test last in
-          let P : ℕ → Type 0 = λ n. (n ≡ 3) ⊎ (n ≡ 0) in
-          elim (three_or_none b) [ inl is ↦ inl (code ∙ is) | inr is ↦ inr (code ∙ is) ];
+      passes = elim (three_or_none (list_any test last)) [
+        | inl is ↦ inl (code ∙ is)
+        | inr is ↦ inr (code ∙ is)
+      ];
     }

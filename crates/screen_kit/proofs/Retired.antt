@@ -11,7 +11,8 @@ NoneBefore name (suc i) [] = Unit {0}
 NoneBefore name (suc i) (screen ∷ screens) = (screen.name ≢ name) × NoneBefore name i screens
 
 -- nor has the next
-pub none_before_next : {B : Type 0} (f : B → ScreenValue) (name : List ℕ) (xs : List B) (i : ℕ) (d : B)
+pub none_before_next : {B : Type 0} (f : B → ScreenValue) (name : List ℕ) (xs : List B)
+    (i : ℕ) (d : B)
     → i < length xs → d ≡ slice_index_or xs i d → (f d).name ≢ name
     → NoneBefore name i (map f xs) → NoneBefore name (suc i) (map f xs)
 none_before_next f name [] i d in_range is other before = absurd (omega arith)
@@ -21,7 +22,8 @@ none_before_next f name (x ∷ xs) (suc i) d in_range is other before =
     (before.0, none_before_next f name xs i d (omega arith) is other before.1)
 
 -- where none of all has the name, no screen has it
-pub none_has_name : {B : Type 0} (f : B → ScreenValue) (name : List ℕ) (xs : List B) (i : ℕ) → length xs ≤ i
+pub none_has_name : {B : Type 0} (f : B → ScreenValue) (name : List ℕ) (xs : List B)
+    (i : ℕ) → length xs ≤ i
     → NoneBefore name i (map f xs) → ¬ HasName name (map f xs)
 none_has_name f name [] i all before (k, screen, in_range, is, named) = absurd (omega arith)
 none_has_name f name (x ∷ xs) zero all before found = absurd (omega arith)
@@ -45,7 +47,8 @@ loses_first f name (x ∷ xs) zero d in_range is named before = record {
   first = λ k e short. absurd (omega arith);
 }
 loses_first f name (x ∷ xs) (suc i) d in_range is named before =
-    let rest : LosesFirst name (map f xs) (map f (remove xs i)) = loses_first f name xs i d (omega arith) is named before.1 in
+    let rest : LosesFirst name (map f xs) (map f (remove xs i)) =
+    loses_first f name xs i d (omega arith) is named before.1 in
     record {
       before = f x ∷ rest.before;
       screen = rest.screen;
@@ -57,33 +60,28 @@ loses_first f name (x ∷ xs) (suc i) d in_range is named before =
     }
   where
     all_cons : (screen : ScreenValue) (screens : List ScreenValue) → screen.name ≢ name
-        → All (λ other. other.name ≢ name) screens → All (λ other. other.name ≢ name) (screen ∷ screens)
+        → All (λ other. other.name ≢ name) screens
+        → All (λ other. other.name ≢ name) (screen ∷ screens)
     all_cons screen screens other others zero e short = other
     all_cons screen screens other others (suc k) e short = others k e (omega arith)
 
--- and one of the set has the name
-pub has_name_at : {B : Type 0} (f : B → ScreenValue) (name : List ℕ) (xs : List B) (i : ℕ) (d : B)
-    → i < length xs → d ≡ slice_index_or xs i d → (f d).name ≡ name → HasName name (map f xs)
-has_name_at f name [] i d in_range is named = absurd (omega arith)
-has_name_at f name (x ∷ xs) zero d in_range is named =
-    (0, f x, omega arith, refl, ap (λ b. (f b).name) (sym is) ∙ named)
-has_name_at f name (x ∷ xs) (suc i) d in_range is named =
-    let (k, screen, short, at, said) = has_name_at f name xs i d (omega arith) is named in
-    (suc k, screen, omega arith, at, said)
-
 -- the test of a name
-named_passes : (name : List ℕ) (screen : ScreenValue) → screen.name ≡ name → is_named name screen ≡ true
+named_passes : (name : List ℕ) (screen : ScreenValue)
+    → screen.name ≡ name → is_named name screen ≡ true
 named_passes name screen named = (bytes_decides screen.name name).1 named
 
-other_fails : (name : List ℕ) (screen : ScreenValue) → screen.name ≢ name → is_named name screen ≡ false
-other_fails name screen other = by (is_named name screen) (λ held. other ((bytes_decides screen.name name).0 held))
+other_fails : (name : List ℕ) (screen : ScreenValue)
+    → screen.name ≢ name → is_named name screen ≡ false
+other_fails name screen other =
+    by (is_named name screen) (λ held. other ((bytes_decides screen.name name).0 held))
   where
     by : (b : Bool) → (b ≢ true) → b ≡ false
     by true never = absurd (never refl)
     by false never = refl
 
--- where the screen at i has the name and none before, the set without it is the set without the first
-pub without_first-at : {B : Type 0} (f : B → ScreenValue) (name : List ℕ) (xs : List B) (i : ℕ) (d : B)
+-- where the screen at i has the name and none before, the set without it is without the first
+pub without_first-at : {B : Type 0} (f : B → ScreenValue) (name : List ℕ) (xs : List B)
+    (i : ℕ) (d : B)
     → i < length xs → d ≡ slice_index_or xs i d → (f d).name ≡ name
     → NoneBefore name i (map f xs) → map f (remove xs i) ≡ without_first name (map f xs)
 without_first-at f name [] i d in_range is named before = absurd (omega arith)
@@ -94,9 +92,11 @@ without_first-at f name (x ∷ xs) (suc i) d in_range is named before =
     (ap (λ s. f x ∷ s) (without_first-at f name xs i d (omega arith) is named before.1))
 
 -- and where none of all has it, that is the set
-pub without_first-none : {B : Type 0} (f : B → ScreenValue) (name : List ℕ) (xs : List B) (i : ℕ) → length xs ≤ i
+pub without_first-none : {B : Type 0} (f : B → ScreenValue) (name : List ℕ) (xs : List B)
+    (i : ℕ) → length xs ≤ i
     → NoneBefore name i (map f xs) → map f xs ≡ without_first name (map f xs)
 without_first-none f name [] i all before = refl
 without_first-none f name (x ∷ xs) zero all before = absurd (omega arith)
 without_first-none f name (x ∷ xs) (suc i) all before =
-    rw (other_fails name (f x) before.0) (ap (λ s. f x ∷ s) (without_first-none f name xs i (omega arith) before.1))
+    rw (other_fails name (f x) before.0)
+    (ap (λ s. f x ∷ s) (without_first-none f name xs i (omega arith) before.1))

@@ -3,8 +3,8 @@ use Rattle.std.specs.Prelude.{◌≡◌, ℕ, List}
 use Rattle.screen_kit.specs.declared.order.Order.{Order}
 use Rattle.screen_kit.specs.declared.order.Terms.{Terms}
 
--- a screen: its name, the numbers that it keeps, and its three rules, which never change: what it
--- keeps once it is armed, its code for an order by what it keeps, and what it keeps after that order
+-- a screen: its name, the numbers that it keeps, and its three rules, which never change: what
+-- it keeps once it is armed, its code for an order by what it keeps, and what it keeps after it
 pub record ScreenValue : Type 0 where
   pub name : List ℕ
   pub kept : List ℕ

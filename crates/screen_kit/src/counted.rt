@@ -6,7 +6,7 @@ use std::alloc::Global;
 use std::sync::Arc;
 use std::sync::atomic::{AtomicU64, Ordering};
 
-/// `counted`: refuses every order with its code, and adds its weight to the drops when it is dropped.
+/// `counted`: refuses every order with its code, and adds its weight to the drops at its drop.
 pub struct Counted {
     pub code: u16,
     pub weight: u64,

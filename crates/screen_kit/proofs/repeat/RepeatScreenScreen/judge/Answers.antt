@@ -10,4 +10,5 @@ returns-in-Some-clause-code c = rw c.in-Some.is (c.judge_in.ensures.code
 
 pub returns-in-Some-clause-next : goal.returns-in-Some-clause-next
 returns-in-Some-clause-next c = rw (c.judge_in.ensures.joined, c.in-Some.is)
-    (ap repeat_screen (sym (repeat_next-window_of c.in-Some.window.capacity c.in-Some.window.items c.args.order.now)))
+    (ap repeat_screen (sym (repeat_next-window_of
+    c.in-Some.window.capacity c.in-Some.window.items c.args.order.now)))
