@@ -25,36 +25,16 @@ It needs the kit's `rt` and `rustc` on the PATH. The forest is proved and built 
 """
 import os
 import resource
-import shutil
 import statistics
 import subprocess
 import sys
 import tempfile
 
+from beside import copy_beside
+
 BENCH = os.path.dirname(os.path.abspath(__file__))
-TOP = os.path.dirname(BENCH)
 THREADS = (1, 2, 4, 8)
 CRATES = ("fold_law", "risk_board", "stamp_word", "node_rule", "double_refresh", "f_array")
-
-
-def copy_forest(folder):
-    """The program's crate beside those it uses, of which it takes the sources, definitions and proofs."""
-    for name in CRATES:
-        for part in ("src", "specs", "proofs"):
-            source = os.path.join(TOP, "crates", name, part)
-            if os.path.isdir(source):
-                shutil.copytree(source, os.path.join(folder, "crates", name, part))
-    for path, _, names in os.walk(os.path.join(BENCH, "forest")):
-        for name in names:
-            target = os.path.join(folder, "crates", os.path.relpath(path, BENCH))
-            os.makedirs(target, exist_ok=True)
-            shutil.copy(os.path.join(path, name), os.path.join(target, name.removesuffix(".txt")))
-    shutil.copy(os.path.join(TOP, "HANDLES"), folder)
-    with open(os.path.join(TOP, "crates.txt"), encoding="utf-8") as lines:
-        kept = [line for line in lines if line.split(":")[0] in CRATES]
-    with open(os.path.join(folder, "crates.txt"), "w", encoding="utf-8") as out:
-        out.writelines(kept)
-        out.write("forest: " + " ".join(CRATES) + "\n")
 
 
 def build_rust(folder, name):
@@ -67,7 +47,7 @@ def build_rust(folder, name):
 
 def build(folder):
     """The words by which each program is called."""
-    copy_forest(folder)
+    copy_beside(folder, "forest", CRATES, CRATES)
     crate = os.path.join(folder, "crates", "forest")
     subprocess.run(["rt", "run", "--", "one", "1", "1"], cwd=crate, check=True, stdout=sys.stderr)
     tree, mutex = build_rust(folder, "tree"), build_rust(folder, "mutex")

@@ -27,16 +27,15 @@ It needs the kit's `rt` and `rustc` on the PATH. The proved program is proved an
 """
 import os
 import resource
-import shutil
 import statistics
 import subprocess
 import sys
 import tempfile
 
+from beside import copy_beside
 from orders import TIME, frame
 
 BENCH = os.path.dirname(os.path.abspath(__file__))
-TOP = os.path.dirname(BENCH)
 CRATES = ("fix_fields", "fix_orders")
 WORKS = ("find", "read", "forward")
 MESSAGES = 10_000
@@ -90,29 +89,9 @@ def write_files(folder):
     return files
 
 
-def copy_program(folder):
-    """The program's crate beside those it uses, of which it takes the sources, definitions and proofs."""
-    for name in CRATES:
-        for part in ("src", "specs", "proofs"):
-            source = os.path.join(TOP, "crates", name, part)
-            if os.path.isdir(source):
-                shutil.copytree(source, os.path.join(folder, "crates", name, part))
-    for path, _, names in os.walk(os.path.join(BENCH, "orders_read")):
-        for name in names:
-            target = os.path.join(folder, "crates", os.path.relpath(path, BENCH))
-            os.makedirs(target, exist_ok=True)
-            shutil.copy(os.path.join(path, name), os.path.join(target, name.removesuffix(".txt")))
-    shutil.copy(os.path.join(TOP, "HANDLES"), folder)
-    with open(os.path.join(TOP, "crates.txt"), encoding="utf-8") as lines:
-        kept = [line for line in lines if line.split(":")[0] in CRATES]
-    with open(os.path.join(folder, "crates.txt"), "w", encoding="utf-8") as out:
-        out.writelines(kept)
-        out.write("orders_read: " + " ".join(CRATES) + "\n")
-
-
 def build(folder):
     """The programs by their names, built."""
-    copy_program(folder)
+    copy_beside(folder, "orders_read", CRATES, CRATES)
     crate = os.path.join(folder, "crates", "orders_read")
     subprocess.run(["rt", "run"], cwd=crate, check=True, stdout=sys.stderr)
     plain = os.path.join(folder, "orders_plain")

@@ -20,42 +20,22 @@ in memory. The time is taken in the program, by the clock.
 It needs the kit's `rt` on the PATH. The program is proved and built in a temporary folder.
 """
 import os
-import shutil
 import subprocess
 import sys
 import tempfile
 
+from beside import copy_beside
+
 BENCH = os.path.dirname(os.path.abspath(__file__))
-TOP = os.path.dirname(BENCH)
 CRATES = ("fold_law", "risk_board", "stamp_word", "node_rule", "double_refresh", "f_array", "trail_replay")
 USED = ("fold_law", "stamp_word", "node_rule", "f_array", "trail_replay", "risk_board", "atomic_table")
 WORKS = ("record", "prepared", "each")
 PASSES = 32
 
 
-def copy_program(folder):
-    """The program's crate beside those it uses, of which it takes the sources, definitions and proofs."""
-    for name in CRATES:
-        for part in ("src", "specs", "proofs"):
-            source = os.path.join(TOP, "crates", name, part)
-            if os.path.isdir(source):
-                shutil.copytree(source, os.path.join(folder, "crates", name, part))
-    for path, _, names in os.walk(os.path.join(BENCH, "replays")):
-        for name in names:
-            target = os.path.join(folder, "crates", os.path.relpath(path, BENCH))
-            os.makedirs(target, exist_ok=True)
-            shutil.copy(os.path.join(path, name), os.path.join(target, name.removesuffix(".txt")))
-    shutil.copy(os.path.join(TOP, "HANDLES"), folder)
-    with open(os.path.join(TOP, "crates.txt"), encoding="utf-8") as lines:
-        kept = [line for line in lines if line.split(":")[0] in CRATES]
-    with open(os.path.join(folder, "crates.txt"), "w", encoding="utf-8") as out:
-        out.writelines(kept)
-        out.write("replays: " + " ".join(USED) + "\n")
-
-
 def build(folder):
     """The program, built."""
-    copy_program(folder)
+    copy_beside(folder, "replays", CRATES, USED)
     crate = os.path.join(folder, "crates", "replays")
     subprocess.run(["rt", "run", "--", "prepared", "1", "1"], cwd=crate, check=True, stdout=sys.stderr)
     return os.path.join(crate, "out", "replays")
