@@ -7,6 +7,7 @@
 //! cost is not told here, nor what a session does with a code.
 #![tactic(auto)]
 
+mod boxed;
 mod collar;
 mod laws;
 mod order;
@@ -22,12 +23,14 @@ pub use laws::{code_is_a_fold, later_screens_judge_what_passed, repeats_are_of_t
 pub use order::{Order, Terms};
 pub use repeat::RepeatScreen;
 pub use screen::Screen;
-pub use set::{ask, retire};
+pub use set::{arm_all, ask, retire};
 pub use size::SizeScreen;
 
 #[cfg(test)]
 mod counted;
 #[cfg(test)]
 mod first_orders;
+#[cfg(test)]
+mod no_room;
 #[cfg(test)]
 mod tests;

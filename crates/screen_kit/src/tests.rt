@@ -3,7 +3,10 @@
 
 use crate::counted::Counted;
 use crate::first_orders::FirstOrders;
-use crate::{CollarScreen, Order, OrderKind, RepeatScreen, Screen, SizeScreen, Terms, ask, retire};
+use crate::no_room::NoRoom;
+use crate::{
+    CollarScreen, Order, OrderKind, RepeatScreen, Screen, SizeScreen, Terms, arm_all, ask, retire,
+};
 use std::process::Abort;
 use std::sync::Arc;
 use std::sync::atomic::{AtomicU64, Ordering};
@@ -44,17 +47,14 @@ fn of(name: &'static str, order: Order, code: u16) -> Row {
     Row { name, order, code }
 }
 
-/// Arms each screen of the set, and asks it for the order of each row.
+/// Arms the set, and asks it for the order of each row.
 fn asks(
     rt: &impl Abort,
     screens: &mut Vec<Box<dyn Screen + Send>>,
     repeat: u32,
     rows: &[Row],
 ) -> Result<(), Fail> {
-    let terms = Terms { repeat };
-    for screen in screens.iter_mut() {
-        screen.arm(&terms)?;
-    }
+    arm_all(screens, &Terms { repeat })?;
     for row in rows {
         let name = row.name;
         assert_eq!(rt; ask(screens, &row.order), row.code, "{name}");
@@ -107,6 +107,26 @@ fn a_window_holds_refused_orders_too(rt: HostRuntime) -> Result<(), Fail> {
         of("a window of none", buy(1, 100_000), 0),
     ];
     asks(&rt, &mut screens, 0, &again)
+}
+
+#[test]
+fn a_set_with_a_screen_that_gets_no_room_is_not_armed(rt: HostRuntime) -> Result<(), Fail> {
+    let alloc = rt.alloc();
+    let mut screens: Vec<Box<dyn Screen + Send>> = Vec::new(alloc);
+    screens.push(Box::new(alloc, SizeScreen::new(alloc))?)?;
+    screens.push(Box::new(alloc, NoRoom)?)?;
+    screens.push(Box::new(alloc, RepeatScreen::new(alloc))?)?;
+    let terms = Terms { repeat: 2 };
+    assert!(rt;
+        arm_all(&mut screens, &terms).is_err(),
+        "the second gets none"
+    );
+    assert!(rt; retire(&mut screens, "no_room"), "it has its name");
+    assert!(rt;
+        arm_all(&mut screens, &terms).is_ok(),
+        "the others get theirs"
+    );
+    Ok(())
 }
 
 #[test]

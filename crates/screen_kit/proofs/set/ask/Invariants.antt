@@ -6,18 +6,18 @@ abbrev pub invariant-loop-i : goal.invariant-loop-i
 invariant-loop-i g l = record {
   len : vec_len l.screens ≡ l.i-end;
   code : first_code l.order (map
-      (λ b. (goal.Screen-dyn g (b.vtable, b.value)).meaning b.value)
+      g.S.Screen.meaning
       l.initial.screens.items)
       ≡ first_code l.order (drop l.i (map
-      (λ b. (goal.Screen-dyn g (b.vtable, b.value)).meaning b.value)
+      g.S.Screen.meaning
       l.screens.items));
   after : after_asking l.order (map
-      (λ b. (goal.Screen-dyn g (b.vtable, b.value)).meaning b.value)
+      g.S.Screen.meaning
       l.initial.screens.items)
       ≡ take l.i (map
-      (λ b. (goal.Screen-dyn g (b.vtable, b.value)).meaning b.value)
+      g.S.Screen.meaning
       l.screens.items)
       ++ after_asking l.order (drop l.i (map
-      (λ b. (goal.Screen-dyn g (b.vtable, b.value)).meaning b.value)
+      g.S.Screen.meaning
       l.screens.items));
 }

@@ -5,7 +5,7 @@ use Rattle.screen_kit.proofs.set.retire.Goals as goal
 pub returns-then-has_name-clause-dropped : goal.returns-then-has_name-clause-dropped
 returns-then-has_name-clause-dropped g c =
     rw (c.remove-dropped.ensures.items, ← c.loop-i.invariant.same)
-    (loses_first (λ b. (goal.Screen-dyn g (b.vtable, b.value)).meaning b.value)
+    (loses_first g.S.Screen.meaning
     c.args.name.now c.loop-i.screens.items c.loop-i.i c.index.result.now
     (omega arith) c.index.ensures (c.has_name.ensures.0 c.if-has_name.true)
     c.loop-i.invariant.before)
@@ -13,7 +13,7 @@ returns-then-has_name-clause-dropped g c =
 pub returns-then-has_name-clause-after : goal.returns-then-has_name-clause-after
 returns-then-has_name-clause-after g c =
     rw (c.remove-dropped.ensures.items, ← c.loop-i.invariant.same)
-    (without_first-at (λ b. (goal.Screen-dyn g (b.vtable, b.value)).meaning b.value)
+    (without_first-at g.S.Screen.meaning
     c.args.name.now c.loop-i.screens.items c.loop-i.i c.index.result.now
     (omega arith) c.index.ensures (c.has_name.ensures.0 c.if-has_name.true)
     c.loop-i.invariant.before)
@@ -23,7 +23,7 @@ loop-i-preserved g c = record {
   len = c.loop-i.invariant.len;
   same = c.loop-i.invariant.same;
   before = rw add-one
-      (none_before_next (λ b. (goal.Screen-dyn g (b.vtable, b.value)).meaning b.value)
+      (none_before_next g.S.Screen.meaning
       c.args.name.now c.loop-i.screens.items c.loop-i.i c.index.result.now
       (omega arith) c.index.ensures
       (λ named. let held = c.has_name.ensures.1 named in cc (held, c.if-has_name.false))
@@ -34,13 +34,13 @@ pub returns-clause-found : goal.returns-clause-found
 returns-clause-found g c = rw (← c.loop-i.invariant.same) (
   (λ no. cc no),
   (λ found. absurd (none_has_name
-      (λ b. (goal.Screen-dyn g (b.vtable, b.value)).meaning b.value)
+      g.S.Screen.meaning
       c.args.name.now c.loop-i.screens.items c.loop-i.i (omega arith)
       c.loop-i.invariant.before found)),
 )
 
 pub returns-clause-after : goal.returns-clause-after
 returns-clause-after g c = rw (← c.loop-i.invariant.same)
-    (without_first-none (λ b. (goal.Screen-dyn g (b.vtable, b.value)).meaning b.value)
+    (without_first-none g.S.Screen.meaning
     c.args.name.now c.loop-i.screens.items c.loop-i.i (omega arith)
     c.loop-i.invariant.before)

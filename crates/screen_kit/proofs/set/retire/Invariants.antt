@@ -7,5 +7,5 @@ invariant-loop-i g l = record {
   len : vec_len l.screens ≡ l.i-end;
   same : l.screens ≡ l.initial.screens;
   before : NoneBefore l.name l.i
-      (map (λ b. (goal.Screen-dyn g (b.vtable, b.value)).meaning b.value) l.screens.items);
+      (map g.S.Screen.meaning l.screens.items);
 }
