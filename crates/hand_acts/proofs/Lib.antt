@@ -1,0 +1,17 @@
+pub mod ActLemmas
+pub mod AskedActs
+pub mod AskedAdmits
+pub mod AskedLegs
+pub mod AskedSteps
+pub mod AskedTrees
+pub mod CallLemmas
+pub mod InStepLemmas
+pub mod KeptLasts
+pub mod LegLimits
+pub mod LowerLemmas
+pub mod LoweredTrees
+pub mod Noted
+pub mod Standings
+pub mod TreeTests
+pub mod Tripped
+pub mod Within

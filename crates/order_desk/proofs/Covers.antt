@@ -1,0 +1,362 @@
+-- Posts, as they back the orders of a book and are admitted.
+use Rattle.std.proofs.Common.{◌≡◌, ℕ, ◌+◌, ◌≤◌, ◌<◌, List, [], ◌∷◌, ◌++◌, length, fold}
+use Rattle.std.proofs.Common.{refl, ap, sym, ◌∙◌, arith, Bool, true, false, cond, All, IfSome}
+use Rattle.std.proofs.Common.{Option, Some, None, ◌||◌}
+use Rattle.std.specs.Prelude.{slice_index, slice_index_or, nat_lt}
+use Rattle.std.specs.List.{list_any}
+use Rattle.std.proofs.lemmas.Bool.{eq-eqb, true≢false}
+use Rattle.std.proofs.lemmas.Bool.Decides.{nat_tests}
+use Rattle.std.proofs.lemmas.List.Elements.{All-nil, All-cons}
+use Rattle.admit_core.specs.declared.ask.Verdict.{Verdict}
+use Rattle.admit_core.specs.declared.ask.Verdict.TheVariants as verdict
+use Rattle.exposure_book.specs.declared.order.Order.{Order}
+use Rattle.exposure_book.specs.Books.{BookValue}
+use Rattle.exposure_book.specs.Totals.{IsPlaced}
+use Rattle.risk_journal.specs.declared.acts.Act.{Act}
+use Rattle.risk_journal.specs.ActLists.{SeenAt, posts_in, last_post, events_of}
+use Rattle.hand_acts.specs.declared.rows.OrderRows.{OrderRows}
+use Rattle.hand_acts.specs.Admitted.{own_admitted, AdmitsLast}
+use Rattle.hand_acts.specs.Asking.{Asked, is_short, asking, verdict_of, settled, posted_and_read}
+use Rattle.hand_acts.specs.Asking.{post_old}
+use Rattle.hand_acts.specs.Legs.{Leg, legs_of, leg_with}
+use Rattle.hand_acts.specs.Lowering.{lowering}
+use Rattle.hand_acts.specs.Tapes.{Tape, tape}
+use Rattle.hand_acts.specs.Trees.{LimitsValue, halt_tree, account_tree, symbol_tree, limit_of}
+use Rattle.hand_acts.proofs.AskedTrees.{all_three, leg_in, none_in_front, KeepsTree}
+use Rattle.hand_acts.proofs.AskedTrees.{asked_keeps, asked_posts, back_keeps, back_posts}
+use Rattle.hand_acts.proofs.AskedAdmits.{IsLegFor, legs_are, asked_admits}
+use Rattle.hand_acts.proofs.LoweredTrees.{leg_has, legs_apart, lowering_keeps, lowering_posts}
+use Rattle.hand_acts.proofs.LoweredTrees.{lowered_admits}
+use Rattle.admit_core.specs.declared.ask.Verdict.TheVariants.{Firm, Account, Symbol}
+use Rattle.hand_acts.proofs.Noted.{IsNoCall, noted_keeps, noted_admits}
+use Rattle.order_desk.specs.Backing.{IsBacked, Backs, Covers}
+use Rattle.order_desk.specs.Decisions.{decided_by, committed}
+use Rattle.order_desk.specs.Refusals.{refusal_by}
+use Rattle.order_desk.specs.Values.{value_in, first_book}
+use Rattle.order_desk.proofs.KnownRows.{AreRows}
+use Rattle.order_desk.proofs.TreeValues.{value_in-none, IsOtherTree}
+
+pub first_covers : (limits : LimitsValue) → Covers limits [] (first_book limits)
+first_covers limits = record {
+  backs = record {
+    accounts = refl;
+    symbols = refl;
+    placed = All-nil (IsPlaced (length limits.accounts) (length limits.symbols));
+    trees = λ tree inside. record {
+      within = omega (arith, value_in-none limits tree);
+      exact = λ left. value_in-none limits tree;
+    };
+  };
+  admitted = λ tree. by_limit (limit_of limits tree) tree;
+}
+  where
+    by_limit : (found : Option ℕ) (tree : ℕ)
+        → IfSome found (λ limit. own_admitted limit (events_of tree []) ≡ last_post tree [])
+    by_limit None tree = tt
+    by_limit (Some limit) tree = refl
+
+-- The three values of rows are what other orders are worth in their trees, and in each other tree
+-- these are worth what the orders are.
+pub record Tells (limits : LimitsValue) (rows : OrderRows) (values : List ℕ)
+    (orders next : List Order) : Type 0 where
+  pub firm : slice_index values 0 ≡ value_in limits 0 next
+  pub account : slice_index values 1 ≡ value_in limits (account_tree rows.account) next
+  pub symbol : slice_index values 2 ≡ value_in limits (symbol_tree limits rows.symbol) next
+  pub others : (tree : ℕ) → IsOtherTree limits rows.account rows.symbol tree
+      → value_in limits tree next ≡ value_in limits tree orders
+
+-- tests that none passes
+pub none_passes : {X : Type 0} (test : X → Bool) (items : List X) → list_any test items ≡ false
+    → All (λ item. test item ≡ false) items
+none_passes test [] none = All-nil (λ item. test item ≡ false)
+none_passes test (item ∷ items) none =
+    let both = neither (test item) (list_any test items) none in
+    All-cons (λ one. test one ≡ false) item items both.0 (none_passes test items both.1)
+  where
+    neither : (one others : Bool) → (one || others) ≡ false → (one ≡ false) × (others ≡ false)
+    neither true others is = absurd cc
+    neither false others is = (refl, is)
+
+pub not_less : (m n : ℕ) → nat_lt m n ≡ false → n ≤ m
+not_less m n is = grind (arith, nat_tests)
+
+-- a tree with no leg is another tree
+other_tree : (limits : LimitsValue) (rows : OrderRows) (acts : List Act) (values : List ℕ)
+    (tree : ℕ) → leg_in tree (legs_of limits rows acts values) ≡ None
+    → IsOtherTree limits rows.account rows.symbol tree
+other_tree limits rows acts values tree none =
+    let firm = leg_with limits acts 0 (slice_index values 0) Firm in
+    let account =
+    leg_with limits acts (account_tree rows.account) (slice_index values 1) Account in
+    let symbol =
+    leg_with limits acts (symbol_tree limits rows.symbol) (slice_index values 2) Symbol in
+    let one = none_in_front tree firm (account ∷ symbol ∷ []) none in
+    let two = none_in_front tree account (symbol ∷ []) one.1 in
+    let three = none_in_front tree symbol [] two.1 in
+    record {
+      not_firm = λ e. true≢false (sym (eq-eqb 0 tree (sym e)) ∙ one.0);
+      not_account = λ e.
+          true≢false (sym (eq-eqb (account_tree rows.account) tree (sym e)) ∙ two.0);
+      not_symbol = λ e.
+          true≢false (sym (eq-eqb (symbol_tree limits rows.symbol) tree (sym e)) ∙ three.0);
+    }
+
+-- orders become others that are worth the same in each tree
+pub covers_same : (limits : LimitsValue) (acts : List Act) (book next : BookValue)
+    → Covers limits acts book → next.accounts ≡ book.accounts → next.symbols ≡ book.symbols
+    → All (IsPlaced next.accounts next.symbols) next.orders
+    → ((tree : ℕ) → value_in limits tree next.orders ≡ value_in limits tree book.orders)
+    → Covers limits acts next
+covers_same limits acts book next covers accounts symbols placed same = record {
+  backs = record {
+    accounts = accounts ∙ covers.backs.accounts;
+    symbols = symbols ∙ covers.backs.symbols;
+    placed = placed;
+    trees = λ tree inside.
+        let was = covers.backs.trees tree inside in
+        record {
+          within = omega (arith, same tree, was.within);
+          exact = λ left. same tree ∙ was.exact left;
+        };
+  };
+  admitted = covers.admitted;
+}
+
+-- an act that is no call
+pub covers_noted : (limits : LimitsValue) (acts : List Act) (book : BookValue) (act : Act)
+    → IsNoCall act → Covers limits acts book → Covers limits (acts ++ act ∷ []) book
+covers_noted limits acts book act none covers = record {
+  backs = record {
+    accounts = covers.backs.accounts;
+    symbols = covers.backs.symbols;
+    placed = covers.backs.placed;
+    trees = λ tree inside.
+        let was = covers.backs.trees tree inside in
+        let kept = noted_keeps tree acts act none in
+        record {
+          within = omega (arith, was.within, kept.last);
+          exact = λ left. was.exact (omega (arith, left, kept.posts)) ∙ sym kept.last;
+        };
+  };
+  admitted = noted_admits limits acts act none covers.admitted;
+}
+
+-- orders become others, and the three trees of these rows are asked or lowered
+module _ (limits : LimitsValue) (rows : OrderRows) (are : AreRows limits rows) (values : List ℕ)
+    (acts : List Act) (book next : BookValue) (covers : Covers limits acts book)
+    (accounts : next.accounts ≡ book.accounts) (symbols : next.symbols ≡ book.symbols)
+    (placed : All (IsPlaced next.accounts next.symbols) next.orders)
+    (told : Tells limits rows values book.orders next.orders) where
+  abbrev legs : List Leg
+  legs = legs_of limits rows acts values
+
+  legs_for : All (IsLegFor limits acts) legs
+  legs_for = legs_are limits rows acts values
+
+  -- the new value of a leg is what the other orders are worth in its tree
+  legs_tell : All (λ leg. leg.new ≡ value_in limits leg.tree next.orders) legs
+  legs_tell =
+      all_three (λ leg. leg.new ≡ value_in limits leg.tree next.orders)
+      (leg_with limits acts 0 (slice_index values 0) Firm)
+      (leg_with limits acts (account_tree rows.account) (slice_index values 1) Account)
+      (leg_with limits acts (symbol_tree limits rows.symbol) (slice_index values 2) Symbol)
+      told.firm told.account told.symbol
+
+  legs_below : All (λ leg. leg.tree < halt_tree limits) legs
+  legs_below =
+      all_three (λ leg. leg.tree < halt_tree limits)
+      (leg_with limits acts 0 (slice_index values 0) Firm)
+      (leg_with limits acts (account_tree rows.account) (slice_index values 1) Account)
+      (leg_with limits acts (symbol_tree limits rows.symbol) (slice_index values 2) Symbol)
+      (omega arith) (omega (arith, are.account)) (omega (arith, are.symbol))
+
+  others_same : (tree : ℕ) → leg_in tree legs ≡ None
+      → value_in limits tree next.orders ≡ value_in limits tree book.orders
+  others_same tree none = told.others tree (other_tree limits rows acts values tree none)
+
+  -- in the tree of a leg
+  own_value : (tree : ℕ) (own : Leg) → leg_in tree legs ≡ Some own
+      → own.new ≡ value_in limits tree next.orders
+  own_value tree own found =
+      let has = leg_has (λ leg. leg.new ≡ value_in limits leg.tree next.orders) tree own legs found
+      legs_tell in
+      has.1 ∙ ap (λ t. value_in limits t next.orders) has.0
+
+  own_old : (tree : ℕ) (own : Leg) → leg_in tree legs ≡ Some own → own.old ≡ last_post tree acts
+  own_old tree own found =
+      let has = leg_has (IsLegFor limits acts) tree own legs found legs_for in
+      has.1.old ∙ ap (λ t. last_post t acts) has.0
+
+  -- a tree that keeps its posts backs what is worth the same
+  kept_backed : (after : List Act) (changed : BookValue) (tree : ℕ) → tree < halt_tree limits
+      → KeepsTree tree acts after
+      → value_in limits tree changed.orders ≡ value_in limits tree book.orders
+      → IsBacked limits after changed tree
+  kept_backed after changed tree inside kept same =
+      let was = covers.backs.trees tree inside in
+      record {
+        within = omega (arith, same, was.within, kept.last);
+        exact = λ left. same ∙ was.exact (omega (arith, left, kept.posts)) ∙ sym kept.last;
+      }
+
+  -- backed in each tree by whether it has a leg
+  backed_by : (after : List Act)
+      → ((tree : ℕ) → leg_in tree legs ≡ None → KeepsTree tree acts after)
+      → ((tree : ℕ) (own : Leg) → leg_in tree legs ≡ Some own → tree < halt_tree limits
+      → IsBacked limits after next tree)
+      → Backs limits after next
+  backed_by after keeps posts = record {
+    accounts = accounts ∙ covers.backs.accounts;
+    symbols = symbols ∙ covers.backs.symbols;
+    placed = placed;
+    trees = λ tree inside. by_leg tree inside (leg_in tree legs) refl;
+  }
+    where
+      by_leg : (tree : ℕ) → tree < halt_tree limits → (found : Option Leg)
+          → leg_in tree legs ≡ found → IsBacked limits after next tree
+      by_leg tree inside None none =
+          kept_backed after next tree inside (keeps tree none) (others_same tree none)
+      by_leg tree inside (Some own) found = posts tree own found inside
+
+  -- Nothing is posted: the values are at most what was last posted, and no less than before.
+  pub covers_at_once : All (λ leg. leg.new ≤ leg.old) legs
+      → ((tree : ℕ) → value_in limits tree book.orders ≤ value_in limits tree next.orders)
+      → Covers limits acts next
+  covers_at_once less raised = record {
+    backs = backed_by acts (λ tree none. record { posts = refl; last = refl })
+        (λ tree own found inside.
+        let was = covers.backs.trees tree inside in
+        let low = leg_has (λ leg. leg.new ≤ leg.old) tree own legs found less in
+        let value = own_value tree own found in
+        let old = own_old tree own found in
+        record {
+          within = omega (arith, low.1, value, old);
+          exact = λ left.
+              omega (arith, low.1, value, old, raised tree, was.exact left);
+        });
+    admitted = covers.admitted;
+  }
+
+  -- lower values are posted
+  pub covers_lowered : All (λ leg. leg.new ≤ leg.old) legs
+      → Covers limits (lowering limits legs acts).acts next
+  covers_lowered less =
+      let apart = legs_apart limits rows acts values are.account in
+      record {
+        backs = backed_by (lowering limits legs acts).acts
+            (λ tree none. lowering_keeps limits tree legs acts none)
+            (λ tree own found inside.
+            let low = leg_has (λ leg. leg.new ≤ leg.old) tree own legs found less in
+            let posted = lowering_posts limits tree own legs acts found apart
+            (own_old tree own found) low.1 in
+            let value = own_value tree own found in
+            record {
+              within = omega (arith, value, posted.within);
+              exact = λ left. sym value ∙ sym (posted.exact left);
+            });
+        admitted = lowered_admits limits legs acts apart legs_for covers.admitted less;
+      }
+
+  -- values that are no more than they were
+  pub lower_legs : ((tree : ℕ)
+      → value_in limits tree next.orders ≤ value_in limits tree book.orders)
+      → All (λ leg. leg.new ≤ leg.old) legs
+  lower_legs lowered = λ k d inside.
+      let value = legs_tell k d inside in
+      let below = legs_below k d inside in
+      let old = legs_for k d inside in
+      let was = covers.backs.trees (slice_index_or legs k d).tree below in
+      omega (arith, value, old.old, was.within, lowered (slice_index_or legs k d).tree)
+
+  -- the trees are asked, and the book becomes the other one where they refuse nothing
+  module _ (reads : List SeenAt)
+      (raised : (tree : ℕ)
+      → value_in limits tree book.orders ≤ value_in limits tree next.orders) where
+    abbrev before : Tape
+    before = tape acts reads
+
+    abbrev posted : Tape
+    posted = posted_and_read limits legs before
+
+    -- while two posts are left no value is below the last post
+    raised_legs : is_short limits acts legs ≡ false → All (λ leg. leg.old ≤ leg.new) legs
+    raised_legs enough = λ k d inside.
+        let leg = slice_index_or legs k d in
+        let two = not_less limits.quota (posts_in leg.tree acts + 2)
+        (none_passes (λ (own : Leg). nat_lt limits.quota (posts_in own.tree acts + 2)) legs enough
+        k d inside) in
+        let value = legs_tell k d inside in
+        let below = legs_below k d inside in
+        let old = legs_for k d inside in
+        let was = covers.backs.trees leg.tree below in
+        let exact = was.exact (omega (arith, two)) in
+        omega (arith, value, old.old, exact, raised leg.tree)
+
+    -- the values stand posted
+    backs_sent : Backs limits posted.acts next
+    backs_sent =
+        let apart = legs_apart limits rows acts values are.account in
+        backed_by posted.acts (λ tree none. asked_keeps limits legs before tree none)
+        (λ tree own found inside.
+        let posts = asked_posts limits legs before tree own found apart in
+        let value = own_value tree own found in
+        record {
+          within = omega (arith, value, posts.last);
+          exact = λ left. sym value ∙ sym posts.last;
+        })
+
+    -- the old values stand posted again
+    backs_refused : Backs limits (fold post_old posted legs).acts book
+    backs_refused = record {
+      accounts = covers.backs.accounts;
+      symbols = covers.backs.symbols;
+      placed = covers.backs.placed;
+      trees = λ tree inside. by_leg tree inside (leg_in tree legs) refl;
+    }
+      where
+        by_leg : (tree : ℕ) → tree < halt_tree limits → (found : Option Leg)
+            → leg_in tree legs ≡ found
+            → IsBacked limits (fold post_old posted legs).acts book tree
+        by_leg tree inside None none =
+            kept_backed (fold post_old posted legs).acts book tree inside
+            (back_keeps limits legs before tree none) refl
+        by_leg tree inside (Some own) found =
+            let posts = back_posts limits legs before tree own found
+            (legs_apart limits rows acts values are.account) in
+            let old = own_old tree own found in
+            let was = covers.backs.trees tree inside in
+            record {
+              within = omega (arith, was.within, old, posts.last);
+              exact = λ left.
+                  was.exact (omega (arith, left, posts.posts)) ∙ sym old ∙ sym posts.last;
+            }
+
+    covers_refused : AdmitsLast limits (fold post_old posted legs).acts
+        → Covers limits (fold post_old posted legs).acts book
+    covers_refused admits = record { backs = backs_refused; admitted = admits }
+
+    by_verdict : (answer : Verdict) → AdmitsLast limits (settled legs answer posted).acts
+        → Covers limits (settled legs answer posted).acts (committed (refusal_by answer) book next)
+    by_verdict verdict.Sent admits = record { backs = backs_sent; admitted = admits }
+    by_verdict verdict.Firm admits = covers_refused admits
+    by_verdict verdict.Account admits = covers_refused admits
+    by_verdict verdict.Symbol admits = covers_refused admits
+    by_verdict verdict.Halt admits = covers_refused admits
+    by_verdict verdict.Quota admits = covers_refused admits
+
+    by_shortage : (short : Bool)
+        → (let asked : Asked = cond {A = Asked} short
+        (record { verdict = verdict.Quota; tape = before }) (record {
+          verdict = verdict_of legs reads;
+          tape = settled legs (verdict_of legs reads) posted;
+        }) in
+        AdmitsLast limits asked.tape.acts
+        → Covers limits (decided_by book next asked).tape.acts (decided_by book next asked).book)
+    by_shortage true admits = covers
+    by_shortage false admits = by_verdict (verdict_of legs reads) admits
+
+    pub covers_asked : (let asked = asking limits legs (tape acts reads) in
+        Covers limits (decided_by book next asked).tape.acts (decided_by book next asked).book)
+    covers_asked =
+        by_shortage (is_short limits acts legs)
+        (asked_admits limits legs before legs_for covers.admitted raised_legs)

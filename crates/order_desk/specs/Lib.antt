@@ -1,0 +1,9 @@
+pub mod Rows
+pub mod Values
+pub mod Refusals
+pub mod Decisions
+pub mod Screening
+pub mod Reported
+pub mod Backing
+pub mod Halting
+pub mod Sending

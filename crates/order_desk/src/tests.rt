@@ -1,0 +1,319 @@
+//! What no clause says: that each call answers with ample memory, and what is decided and posted in
+//! whole sequences of messages, worked by hand.
+ghost use Rattle.std.specs.Prelude.{◌≡◌, ◌≤◌, ◌<◌, [], length, vec_len, vec_capacity, IfOk};
+ghost use Rattle.limit_table.specs.Files.{IsHeldByFile};
+ghost use Rattle.hand_acts.specs.Steps.{InStep};
+ghost use Rattle.order_desk.specs.Backing.{Covers};
+ghost use Rattle.order_desk.specs.Values.{roomless};
+
+use crate::laws::{a_first_book_is_covered, decisions_keep_cover, reports_keep_cover};
+use crate::screened::SCREENED;
+use crate::sequences::{Answer, Posted, SEQUENCES, Sequence, Step, Turn};
+use crate::{Refusal, decide_cancel, decide_new, decide_replace, settle_reject, settle_report};
+use exposure_book::Book;
+use fix_orders::{
+    Cancel, CancelReject, Exec, Head, Id, Message, NewOrder, OrderKind, Replace, Report,
+};
+use fold_law::{Max, QUOTA, Sum};
+use hand_acts::{Hands, Told, first_lasts, reserve_frame};
+use limit_table::{Limits, read_limits};
+use risk_board::{Hand, PlainBoard};
+use screen_kit::{CollarScreen, RepeatScreen, Screen, SizeScreen, Terms, arm_all};
+use std::alloc::Global;
+use std::process::Abort;
+use std::test::*;
+
+/// The id of this text.
+fn id(text: &[u8]) -> Result<Id, Fail> {
+    match Id::read(text) {
+        Ok(id) => Ok(id),
+        Err(_) => Err("no id")?,
+    }
+}
+
+/// A head that nothing here looks at.
+fn head() -> Result<Head, Fail> {
+    Ok(Head {
+        sender: id(b"C1")?,
+        target: id(b"GATE")?,
+        seq: 1,
+        time: id(b"20240102-10:00:00")?,
+    })
+}
+
+/// A limit order of these ids, account and symbol.
+fn order(names: [&[u8]; 3], side: u8, quantity: u64, price: u64) -> Result<Message, Fail> {
+    let [own, account, symbol] = names;
+    Ok(Message::New(NewOrder {
+        head: head()?,
+        id: id(own)?,
+        account: id(account)?,
+        symbol: id(symbol)?,
+        side,
+        quantity,
+        kind: OrderKind::Limit,
+        price,
+    }))
+}
+
+/// A replace by a limit order of these ids, account and symbol. An empty account isn't there.
+fn replace(names: [&[u8]; 4], side: u8, quantity: u64, price: u64) -> Result<Message, Fail> {
+    let [own, orig, account, symbol] = names;
+    Ok(Message::Replace(Replace {
+        head: head()?,
+        id: id(own)?,
+        orig: id(orig)?,
+        account: Id::read(account).ok(),
+        symbol: id(symbol)?,
+        side,
+        quantity,
+        kind: OrderKind::Limit,
+        price,
+    }))
+}
+
+/// A report, without an id where there is none.
+fn report(own: Option<Id>, exec: Exec) -> Result<Message, Fail> {
+    Ok(Message::Report(Report {
+        head: head()?,
+        id: own,
+        exec,
+    }))
+}
+
+/// The message of a step.
+fn message(step: Step) -> Result<Message, Fail> {
+    match step {
+        Step::Buy(own, quantity, price) => order([own, b"ACC", b"XYZ"], b'1', quantity, price),
+        Step::New(own, account, symbol, side, quantity, price) => {
+            order([own, account, symbol], side, quantity, price)
+        }
+        Step::Cancel(own, orig) => Ok(Message::Cancel(Cancel {
+            head: head()?,
+            id: id(own)?,
+            orig: id(orig)?,
+        })),
+        Step::Replace(own, orig, quantity, price) => {
+            replace([own, orig, b"", b"XYZ"], b'1', quantity, price)
+        }
+        Step::ReplaceOf(own, orig, account, symbol, side, quantity, price) => {
+            replace([own, orig, account, symbol], side, quantity, price)
+        }
+        Step::Trade(own, quantity, price) => {
+            report(Some(id(own)?), Exec::Trade { quantity, price })
+        }
+        Step::Report(own, exec) => report(Some(id(own)?), exec),
+        Step::NoId(exec) => report(None, exec),
+        Step::Reject(own) => Ok(Message::CancelReject(CancelReject {
+            head: head()?,
+            id: id(own)?,
+        })),
+    }
+}
+
+/// Sent, or refused.
+fn decided(refusal: Option<Refusal>) -> Answer {
+    match refusal {
+        None => Answer::Sent,
+        Some(why) => Answer::Refused(why),
+    }
+}
+
+/// What one session has.
+#[derive(Drop)]
+struct Desk<H: Hand, M: Hand, S: Screen> {
+    hands: Hands<H, M>,
+    told: Told,
+    book: Book,
+    screens: Vec<S>,
+}
+
+/// Takes the memory for one message and what comes of it, and gives what comes of it.
+fn take<H: Hand, M: Hand, S: Screen>(
+    desk: &mut Desk<H, M, S>,
+    limits: &Limits,
+    message: &Message,
+) -> Result<Answer, Fail>
+    requires held { IsHeldByFile limits.now }
+    requires covers { Covers limits.now desk.old.told.acts.items (roomless desk.old.book) }
+    requires step { InStep limits.now (H.meaning desk.old.hands.sum) (M.meaning desk.old.hands.halt)
+        desk.old.told.acts.items desk.old.told.lasts.items }
+    requires room { vec_len desk.old.told.acts < vec_capacity desk.old.told.acts }
+    ensures covers { Covers limits.now desk.new.told.acts.items (roomless desk.new.book) }
+    ensures step { InStep limits.now (H.meaning desk.new.hands.sum) (M.meaning desk.new.hands.halt)
+        desk.new.told.acts.items desk.new.told.lasts.items }
+    ensures room { vec_len desk.new.told.acts < vec_capacity desk.new.told.acts }
+{
+    decisions_keep_cover();
+    reports_keep_cover();
+    let Desk {
+        hands,
+        told,
+        book,
+        screens,
+    } = desk;
+    reserve_frame(hands, &mut told.acts)?;
+    book.reserve_one()?;
+    match message {
+        Message::New(order) => Ok(decided(decide_new(hands, told, book, screens, limits, order))),
+        Message::Cancel(request) => Ok(decided(decide_cancel(book, request))),
+        Message::Replace(request) => {
+            Ok(decided(decide_replace(hands, told, book, screens, limits, request)))
+        }
+        Message::Report(report) => {
+            Ok(Answer::Settled(settle_report(hands, told, book, limits, report)))
+        }
+        Message::CancelReject(reject) => {
+            Ok(Answer::Settled(settle_reject(hands, told, book, limits, reject)))
+        }
+        Message::Admin | Message::Other => Err("no message of an order")?,
+    }
+}
+
+/// Whether this was last posted in the trees.
+fn stands(lasts: &Vec<u64>, posted: Posted) -> bool {
+    match posted {
+        Posted::All(value) => lasts.iter().all(|last| *last == value),
+        Posted::Trees(values) => lasts.as_slice() == values,
+    }
+}
+
+/// Takes one message, and compares what comes of it.
+fn compare<H: Hand, M: Hand, S: Screen>(
+    rt: &impl Abort,
+    desk: &mut Desk<H, M, S>,
+    limits: &Limits,
+    name: &str,
+    turn: Turn,
+) -> Result<(), Fail>
+    requires held { IsHeldByFile limits.now }
+    requires covers { Covers limits.now desk.old.told.acts.items (roomless desk.old.book) }
+    requires step { InStep limits.now (H.meaning desk.old.hands.sum) (M.meaning desk.old.hands.halt)
+        desk.old.told.acts.items desk.old.told.lasts.items }
+    requires room { vec_len desk.old.told.acts < vec_capacity desk.old.told.acts }
+    ensures covers { Covers limits.now desk.new.told.acts.items (roomless desk.new.book) }
+    ensures step { InStep limits.now (H.meaning desk.new.hands.sum) (M.meaning desk.new.hands.halt)
+        desk.new.told.acts.items desk.new.told.lasts.items }
+    ensures room { vec_len desk.new.told.acts < vec_capacity desk.new.told.acts }
+{
+    let (step, want, acts, posted) = turn;
+    let before = desk.told.acts.len();
+    let got = take(desk, limits, &message(step)?)?;
+    assert_eq!(rt; got, want, "{name}: {step:?}");
+    let made = desk.told.acts.len().saturating_sub(before);
+    assert_eq!(rt; made, acts, "{name}: {step:?}: acts");
+    let as_wanted = stands(&desk.told.lasts, posted);
+    assert!(rt; as_wanted, "{name}: {step:?}: {posted:?}");
+    Ok(())
+}
+
+/// Takes the messages in turn.
+fn follow<H: Hand, M: Hand, S: Screen>(
+    rt: &impl Abort,
+    desk: &mut Desk<H, M, S>,
+    limits: &Limits,
+    sequence: &Sequence,
+) -> Result<(), Fail>
+    requires held { IsHeldByFile limits.now }
+    requires covers { Covers limits.now desk.old.told.acts.items (roomless desk.old.book) }
+    requires step { InStep limits.now (H.meaning desk.old.hands.sum) (M.meaning desk.old.hands.halt)
+        desk.old.told.acts.items desk.old.told.lasts.items }
+    requires room { vec_len desk.old.told.acts < vec_capacity desk.old.told.acts }
+{
+    for turn in sequence.turns {
+        compare(rt, desk, limits, sequence.name, *turn)?;
+    }
+    Ok(())
+}
+
+/// A halt tree of two sessions, which session 1 has tripped or not.
+fn open_halt(rt: &impl Abort, alloc: Global, halted: bool) -> Result<PlainBoard<Max>, Fail>
+    ensures lines { IfOk result (λ board. length board.lines ≡ 1) }
+    ensures calls { IfOk result (λ board. length board.calls ≡ 2) }
+    ensures quota { IfOk result (λ board. board.quota ≡ 2) }
+{
+    let board = PlainBoard::<Max>::open(alloc, 1, 2, 2)?;
+    if !halted {
+        return Ok(board);
+    }
+    assert!(rt; board.calls(1).is_empty(), "session 1 has made no call");
+    let mut hand = board.hand(1);
+    hand.reserve(1)?;
+    assert!(rt; hand.left(0) > 0, "a post is left");
+    hand.post(0, 1);
+    Ok(hand.give_back())
+}
+
+/// A session over plain boards before its first message, and its messages in turn.
+fn run(
+    rt: &impl Abort,
+    alloc: Global,
+    limits: &Limits,
+    set: Vec<Box<dyn Screen + Send>>,
+    sequence: &Sequence,
+) -> Result<(), Fail>
+    requires held { IsHeldByFile limits.now }
+{
+    let name = sequence.name;
+    let (accounts, symbols) = (limits.accounts.rows().len(), limits.symbols.rows().len());
+    assert!(rt;
+        1 <= limits.quota && limits.quota <= QUOTA && accounts < 3 && symbols < 3,
+        "{name}: in range"
+    );
+    let sum = PlainBoard::<Sum>::open(alloc, limits.halt_tree(), 1, limits.quota)?.hand(0);
+    let board = open_halt(rt, alloc, sequence.halted)?;
+    assert!(rt;
+        board.calls(0).is_empty(),
+        "{name}: session 0 has made no call"
+    );
+    let halt = board.hand(0);
+    let mut acts = Vec::new(alloc);
+    acts.reserve(1)?;
+    let lasts = first_lasts(alloc, limits)?;
+    let mut screens = set;
+    arm_all(
+        &mut screens,
+        &Terms {
+            repeat: limits.repeat,
+        },
+    )?;
+    a_first_book_is_covered();
+    let mut desk = Desk {
+        hands: Hands { sum, halt },
+        told: Told { acts, lasts },
+        book: Book::new(alloc, accounts as u32, symbols as u32)?,
+        screens,
+    };
+    follow(rt, &mut desk, limits, sequence)
+}
+
+#[test]
+fn what_comes_of_each_message(rt: HostRuntime) -> Result<(), Fail> {
+    for sequence in &SEQUENCES {
+        let name = sequence.name;
+        let limits = read_limits(rt.alloc(), sequence.limits);
+        assert!(&rt; limits.is_ok(), "{name}: limits");
+        if let Ok(limits) = limits {
+            run(&rt, rt.alloc(), &limits, Vec::new(rt.alloc()), sequence)?;
+        }
+    }
+    Ok(())
+}
+
+#[test]
+fn what_comes_of_each_message_behind_screens(rt: HostRuntime) -> Result<(), Fail> {
+    let alloc = rt.alloc();
+    for sequence in &SCREENED {
+        let name = sequence.name;
+        let mut set: Vec<Box<dyn Screen + Send>> = Vec::new(alloc);
+        set.push(Box::new(alloc, SizeScreen::new(alloc))?)?;
+        set.push(Box::new(alloc, CollarScreen::new(alloc))?)?;
+        set.push(Box::new(alloc, RepeatScreen::new(alloc))?)?;
+        let limits = read_limits(alloc, sequence.limits);
+        assert!(&rt; limits.is_ok(), "{name}: limits");
+        if let Ok(limits) = limits {
+            run(&rt, alloc, &limits, set, sequence)?;
+        }
+    }
+    Ok(())
+}
