@@ -1,5 +1,6 @@
 -- The lines of a board's trees, taken one tree after another.
-use Rattle.std.proofs.Common.{◌≡◌, ℕ, ◌+◌, ◌<◌, ◌≤◌, List, [], ◌∷◌, ◌++◌, length, map, take, sym, ap, ◌∙◌}
+use Rattle.std.proofs.Common.{◌≡◌, ℕ, ◌+◌, ◌<◌, ◌≤◌, List, [], ◌∷◌, ◌++◌, length, map, take, sym}
+use Rattle.std.proofs.Common.{ap, ◌∙◌}
 use Rattle.std.proofs.Common.{arith, inl, inr, append_assoc, subst, Vec, Global}
 use Rattle.std.proofs.Math.Nat.{eq-or-lt_of_le}
 use Rattle.std.proofs.lemmas.List.{take_more, take_all, append-nil, map-append}
@@ -82,7 +83,8 @@ pub all_added : (whole : List ℕ → ℕ) (unit : ℕ) (board : BoardValue) (be
     (count : ℕ) → length board.lines ≡ count → HasAdded whole unit board before now count
     → (now ≡ before ++ board.lines) × IsLegalBoard whole unit board
 all_added whole unit board before now count are so_far = (
-  so_far.added ∙ ap (λ (l : List (List Line)). before ++ l) (take_all count board.lines (omega arith)),
+  so_far.added ∙ ap (λ (l : List (List Line)). before ++ l) (take_all count board.lines
+      (omega arith)),
   λ tree own at. so_far.legal tree own
       (omega (arith, slice_get_within board.lines tree own at, are)) at,
 )

@@ -1,11 +1,13 @@
--- The lines of two boards and the acts of the one session on them are one legal history in each tree.
-use Rattle.std.proofs.Common.{◌≡◌, ℕ, zero, suc, ◌+◌, ◌<◌, ◌==◌, List, [], ◌∷◌, ◌++◌, length, max}
+-- The lines of two boards and the acts of the sessions on them are one legal history in each tree.
+use Rattle.std.proofs.Common.{◌≡◌, ℕ, zero, suc, ◌+◌, ◌<◌, ◌==◌, List, [], ◌∷◌, ◌++◌, length, map}
+use Rattle.std.proofs.Common.{max}
 use Rattle.std.proofs.Common.{Bool, true, false, cond}
 use Rattle.std.proofs.lemmas.Bool.Decides.{nat_tests}
 use Rattle.std.proofs.Common.{sym, ap, subst, ◌∙◌, inl, inr, arith, length-append}
 use Rattle.std.proofs.lemmas.Option.{slice_get_within, slice_get_past}
 use Rattle.std.proofs.lemmas.List.{length-map}
 use Rattle.std.specs.Prelude.{Option, Some, None, IfSome, slice_get, ◌⊎◌}
+use Rattle.std.specs.List.{AllByRecursion}
 use Rattle.fold_law.specs.Sum.{sum_of}
 use Rattle.fold_law.specs.Whole.{whole_of}
 use Rattle.limit_table.specs.declared.limits.Limits.{Limits}
@@ -17,9 +19,9 @@ use Rattle.risk_journal.specs.ActLists.{events_of}
 use Rattle.session_engine.specs.Trees.{fold_of, limit_of, halt_tree, tree_limits, account_limits}
 use Rattle.session_engine.specs.Trees.{symbol_limits}
 use Rattle.session_engine.specs.Admitted.{StaysWithin}
-use Rattle.session_engine.proofs.Within.{legal_stays_within}
 use Rattle.gate_program.specs.declared.boards.Boards.{Boards}
 use Rattle.gate_program.specs.Boards.{HasLines, HasPlayed}
+use Rattle.gate_program.specs.Finish.{AreOfSessions}
 use Rattle.gate_program.specs.Run.{IsHistory}
 
 -- what stands at a place of two lists stands in the first, or at a later place in the second
@@ -33,25 +35,23 @@ in_one (first ∷ xs) ys (suc place) x is = elim (in_one xs ys place x is) [
   | inr there ↦ inr (there.0, omega (arith, there.1), there.2)
 ]
 
--- one session's events in a tree of a board, where they are those of its acts in a tree
-legal_of : (whole : List ℕ → ℕ) (board : BoardValue) (tree : ℕ) (own : List Line)
-    (events : List Event) → plain_events tree board.calls ≡ events ∷ []
-    → IsLegalTree whole 0 board tree own
-    → IsLegal whole 0 (components_of 1) own (events ∷ [])
-legal_of whole board tree own events are legal =
-    let one : length board.calls ≡ 1 =
-    sym (length-map board.calls (events_of_calls (λ stamp. stamp) tree)) ∙ ap length are in
-    subst (λ (n : ℕ). IsLegal whole 0 (components_of n) own (events ∷ [])) one
-    (subst (λ (all : List (List Event)). IsLegal whole 0 (components_of (length board.calls)) own
-    all) are legal)
+-- as many sessions have calls as have events
+session_count : (tree : ℕ) (board : BoardValue) (events : List (List Event))
+    → plain_events tree board.calls ≡ events → length board.calls ≡ length events
+session_count tree board events are =
+    sym (length-map board.calls (events_of_calls (λ stamp. stamp) tree)) ∙ ap length are
 
--- whatever the limit of a tree of sums is, what is admitted stays within it
-within_any : (limit : Option ℕ) (own : List Line) (events : List Event)
-    → IsLegal (whole_of sum_of 0) 0 (components_of 1) own (events ∷ [])
-    → IfSome limit (λ l. StaysWithin l 1 own (events ∷ []))
-within_any None own events legal = tt
-within_any (Some limit) own events legal =
-    legal_stays_within limit (components_of 1) own (events ∷ []) legal
+-- the events in a tree of a board, where they are those of the acts in a tree
+legal_of : (whole : List ℕ → ℕ) (board : BoardValue) (tree : ℕ) (own : List Line)
+    (events : List (List Event)) → plain_events tree board.calls ≡ events
+    → IsLegalTree whole 0 board tree own
+    → IsLegal whole 0 (components_of (length events)) own events
+legal_of whole board tree own events are legal =
+    subst (λ (n : ℕ). IsLegal whole 0 (components_of n) own events)
+    (session_count tree board events are)
+    (subst (λ (all : List (List Event)). IsLegal whole 0 (components_of (length board.calls)) own
+    all)
+    are legal)
 
 isnt_halt : (limits : Limits) (tree : ℕ) → tree < halt_tree limits
     → (tree == halt_tree limits) ≡ false
@@ -80,7 +80,8 @@ no_halt_limit limits = slice_get_past (tree_limits limits) (halt_tree limits)
 fold_below : (limits : Limits) (tree : ℕ) → tree < halt_tree limits
     → fold_of limits tree ≡ whole_of sum_of 0
 fold_below limits tree below =
-    ap (λ (halts : Bool). cond halts (whole_of max 0) (whole_of sum_of 0)) (isnt_halt limits tree below)
+    ap (λ (halts : Bool). cond halts (whole_of max 0) (whole_of sum_of 0))
+    (isnt_halt limits tree below)
 
 -- these are the lines of a tree behind those of the sums
 abbrev IsBehind : Boards → ℕ → List Line → Type 0
@@ -88,22 +89,23 @@ IsBehind boards tree own =
     (later : ℕ) × (tree ≡ length boards.sums.lines + later)
     × (slice_get boards.halt.lines later ≡ Some own)
 
--- the history of the boards is that of the acts
-pub is_history : (limits : Limits) (boards : Boards) (acts : List Act) (lines : List (List Line))
-    → HasPlayed limits boards acts → HasLines boards lines → IsHistory limits (acts ∷ []) lines
-is_history limits boards acts lines played has = record {
-  trees = ap length has.lines_are ∙ length-append boards.sums.lines boards.halt.lines
-      ∙ omega (arith, played.trees, played.halt_trees);
-  legal = λ tree own is. elim (place_of tree own is) [
-    | inl here ↦ below_legal tree own here
-    | inr there ↦ halt_legal tree own there
-  ];
-  within = λ tree own is. elim (place_of tree own is) [
-    | inl here ↦ within_any (limit_of limits tree) own (events_of tree acts)
-        (below tree own here)
-    | inr there ↦ halt_within tree own there
-  ];
-} where
+-- what is admitted in a legal history of sums stays within any limit
+abbrev pub AdmittedStays : Type 0
+AdmittedStays =
+    (limit components : ℕ) (lines : List Line) (events : List (List Event))
+    → IsLegal (whole_of sum_of 0) 0 components lines events
+    → StaysWithin limit (length events) lines events
+
+within_any : AdmittedStays → (limit : Option ℕ) (count : ℕ) (own : List Line)
+    (events : List (List Event)) → length events ≡ count
+    → IsLegal (whole_of sum_of 0) 0 (components_of (length events)) own events
+    → IfSome limit (λ l. StaysWithin l count own events)
+within_any stays None count own events many legal = tt
+within_any stays (Some limit) count own events many legal =
+    subst (λ (n : ℕ). StaysWithin limit n own events) many (stays limit _ own events legal)
+
+module _ (limits : Limits) (boards : Boards) (acts : List (List Act)) (lines : List (List Line))
+    (played : HasPlayed limits boards acts) (has : HasLines boards lines) where
   place_of : (tree : ℕ) (own : List Line) → slice_get lines tree ≡ Some own
       → (slice_get boards.sums.lines tree ≡ Some own) ⊎ IsBehind boards tree own
   place_of tree own is = in_one boards.sums.lines boards.halt.lines tree own
@@ -114,17 +116,15 @@ is_history limits boards acts lines played has = record {
   is_below tree own here =
       omega (arith, slice_get_within boards.sums.lines tree own here, played.trees)
 
-  below : (tree : ℕ) (own : List Line) → slice_get boards.sums.lines tree ≡ Some own
-      → IsLegal (whole_of sum_of 0) 0 (components_of 1) own (events_of tree acts ∷ [])
-  below tree own here = legal_of (whole_of sum_of 0) boards.sums tree own (events_of tree acts)
-      (played.sums tree (is_below tree own here)) (has.sums tree own here)
+  many : (tree : ℕ) → length (map (events_of tree) acts) ≡ length acts
+  many tree = length-map acts (events_of tree)
 
-  below_legal : (tree : ℕ) (own : List Line) → slice_get boards.sums.lines tree ≡ Some own
-      → IsLegal (fold_of limits tree) 0 (components_of 1) own (events_of tree acts ∷ [])
-  below_legal tree own here =
-      subst (λ (whole : List ℕ → ℕ). IsLegal whole 0 (components_of 1) own
-      (events_of tree acts ∷ [])) (sym (fold_below limits tree (is_below tree own here)))
-      (below tree own here)
+  below : (tree : ℕ) (own : List Line) → slice_get boards.sums.lines tree ≡ Some own
+      → IsLegal (whole_of sum_of 0) 0 (components_of (length (map (events_of tree) acts))) own
+      (map (events_of tree) acts)
+  below tree own here = legal_of (whole_of sum_of 0) boards.sums tree own
+      (map (events_of tree) acts)
+      (played.sums tree (is_below tree own here)) (has.sums tree own here)
 
   at_first : (tree : ℕ) (own : List Line) → (there : IsBehind boards tree own) → there.0 ≡ 0
   at_first tree own there =
@@ -139,20 +139,69 @@ is_history limits boards acts lines played has = record {
   is_first tree own there =
       subst (λ (n : ℕ). slice_get boards.halt.lines n ≡ Some own) (at_first tree own there) there.2
 
+  halted : (tree : ℕ) (own : List Line) → IsBehind boards tree own
+      → IsLegal (whole_of max 0) 0 (components_of (length (map (events_of tree) acts))) own
+      (map (events_of tree) acts)
+  halted tree own there =
+      subst (λ (n : ℕ). IsLegal (whole_of max 0) 0 (components_of (length (map (events_of n) acts)))
+      own
+      (map (events_of n) acts)) (sym (is_halt tree own there))
+      (legal_of (whole_of max 0) boards.halt 0 own (map (events_of (halt_tree limits)) acts)
+      played.halt
+      (has.halt 0 own (is_first tree own there)))
+
+  below_legal : (tree : ℕ) (own : List Line) → slice_get boards.sums.lines tree ≡ Some own
+      → IsLegal (fold_of limits tree) 0 (components_of (length acts)) own
+      (map (events_of tree) acts)
+  below_legal tree own here =
+      subst (λ (n : ℕ). IsLegal (fold_of limits tree) 0 (components_of n) own
+      (map (events_of tree) acts))
+      (many tree)
+      (subst (λ (whole : List ℕ → ℕ). IsLegal whole 0
+      (components_of (length (map (events_of tree) acts))) own (map (events_of tree) acts))
+      (sym (fold_below limits tree (is_below tree own here))) (below tree own here))
+
   halt_legal : (tree : ℕ) (own : List Line) → IsBehind boards tree own
-      → IsLegal (fold_of limits tree) 0 (components_of 1) own (events_of tree acts ∷ [])
+      → IsLegal (fold_of limits tree) 0 (components_of (length acts)) own
+      (map (events_of tree) acts)
   halt_legal tree own there =
-      subst (λ (n : ℕ). IsLegal (fold_of limits n) 0 (components_of 1) own
-      (events_of n acts ∷ [])) (sym (is_halt tree own there))
-      (subst (λ (whole : List ℕ → ℕ). IsLegal whole 0 (components_of 1) own
-      (events_of (halt_tree limits) acts ∷ [])) (sym (fold_halt limits))
-      (legal_of (whole_of max 0) boards.halt 0 own (events_of (halt_tree limits) acts) played.halt
-      (has.halt 0 own (is_first tree own there))))
+      subst (λ (n : ℕ). IsLegal (fold_of limits tree) 0 (components_of n) own
+      (map (events_of tree) acts))
+      (many tree)
+      (subst (λ (whole : List ℕ → ℕ). IsLegal whole 0
+      (components_of (length (map (events_of tree) acts))) own (map (events_of tree) acts))
+      (sym (ap (fold_of limits) (is_halt tree own there) ∙ fold_halt limits))
+      (halted tree own there))
 
   halt_within : (tree : ℕ) (own : List Line) → IsBehind boards tree own
       → IfSome (limit_of limits tree)
-      (λ limit. StaysWithin limit 1 own (events_of tree acts ∷ []))
+      (λ limit. StaysWithin limit (length acts) own (map (events_of tree) acts))
   halt_within tree own there =
       subst (λ (limit : Option ℕ). IfSome limit
-      (λ l. StaysWithin l 1 own (events_of tree acts ∷ [])))
+      (λ l. StaysWithin l (length acts) own (map (events_of tree) acts)))
       (sym (ap (limit_of limits) (is_halt tree own there) ∙ no_halt_limit limits)) tt
+
+  -- the history of the boards is that of the acts
+  pub is_history : AdmittedStays → IsHistory limits acts lines
+  is_history stays = record {
+    trees = ap length has.lines_are ∙ length-append boards.sums.lines boards.halt.lines
+        ∙ omega (arith, played.trees, played.halt_trees);
+    legal = λ tree own is. elim (place_of tree own is) [
+      | inl here ↦ below_legal tree own here
+      | inr there ↦ halt_legal tree own there
+    ];
+    within = λ tree own is. elim (place_of tree own is) [
+      | inl here ↦ within_any stays (limit_of limits tree) (length acts) own
+          (map (events_of tree) acts) (many tree) (below tree own here)
+      | inr there ↦ halt_within tree own there
+    ];
+  }
+
+  -- each line is of a session that has acts
+  pub of_sessions : AreOfSessions (length acts) lines
+  of_sessions tree own is = elim (place_of tree own is) [
+    | inl here ↦ subst (λ (n : ℕ). AllByRecursion (λ line. line.session < n) own) (many tree)
+        (below tree own here).sessions
+    | inr there ↦ subst (λ (n : ℕ). AllByRecursion (λ line. line.session < n) own) (many tree)
+        (halted tree own there).sessions
+  ]

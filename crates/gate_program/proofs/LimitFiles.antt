@@ -11,7 +11,7 @@ use Rattle.gate_program.specs.declared.status.Status.TheVariants as status
 use Rattle.gate_program.specs.Run.{PortsValue}
 use Rattle.gate_program.specs.Limits.{AreLimits, AreUnserved}
 use Rattle.gate_program.specs.Gate.{HasLimits, HasUnserved, IsRefused}
-use Rattle.gate_program.specs.Stages.{HasFront, HasLimitsFault, GivesNoLimits, TellsFault, IsUnread}
+use Rattle.gate_program.specs.Stages.{HasFront, HasLimitsFault, GivesNoLimits}
 
 -- what follows of each value follows of an answer with one
 pub if_ok : {A E : Type 0} (P Q : A → Type 0) (r : Result A E) → ((x : A) → P x → Q x) → IfOk r P
@@ -82,27 +82,3 @@ module _ (name : List ℕ) (most : ℕ) (room : bytes_most < most) where
   has_limits_fault before after bytes status.CutShort front gives = absurd gives
   has_limits_fault before after bytes status.ReadFault front gives = absurd gives
   has_limits_fault before after bytes status.WriteFault front gives = absurd gives
-
--- why a name was not read is why there are no limits
-pub unread_limits : (before after : PortsValue) (name : List ℕ) (s : Status)
-    → IsUnread before after name s → HasLimitsFault before after name s
-unread_limits before after name status.ReadFault unread = unread
-unread_limits before after name status.Memory unread = tt
-unread_limits before after name (status.Limits why) unread = absurd unread
-unread_limits before after name status.NotBuilt unread = absurd unread
-unread_limits before after name status.Done unread = absurd unread
-unread_limits before after name status.Usage unread = absurd unread
-unread_limits before after name status.CutShort unread = absurd unread
-unread_limits before after name status.WriteFault unread = absurd unread
-
--- a fault of the limit file is told as it is
-pub tells_fault : (before after : PortsValue) (name : List ℕ) (s : Status)
-    → HasLimitsFault before after name s → TellsFault before.texts name s
-tells_fault before after name (status.Limits why) fault = fault
-tells_fault before after name status.NotBuilt fault = tt
-tells_fault before after name status.Memory fault = tt
-tells_fault before after name status.Done fault = tt
-tells_fault before after name status.Usage fault = tt
-tells_fault before after name status.CutShort fault = tt
-tells_fault before after name status.ReadFault fault = tt
-tells_fault before after name status.WriteFault fault = tt

@@ -1,9 +1,14 @@
--- A session of one, on boards that were empty.
-use Rattle.std.proofs.Common.{◌≡◌, ℕ, ◌<◌, ◌≤◌, ◌==◌, List, [], ◌∷◌, length, map, cond, Bool, true, false}
-use Rattle.std.proofs.Common.{refl, sym, ap, ◌∙◌, arith, subst}
-use Rattle.std.proofs.lemmas.List.{length-replicate}
+-- Sessions in turn on boards that were empty.
+use Rattle.std.proofs.Common.{◌≡◌, ◌≢◌, ℕ, ◌<◌, ◌≤◌, ◌==◌, List, [], ◌∷◌}
+use Rattle.std.proofs.Common.{length, map, cond}
+use Rattle.std.proofs.Common.{Bool, true, false, refl, sym, ap, ◌∙◌, arith, subst, get_or}
+use Rattle.std.proofs.Math.ListN.{set}
+use Rattle.std.proofs.lemmas.List.{ext_get_or}
+use Rattle.std.proofs.lemmas.List.{get_or-set_same, get_or-set_other, length-set}
+use Rattle.std.proofs.lemmas.Option.{unwrap_or-slice_get}
 use Rattle.std.proofs.lemmas.Bool.Decides.{nat_tests}
-use Rattle.std.specs.Prelude.{Option, Some, None, slice_index_or, nat_lt}
+use Rattle.std.specs.Prelude.{Option, Some, None, slice_get, slice_index_or, nat_lt}
+use Rattle.std.specs.Prelude.{unwrap_or}
 use Rattle.fold_law.specs.declared.limits.TheConstants.{LEAF}
 use Rattle.limit_table.specs.Files.{IsHeldByFile}
 use Rattle.limit_table.specs.declared.limits.Limits.{Limits}
@@ -11,34 +16,35 @@ use Rattle.risk_board.specs.declared.hand.Call.{Call}
 use Rattle.risk_board.specs.declared.hand.Call.TheVariants as call
 use Rattle.risk_board.specs.History.{Event, events_of_calls}
 use Rattle.risk_board.specs.History.Event.{Posted, Saw}
-use Rattle.risk_board.specs.Plain.{BoardValue, PlainHandValue, KeepsOthers, empty_board, plain_events}
-use Rattle.risk_board.specs.Plain.{hand_of}
+use Rattle.risk_board.specs.Plain.{BoardValue, PlainHandValue, KeepsOthers, hand_of}
 use Rattle.risk_journal.specs.declared.acts.Act.{Act}
-use Rattle.risk_journal.specs.declared.acts.Act.TheVariants.{Post, Read, Sent, Refused, Noted, Ended}
+use Rattle.risk_journal.specs.declared.acts.Act.TheVariants.{Post, Read, Sent, Refused, Noted}
+use Rattle.risk_journal.specs.declared.acts.Act.TheVariants.{Ended}
 use Rattle.risk_journal.specs.declared.acts.End.{End}
 use Rattle.risk_journal.specs.ActLists.{calls_below, calls_at, events_of, placed}
+use Rattle.screen_kit.specs.Screens.{ScreenValue}
 use Rattle.session_engine.specs.Follows.{FollowsSource, FollowsInput}
 use Rattle.session_engine.specs.Hands.{IsHaltHand}
 use Rattle.session_engine.specs.Trees.{halt_tree}
 use Rattle.gate_program.specs.declared.boards.Boards.{Boards}
-use Rattle.gate_program.specs.Boards.{HasPlayed, HasTrees}
+use Rattle.gate_program.specs.Boards.{HasCalls, HasRunOn}
 use Rattle.gate_program.proofs.LimitQuota.{quota_in_range}
 
 -- the events of calls on a plain board, where a read's place is its stamp
-abbrev plain : ℕ → List Call → List Event
+abbrev pub plain : ℕ → List Call → List Event
 plain tree calls = events_of_calls (λ stamp. stamp) tree calls
 
 -- the acts with the places of a plain board
-abbrev at_stamps : List Act → List Act
+abbrev pub at_stamps : List Act → List Act
 at_stamps acts = map (placed (λ stamp. stamp)) acts
 
--- the hand of a halt board that was opened for these limits
+-- the hand of a session on a halt board of these limits
 pub is_halt_hand : (limits : Limits) (board : BoardValue) (hand : PlainHandValue)
-    → IsHeldByFile limits → board ≡ empty_board 1 1 limits.quota → hand.board ≡ board
-    → IsHaltHand (hand_of LEAF hand)
-is_halt_hand limits board hand held empty is = record {
-  trees = ap (λ (b : BoardValue). length b.lines) (is ∙ empty);
-  quota = subst (λ (n : ℕ). 1 ≤ n) (sym (ap (λ (b : BoardValue). b.quota) (is ∙ empty)))
+    → IsHeldByFile limits → length board.lines ≡ 1 → board.quota ≡ limits.quota
+    → hand.board ≡ board → IsHaltHand (hand_of LEAF hand)
+is_halt_hand limits board hand held trees quota is = record {
+  trees = ap (λ (b : BoardValue). length b.lines) is ∙ trees;
+  quota = subst (λ (n : ℕ). 1 ≤ n) (sym (ap (λ (b : BoardValue). b.quota) is ∙ quota))
       (quota_in_range limits held).0;
   cap = refl;
 }
@@ -59,7 +65,7 @@ isnt_below : (count tree in_tree : ℕ) → tree < count → nat_lt in_tree coun
 isnt_below count tree in_tree below above = grind (arith, nat_tests)
 
 -- the calls below a number are the acts' events in each tree below it
-events_below : (count tree : ℕ) (acts : List Act) → tree < count
+pub events_below : (count tree : ℕ) (acts : List Act) → tree < count
     → plain tree (calls_below count acts) ≡ events_of tree (at_stamps acts)
 events_below count tree [] below = refl
 events_below count tree (Post in_tree index value ∷ acts) below =
@@ -85,7 +91,7 @@ kept_alone true one first calls later same is = is ∙ ap (λ (l : List Event). 
 kept_alone false one first calls later same is = same
 
 -- the calls in one tree are the acts' events in it
-events_at : (tree : ℕ) (acts : List Act)
+pub events_at : (tree : ℕ) (acts : List Act)
     → plain 0 (calls_at tree acts) ≡ events_of tree (at_stamps acts)
 events_at tree [] = refl
 events_at tree (Post in_tree index value ∷ acts) =
@@ -99,68 +105,135 @@ events_at tree (Refused frame code first second ∷ acts) = events_at tree acts
 events_at tree (Noted frame code first second ∷ acts) = events_at tree acts
 events_at tree (Ended end ∷ acts) = events_at tree acts
 
-only_session : (calls : List (List Call)) (own : List Call) → length calls ≡ 1
-    → slice_index_or calls 0 [] ≡ own → calls ≡ own ∷ []
-only_session [] own one is = absurd (omega arith)
-only_session (first ∷ []) own one is = ap (λ c. c ∷ []) is
-only_session (first ∷ second ∷ more) own one is = absurd (omega arith)
+-- calls don't know the places of reads
+below_unplaced : (count : ℕ) (acts : List Act)
+    → calls_below count (at_stamps acts) ≡ calls_below count acts
+below_unplaced count [] = refl
+below_unplaced count (Post tree index value ∷ acts) =
+    ap (λ (l : List Call). cond (nat_lt tree count) (call.Post tree value ∷ l) l)
+    (below_unplaced count acts)
+below_unplaced count (Read tree stamp place value ∷ acts) =
+    ap (λ (l : List Call). cond (nat_lt tree count) (call.Read tree stamp value ∷ l) l)
+    (below_unplaced count acts)
+below_unplaced count (Sent frame ∷ acts) = below_unplaced count acts
+below_unplaced count (Refused frame code first second ∷ acts) = below_unplaced count acts
+below_unplaced count (Noted frame code first second ∷ acts) = below_unplaced count acts
+below_unplaced count (Ended end ∷ acts) = below_unplaced count acts
 
--- A board that was empty, came back from a hand of its one session, with these calls.
-pub record CameBack (trees quota : ℕ) (before after : PlainHandValue) (own : List Call)
-    (board : BoardValue) : Type 0 where
-  pub empty : before.board ≡ empty_board trees 1 quota
-  pub first : before.session ≡ 0
+at_unplaced : (tree : ℕ) (acts : List Act) → calls_at tree (at_stamps acts) ≡ calls_at tree acts
+at_unplaced tree [] = refl
+at_unplaced tree (Post in_tree index value ∷ acts) =
+    ap (λ (l : List Call). cond (in_tree == tree) (call.Post 0 value ∷ l) l) (at_unplaced tree acts)
+at_unplaced tree (Read in_tree stamp place value ∷ acts) =
+    ap (λ (l : List Call). cond (in_tree == tree) (call.Read 0 stamp value ∷ l) l)
+    (at_unplaced tree acts)
+at_unplaced tree (Sent frame ∷ acts) = at_unplaced tree acts
+at_unplaced tree (Refused frame code first second ∷ acts) = at_unplaced tree acts
+at_unplaced tree (Noted frame code first second ∷ acts) = at_unplaced tree acts
+at_unplaced tree (Ended end ∷ acts) = at_unplaced tree acts
+
+placed_twice : (acts : List Act) → at_stamps (at_stamps acts) ≡ at_stamps acts
+placed_twice [] = refl
+placed_twice (Post tree index value ∷ acts) =
+    ap (λ (l : List Act). Post tree index value ∷ l) (placed_twice acts)
+placed_twice (Read tree stamp place value ∷ acts) =
+    ap (λ (l : List Act). Read tree stamp stamp value ∷ l) (placed_twice acts)
+placed_twice (Sent frame ∷ acts) = ap (λ (l : List Act). Sent frame ∷ l) (placed_twice acts)
+placed_twice (Refused frame code first second ∷ acts) =
+    ap (λ (l : List Act). Refused frame code first second ∷ l) (placed_twice acts)
+placed_twice (Noted frame code first second ∷ acts) =
+    ap (λ (l : List Act). Noted frame code first second ∷ l) (placed_twice acts)
+placed_twice (Ended end ∷ acts) = ap (λ (l : List Act). Ended end ∷ l) (placed_twice acts)
+
+-- A board came back from a session's hand with these calls.
+pub record CameBack (session : ℕ) (board : BoardValue) (before after : PlainHandValue)
+    (own : List Call) (given : BoardValue) : Type 0 where
+  pub lent : before.board ≡ board
+  pub number : before.session ≡ session
+  pub idle : slice_get board.calls session ≡ Some []
   pub keeps : KeepsOthers before after
   pub calls : slice_index_or after.board.calls after.session [] ≡ own
-  pub given : board ≡ after.board
+  pub is_given : given ≡ after.board
 
-module _ (trees quota : ℕ) (before after : PlainHandValue) (own : List Call) (board : BoardValue)
-    (came : CameBack trees quota before after own board) where
-  its_trees : length board.lines ≡ trees
-  its_trees = ap (λ (b : BoardValue). length b.lines) came.given ∙ came.keeps.trees
-      ∙ ap (λ (b : BoardValue). length b.lines) came.empty ∙ length-replicate trees []
+is_or_isnt : (a b : ℕ) (t : Bool) (P : Type 0) → (a == b) ≡ t → (a ≡ b → P) → (a ≢ b → P) → P
+is_or_isnt a b true P test same other = same (grind (arith, nat_tests))
+is_or_isnt a b false P test same other = other (λ is. absurd (grind (arith, nat_tests)))
 
-  its_calls : board.calls ≡ own ∷ []
-  its_calls = ap (λ (b : BoardValue). b.calls) came.given
-      ∙ only_session after.board.calls own
-      (came.keeps.sessions ∙ ap (λ (b : BoardValue). length b.calls) came.empty)
-      (ap (λ (n : ℕ). slice_index_or after.board.calls n []) (sym (came.keeps.session ∙ came.first))
-      ∙ came.calls)
+module _ (session : ℕ) (board : BoardValue) (before after : PlainHandValue) (own : List Call)
+    (given : BoardValue) (came : CameBack session board before after own given) where
+  as_many : length given.calls ≡ length board.calls
+  as_many = ap (λ (b : BoardValue). length b.calls) came.is_given ∙ came.keeps.sessions
+      ∙ ap (λ (b : BoardValue). length b.calls) came.lent
 
-  its_events : (tree : ℕ) (events : List Event) → plain tree own ≡ events
-      → plain_events tree board.calls ≡ events ∷ []
-  its_events tree events are = ap (plain_events tree) its_calls ∙ ap (λ e. e ∷ []) are
+  own_calls : get_or given.calls session [] ≡ own
+  own_calls = ap (λ (b : BoardValue). get_or b.calls session []) came.is_given
+      ∙ ap (λ (n : ℕ). get_or after.board.calls n []) (sym (came.keeps.session ∙ came.number))
+      ∙ came.calls
 
--- the boards of a session that ran on empty boards
-pub has_played : (limits : Limits) (before after halt_before halt_after : PlainHandValue)
-    (boards : Boards) (acts : List Act)
-    → CameBack (halt_tree limits) limits.quota before after (calls_below (halt_tree limits) acts)
-    boards.sums
-    → CameBack 1 limits.quota halt_before halt_after (calls_at (halt_tree limits) acts) boards.halt
-    → HasPlayed limits boards (at_stamps acts)
-has_played limits before after halt_before halt_after boards acts sums halt = record {
-  trees = its_trees _ _ before after _ boards.sums sums;
-  halt_trees = its_trees _ _ halt_before halt_after _ boards.halt halt;
-  sums = λ tree below. its_events _ _ before after _ boards.sums sums tree _
-      (events_below (halt_tree limits) tree acts below);
-  halt = its_events _ _ halt_before halt_after _ boards.halt halt 0 _
-      (events_at (halt_tree limits) acts);
+  other_calls : (other : ℕ) → other ≢ session
+      → get_or given.calls other [] ≡ get_or board.calls other []
+  other_calls other apart =
+      ap (λ (b : BoardValue). get_or b.calls other []) came.is_given
+      ∙ sym (unwrap_or-slice_get after.board.calls other [])
+      ∙ ap (λ (o : Option (List Call)). unwrap_or o [])
+      (came.keeps.others other (λ is. apart (is ∙ came.number)))
+      ∙ unwrap_or-slice_get before.board.calls other []
+      ∙ ap (λ (b : BoardValue). get_or b.calls other []) came.lent
+
+  calls_set : session < length board.calls → given.calls ≡ set board.calls session own
+  calls_set below = ext_get_or [] given.calls (set board.calls session own)
+      (as_many ∙ sym (length-set board.calls session own))
+      (λ place inside. is_or_isnt place session (place == session) _ refl
+      (λ is. subst (λ (n : ℕ). get_or given.calls n [] ≡ get_or (set board.calls session own) n [])
+      (sym is) (own_calls ∙ sym (get_or-set_same board.calls session own [] below)))
+      (λ apart. other_calls place apart
+      ∙ sym (get_or-set_other board.calls session place own [] apart)))
+
+  -- it has that session's calls besides
+  pub has_calls : session < length board.calls → HasCalls session board given own
+  has_calls below = record {
+    trees = ap (λ (b : BoardValue). length b.lines) came.is_given ∙ came.keeps.trees
+        ∙ ap (λ (b : BoardValue). length b.lines) came.lent;
+    quota = ap (λ (b : BoardValue). b.quota) came.is_given ∙ came.keeps.quota
+        ∙ ap (λ (b : BoardValue). b.quota) came.lent;
+    calls = calls_set below;
+  }
+
+-- a session ran on both boards, and its reads got their stamps for places
+pub has_run_on : (limits : Limits) (session : ℕ) (before after : Boards) (raw acts : List Act)
+    → after.trees ≡ before.trees
+    → HasCalls session before.sums after.sums (calls_below (halt_tree limits) raw)
+    → HasCalls session before.halt after.halt (calls_at (halt_tree limits) raw)
+    → acts ≡ at_stamps raw → HasRunOn limits session before after acts
+has_run_on limits session before after raw acts trees sums halt are = record {
+  trees = trees;
+  sums = subst (λ (own : List Call). HasCalls session before.sums after.sums own)
+      (sym (ap (calls_below (halt_tree limits)) are ∙ below_unplaced (halt_tree limits) raw)) sums;
+  halt = subst (λ (own : List Call). HasCalls session before.halt after.halt own)
+      (sym (ap (calls_at (halt_tree limits)) are ∙ at_unplaced (halt_tree limits) raw)) halt;
+  at_stamps = ap at_stamps are ∙ placed_twice raw ∙ sym are;
 }
 
--- and they have as many trees as are told
-pub has_trees : (limits : Limits) (boards : Boards) (acts : List Act)
-    → boards.trees ≡ halt_tree limits → HasPlayed limits boards acts → HasTrees boards
-has_trees limits boards acts told played =
-    record { sums = played.trees ∙ sym told; halt = played.halt_trees }
-
 -- what a session did with its source it did with places too
-pub source_placed : (limits : Limits) (left : Option (List ℕ)) (acts : List Act) (end : End)
+pub source_placed : (limits : Limits) (screens : List ScreenValue) (left : Option (List ℕ))
+    (acts : List Act) (end : End)
     (hv va hc ca : Option (List ℕ))
-    → ((bytes venue client : List ℕ) → FollowsInput limits bytes acts end venue client
-    → FollowsInput limits bytes (at_stamps acts) end venue client)
-    → FollowsSource limits left acts end hv va hc ca
-    → FollowsSource limits left (at_stamps acts) end hv va hc ca
-source_placed limits None acts end hv va hc ca free follows = tt
-source_placed limits (Some bytes) acts end hv va hc ca free
+    → ((bytes venue client : List ℕ) → FollowsInput limits screens bytes acts end venue client
+    → FollowsInput limits screens bytes (at_stamps acts) end venue client)
+    → FollowsSource limits screens left acts end hv va hc ca
+    → FollowsSource limits screens left (at_stamps acts) end hv va hc ca
+source_placed limits screens None acts end hv va hc ca free follows = tt
+source_placed limits screens (Some bytes) acts end hv va hc ca free
     (to_venue, to_client, venue, client, follows) =
     (to_venue, to_client, venue, client, free bytes to_venue to_client follows)
+
+-- so do the acts as they are kept
+pub source_at_stamps : (limits : Limits) (screens : List ScreenValue) (left : Option (List ℕ))
+    (acts kept : List Act) (end : End) (hv va hc ca : Option (List ℕ)) → kept ≡ at_stamps acts
+    → ((bytes venue client : List ℕ) → FollowsInput limits screens bytes acts end venue client
+    → FollowsInput limits screens bytes (at_stamps acts) end venue client)
+    → FollowsSource limits screens left acts end hv va hc ca
+    → FollowsSource limits screens left kept end hv va hc ca
+source_at_stamps limits screens left acts kept end hv va hc ca are free follows =
+    subst (λ (own : List Act). FollowsSource limits screens left own end hv va hc ca) (sym are)
+    (source_placed limits screens left acts end hv va hc ca free follows)

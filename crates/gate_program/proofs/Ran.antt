@@ -1,34 +1,46 @@
--- One session that was opened, ran and was closed: what a run of it did.
-use Rattle.std.proofs.Common.{◌≡◌, ℕ, zero, suc, List, [], ◌∷◌, ◌++◌}
-use Rattle.std.proofs.Common.{refl, sym, ap, subst, ◌∙◌, inl, inr, Bool, true, false, cond}
-use Rattle.std.proofs.Common.{◌||◌}
-use Rattle.std.specs.Prelude.{Option, Some, None, IfSome, IsSome, slice_get}
-use Rattle.std.specs.Option.{option_map}
-use Rattle.std.specs.Str.{bytes_eq}
+-- Sessions that were opened, ran and were closed: what a run of them did.
+use Rattle.std.proofs.Common.{◌≡◌, ◌≢◌, ℕ, List, [], ◌∷◌, ◌++◌, length, map, refl, sym, ap, subst}
+use Rattle.std.proofs.Common.{◌∙◌}
+use Rattle.std.proofs.Common.{inl, inr, Bool, true, false, arith, suc, ◌≤◌}
+use Rattle.std.proofs.lemmas.List.{length-map}
+use Rattle.std.proofs.lemmas.Option.{get_or_from_slice_get, slice_get_within}
+use Rattle.std.specs.Prelude.{Option, Some, None, IfSome, IsSome, slice_get, ◌⊎◌}
+use Rattle.std.specs.List.{list_any}
 use Rattle.std.specs.Io.KnownBytes.{Appends}
-use Rattle.gate_ports.specs.Faults.{NeverFalls}
-use Rattle.gate_ports.specs.Names.{Texts, IsEmptySink}
+use Rattle.gate_ports.specs.Faults.{Rose}
+use Rattle.gate_ports.specs.Names.{Texts}
 use Rattle.risk_board.specs.declared.hand.Line.{Line}
 use Rattle.risk_journal.specs.declared.acts.Act.{Act}
 use Rattle.risk_journal.specs.declared.acts.End.{End}
 use Rattle.risk_journal.specs.declared.acts.End.TheVariants as ending
 use Rattle.limit_table.specs.declared.limits.Limits.{Limits}
+use Rattle.screen_kit.specs.Screens.{ScreenValue}
 use Rattle.session_engine.specs.Follows.{IsByInput, FollowsSource, FollowsInput}
+use Rattle.session_engine.specs.Session.{armed_for}
 use Rattle.gate_program.specs.Words.{RunWords, venue_name, client_name, journal_name, is_among}
 use Rattle.gate_program.specs.Words.{output_names}
-use Rattle.gate_program.specs.Run.{PortsValue, ReadRose, OutputRose, EndHolds}
-use Rattle.gate_program.specs.Run.{FollowsText, session_name}
-use Rattle.gate_program.specs.Gate.{HasRun, HasJournal, AreInputs}
-use Rattle.gate_program.specs.Gate.{HasLimits}
-use Rattle.gate_program.specs.Run.{is_memory}
-use Rattle.std.specs.List.{list_any}
-use Rattle.gate_program.specs.Stages.{Went, IsNewSource, AreWritten, HasEnded, with_two}
-use Rattle.gate_program.proofs.Chains.{rose_from}
-use Rattle.gate_program.proofs.Histories.{is_history}
+use Rattle.gate_program.specs.Run.{PortsValue, ReadRose, OutputRose, EndHolds, is_memory}
+use Rattle.gate_program.specs.Run.{standing_of}
+use Rattle.gate_program.specs.Run.{FollowsText, session_name, set_of}
+use Rattle.gate_program.specs.Gate.{HasRun, HasJournal, AreInputs, HasLimits}
+use Rattle.gate_program.specs.Totals.{totals_of}
+use Rattle.gate_program.specs.Objects.{ObjectsValue, AreNew, ChangesOutputs, HasOpened, HasDone}
+use Rattle.gate_program.specs.Objects.{HoldsOutputs}
+use Rattle.gate_program.specs.Finish.{HasEnded}
+use Rattle.gate_program.proofs.Chains.{rose_from, rose_is_some}
+use Rattle.gate_program.proofs.Histories.{is_history, AdmittedStays}
+use Rattle.gate_program.proofs.Lists.{mapped_at, there_is}
+use Rattle.gate_program.proofs.Outputs.{apart_from_all}
 
--- a run of one session
-abbrev pub one_run : List ℕ → List ℕ → List ℕ → RunWords
-one_run limits out session = record { limits = limits; out = out; sessions = session ∷ [] }
+-- a folder beside a standard output that got this text
+abbrev pub shown : Option Texts → (List ℕ → ℕ) → (List ℕ → ℕ) → List ℕ → PortsValue
+shown texts reads writes text = record {
+  texts = texts;
+  read_faults = reads;
+  write_faults = writes;
+  held = Some text;
+  out_faults = 0;
+}
 
 -- a folder beside a standard output that tells nothing
 abbrev pub silent : Option Texts → (List ℕ → ℕ) → (List ℕ → ℕ) → PortsValue
@@ -45,38 +57,26 @@ abbrev pub told_bytes : Option (List ℕ) → List ℕ
 told_bytes None = []
 told_bytes (Some bytes) = bytes
 
--- a sink that tells nothing got any text
-pub nothing_told : (held held_after : Option (List ℕ)) (text : List ℕ) → held ≡ None
-    → Appends held held_after text
-nothing_told None held_after text untold = tt
-nothing_told (Some bytes) held_after text untold = absurd cc
-
--- what holds of the one session holds of each
-each_is_first : {A B C : Type 0} (P : ℕ → A → B → C → Type 0) (a : A) (b : B) (c : C) → P 0 a b c
-    → (n : ℕ) (x : A) (y : B) (z : C) → slice_get (a ∷ []) n ≡ Some x
-    → slice_get (b ∷ []) n ≡ Some y
-    → slice_get (c ∷ []) n ≡ Some z → P n x y z
-each_is_first {A} {B} {C} P a b c holds zero x y z is_x is_y is_z =
-    let x_is : a ≡ x = cc in let y_is : b ≡ y = cc in let z_is : c ≡ z = cc in
-    subst (λ (v : A). P 0 v y z) x_is
-    (subst (λ (v : B). P 0 a v z) y_is (subst (λ (v : C). P 0 a b v) z_is holds))
-each_is_first {A} {B} {C} P a b c holds (suc n) x y z is_x is_y is_z = absurd cc
-
 -- by each end
-end_holds : (limits : Limits) (before after : PortsValue) (run : RunWords) (bytes : List ℕ)
-    (acts : List Act)
-    (end : End) → (end ≡ ending.ReadFault → ReadRose before after (session_name run 0))
-    → (end ≡ ending.WriteFault → OutputRose before after run 0)
-    → (IsByInput end → FollowsText limits after run 0 bytes acts end)
-    → EndHolds limits before after run 0 bytes acts end
-end_holds limits before after run bytes acts ending.ReadFault read write follows = read refl
-end_holds limits before after run bytes acts ending.WriteFault read write follows = write refl
-end_holds limits before after run bytes acts ending.Memory read write follows = tt
-end_holds limits before after run bytes acts ending.Whole read write follows = follows tt
-end_holds limits before after run bytes acts (ending.Cut place) read write follows = follows tt
-end_holds limits before after run bytes acts (ending.Broken place) read write follows = follows tt
-end_holds limits before after run bytes acts (ending.TooLong place) read write follows = follows tt
-end_holds limits before after run bytes acts (ending.NotBuilt place) read write follows = follows tt
+end_holds : (limits : Limits) (screens : List ScreenValue) (before after : PortsValue)
+    (run : RunWords) (session : ℕ) (bytes : List ℕ) (acts : List Act) (end : End)
+    → (end ≡ ending.ReadFault → ReadRose before after (session_name run session))
+    → (end ≡ ending.WriteFault → OutputRose before after run session)
+    → (IsByInput end → FollowsText limits screens after run session bytes acts end)
+    → EndHolds limits screens before after run session bytes acts end
+end_holds limits screens before after run n bytes acts ending.ReadFault read write follows = read
+    refl
+end_holds limits screens before after run n bytes acts ending.WriteFault read write follows = write
+    refl
+end_holds limits screens before after run n bytes acts ending.Memory read write follows = tt
+end_holds limits screens before after run n bytes acts ending.Whole read write follows = follows tt
+end_holds limits screens before after run n bytes acts (ending.Cut place) read write follows =
+    follows tt
+end_holds limits screens before after run n bytes acts (ending.Broken place) read write follows =
+    follows tt
+end_holds limits screens before after run n bytes acts (ending.TooLong place) read write follows =
+    follows
+    tt
 
 -- the sink was empty and got these bytes: it holds them
 holds_appended : (held held_after : Option (List ℕ)) (text own : List ℕ) → held ≡ Some []
@@ -92,131 +92,192 @@ none_is_there None is there = cc
 none_is_there (Some text) is there = cc
 
 -- the streams that a told session wrote are the texts of its outputs
-follows_text : (limits : Limits) (run : RunWords) (told after : Option Texts)
-    (session : List ℕ)
-    (left own held_venue venue_after held_client client_after : Option (List ℕ)) (faults : ℕ)
-    (acts : List Act) (end : End)
-    (F : Texts → Texts)
-    → IsNewSource told session left own faults → IsEmptySink told held_venue
-    → IsEmptySink told held_client
-    → AreWritten run (option_map F told) after venue_after client_after
-    → FollowsSource limits left acts end held_venue venue_after held_client client_after
-    → IfSome after (λ texts. (venue : List ℕ) × (client : List ℕ)
-    × (texts (venue_name run.out 0) ≡ Some venue) × (texts (client_name run.out 0) ≡ Some client)
-    × FollowsInput limits (told_bytes left) acts end venue client)
-follows_text limits run None None session left own hv va hc ca faults acts end F new ev ec written
+follows_text : (limits : Limits) (screens : List ScreenValue) (run : RunWords) (session count : ℕ)
+    (t0 t1 t2 : Option Texts)
+    (own now : ObjectsValue) (acts : List Act) (end : End)
+    → ChangesOutputs run.out count t0 t1 → AreNew run t0 session own
+    → (t1 ≡ None → t2 ≡ None) → IfSome t1 (λ _. IfSome t2 (λ new. HoldsOutputs run new session now))
+    → FollowsSource limits screens own.left acts end own.venue_held now.venue_held own.client_held
+    now.client_held
+    → IfSome t2 (λ texts. (venue : List ℕ) × (client : List ℕ)
+    × (texts (venue_name run.out session) ≡ Some venue) × (texts (client_name run.out session) ≡
+    Some client)
+    × FollowsInput limits screens (told_bytes own.left) acts end venue client)
+follows_text limits screens run session count None t1 None own now acts end changes new tells holds
+    follows
+    = tt
+follows_text limits screens run session count None t1 (Some texts) own now acts end changes new
+    tells holds
+    follows = let none : Some texts ≡ None = tells changes in absurd cc
+follows_text limits screens run session count (Some old) t1 None own now acts end changes new tells
+    holds
     follows = tt
-follows_text limits run None (Some texts) session left own hv va hc ca faults acts end F new ev ec
-    written follows = absurd cc
-follows_text limits run (Some old) None session left own hv va hc ca faults acts end F new ev ec
-    written follows = tt
-follows_text limits run (Some old) (Some texts) session None own hv va hc ca faults acts end F new
-    ev ec written follows =
-    absurd (none_is_there (old session) new.opened.1 new.opened.0)
-follows_text limits run (Some old) (Some texts) session (Some bytes) own hv va hc ca faults acts end
-    F new ev ec written
-    (to_venue, to_client, venue_gets, client_gets, follows) = (
-      to_venue,
-      to_client,
-      written.venue_holds ∙ ap (λ s. Some s)
-          (holds_appended hv va to_venue written.to_venue ev venue_gets written.venue_told),
-      written.client_holds ∙ ap (λ s. Some s)
-          (holds_appended hc ca to_client written.to_client ec client_gets written.client_told),
-      follows,
-    )
+follows_text limits screens run session count (Some old) None (Some texts) own now acts end
+    (mid, there, same) new tells holds follows = absurd cc
+follows_text limits screens run session count (Some old) (Some middle) (Some texts) own now acts end
+    changes
+    new
+    tells holds follows = by_left own.left new.opened.1 follows where
+      by_left : (left : Option (List ℕ)) → left ≡ old (session_name run session)
+          → FollowsSource limits screens left acts end own.venue_held now.venue_held own.client_held
+          now.client_held
+          → (venue : List ℕ) × (client : List ℕ)
+          × (texts (venue_name run.out session) ≡ Some venue)
+          × (texts (client_name run.out session) ≡ Some client)
+          × FollowsInput limits screens (told_bytes left) acts end venue client
+      by_left None is source = absurd (none_is_there (old (session_name run session)) is
+          new.opened.0)
+      by_left (Some bytes) is (to_venue, to_client, venue_gets, client_gets, input) = (
+        to_venue,
+        to_client,
+        holds.venue ∙ ap (λ s. Some s) (holds_appended own.venue_held now.venue_held to_venue
+            holds.to_venue new.venue_empty venue_gets holds.venue_told),
+        holds.client ∙ ap (λ s. Some s) (holds_appended own.client_held now.client_held to_client
+            holds.to_client new.client_empty client_gets holds.client_told),
+        input,
+      )
 
-untouched : {X : Type 0} (b c j : Bool) (x y z : X) → (b || (c || (j || false))) ≡ false
-    → cond c x (cond b y z) ≡ z
-untouched false false j x y z is = refl
-untouched false true j x y z is = absurd cc
-untouched true c j x y z is = absurd cc
+-- what was left of a new input is its name's text
+text_is : (texts : Texts) (name : List ℕ) (left : Option (List ℕ)) → IsSome (texts name)
+    → left ≡ texts name → texts name ≡ Some (told_bytes left)
+text_is texts name None there is = absurd (none_is_there (texts name) is there)
+text_is texts name (Some bytes) there is = sym is
 
--- names that are no outputs keep their texts
-keeps_others : (limits out session : List ℕ) (told after : Option Texts)
-    (venue_after client_after : Option (List ℕ))
-    → (let run = one_run limits out session in AreWritten run
-    (option_map (with_two (venue_name out 0) [] (client_name out 0) []) told) after venue_after
-    client_after
-    → IfSome told (λ old. IfSome after (λ new. (name : List ℕ)
-    → is_among name (output_names out 1) ≡ false → new name ≡ old name)))
-keeps_others limits out session None after va ca written = tt
-keeps_others limits out session (Some old) None va ca written = tt
-keeps_others limits out session (Some old) (Some new) va ca written = λ name apart.
-    written.others name apart ∙ untouched (bytes_eq name (venue_name out 0))
-    (bytes_eq name (client_name out 0)) (bytes_eq name (journal_name out)) _ _ _ apart
+inputs_match : (texts : Texts) (names : List (List ℕ)) (objects : List ObjectsValue)
+    → length names ≡ length objects
+    → ((session : ℕ) (name : List ℕ) (own : ObjectsValue) → slice_get names session ≡ Some name
+    → slice_get objects session ≡ Some own → texts name ≡ Some (told_bytes own.left))
+    → map texts names ≡ map (λ bytes. Some bytes) (map (λ (own : ObjectsValue). told_bytes own.left)
+    objects)
+inputs_match texts [] [] same each = refl
+inputs_match texts [] (own ∷ objects) same each = absurd (omega arith)
+inputs_match texts (name ∷ names) [] same each = absurd (omega arith)
+inputs_match texts (name ∷ names) (own ∷ objects) same each =
+    ap (λ (t : Option (List ℕ)). t ∷ map texts names) (each 0 name own refl refl)
+    ∙ ap (λ (l : List (Option (List ℕ))). Some (told_bytes own.left) ∷ l)
+    (inputs_match texts names objects (omega arith) (λ session n o is_n is_o. each (suc session) n o
+    is_n is_o))
 
--- what was read is the session's text
-are_inputs : (told : Option Texts) (session : List ℕ) (left own : Option (List ℕ)) (faults : ℕ)
-    → IsNewSource told session left own faults
-    → AreInputs told (session ∷ []) (told_bytes left ∷ [])
-are_inputs None session left own faults new = tt
-are_inputs (Some texts) session None own faults new =
-    absurd (none_is_there (texts session) new.opened.1 new.opened.0)
-are_inputs (Some texts) session (Some bytes) own faults new =
-    ap (λ text. text ∷ []) (sym new.opened.1)
+are_inputs : (run : RunWords) (told : Option Texts) (objects : List ObjectsValue)
+    → length run.sessions ≡ length objects
+    → ((session : ℕ) (own : ObjectsValue) → slice_get objects session ≡ Some own
+    → AreNew run told session own)
+    → AreInputs told run.sessions (map (λ (own : ObjectsValue). told_bytes own.left) objects)
+are_inputs run None objects same each = tt
+are_inputs run (Some texts) objects same each =
+    inputs_match texts run.sessions objects same (λ session name own is_name is_own.
+    let new = each session own is_own in
+    let named : session_name run session ≡ name =
+    get_or_from_slice_get run.sessions session name [] is_name in
+    ap texts (sym named)
+    ∙ text_is texts (session_name run session) own.left new.opened.0 new.opened.1)
+
+keeps_others : (run : RunWords) (count : ℕ) (t0 t1 t2 : Option Texts) → count ≡ length run.sessions
+    → ChangesOutputs run.out count t0 t1
+    → IfSome t1 (λ mid. IfSome t2 (λ new. (name : List ℕ)
+    → is_among name (output_names run.out (length run.sessions)) ≡ false → new name ≡ mid name))
+    → IfSome t0 (λ old. IfSome t2 (λ new. (name : List ℕ)
+    → is_among name (output_names run.out (length run.sessions)) ≡ false → new name ≡ old name))
+keeps_others run count None t1 t2 many changes others = tt
+keeps_others run count (Some old) None t2 many (mid, there, same) others = absurd cc
+keeps_others run count (Some old) (Some middle) None many changes others = tt
+keeps_others run count (Some old) (Some middle) (Some new) many (mid, there, same) others =
+    λ name among. let mid_is : middle ≡ mid = cc in
+    others name among ∙ ap (λ (t : Texts). t name) mid_is
+    ∙ same name (apart_from_all run.out name count
+    (subst (λ (n : ℕ). is_among name (output_names run.out n) ≡ false) (sym many) among)).0
 
 -- the journal's own write count rose from the start
-pub journal_from : (start opened after : PortsValue) (run : RunWords) (acts : List (List Act))
-    (lines : List (List Line))
-    (refused : Bool) → NeverFalls start.write_faults opened.write_faults
-    → HasJournal opened after run acts lines refused
-    → HasJournal start after run acts lines refused
-journal_from start opened after run acts lines false later journal = journal
-journal_from start opened after run acts lines true later journal =
+pub journal_from : (run : RunWords) (t0 t1 t2 : Option Texts) (r0 w0 r1 w1 r2 w2 : List ℕ → ℕ)
+    (text : List ℕ) (acts : List (List Act)) (lines : List (List Line)) (refused : Bool)
+    → ((name : List ℕ) → w0 name ≤ w1 name)
+    → HasJournal (silent t1 r1 w1) (silent t2 r2 w2) run acts lines refused
+    → HasJournal (shown t0 r0 w0 []) (shown t2 r2 w2 text) run acts lines refused
+journal_from run t0 t1 t2 r0 w0 r1 w1 r2 w2 text acts lines false later journal = journal
+journal_from run t0 t1 t2 r0 w0 r1 w1 r2 w2 text acts lines true later journal =
     rose_from _ _ _ (later (journal_name run.out)) journal
 
-pub output_from : (start opened after : PortsValue) (run : RunWords)
-    → NeverFalls start.write_faults opened.write_faults
-    → OutputRose opened after run 0 → OutputRose start after run 0
-output_from start opened after run later (inl rose) = inl (rose_from _ _ _ (later _) rose)
-output_from start opened after run later (inr rose) = inr (rose_from _ _ _ (later _) rose)
+either_rose : (v0 v1 c0 c1 : ℕ) (V C : Type 0) → v0 ≡ 0 → c0 ≡ 0 → Rose v0 v1 ⊎ Rose c0 c1
+    → (v1 ≢ 0 → V) → (c1 ≢ 0 → C) → V ⊎ C
+either_rose v0 v1 c0 c1 V C v c (inl rose) venue client = inl (venue (rose_is_some v0 v1 v rose))
+either_rose v0 v1 c0 c1 V C v c (inr rose) venue client = inr (client (rose_is_some c0 c1 c rose))
 
--- One session was opened, ran and was closed: what its run did.
-pub has_run : (limit_name out session : List ℕ) (limits : Limits)
-    (start opened after : PortsValue) (status : ℕ)
-    (left own held_venue held_client : Option (List ℕ)) (faults : ℕ)
-    → (let run = one_run limit_name out session in
-    start.held ≡ None → HasLimits start.texts limit_name limits
-    → Went start opened → opened.texts ≡ option_map
-    (with_two (venue_name out 0) [] (client_name out 0) []) start.texts
-    → IsNewSource start.texts session left own faults → IsEmptySink start.texts held_venue
-    → IsEmptySink start.texts held_client
-    → (ended : HasEnded limits run opened after left held_venue held_client status)
-    → list_any is_memory (ended.end ∷ []) ≡ false
-    → HasRun run start after status)
-has_run limit_name out session limits start opened after status left own hv hc faults
-    untold limits_are went made source venue client ended remembered =
-    let run : RunWords = one_run limit_name out session in
-    let va = ended.venue_after in
-    let ca = ended.client_after in
-    let written : AreWritten run
-    (option_map (with_two (venue_name out 0) [] (client_name out 0) []) start.texts) after.texts
-    va ca =
-    subst (λ (t : Option Texts). AreWritten run t after.texts va ca) made ended.finished.written in
-    record {
-      limits = limits;
-      inputs = told_bytes left ∷ [];
-      acts = ended.acts ∷ [];
-      ends = ended.end ∷ [];
-      lines = ended.finished.lines;
-      refused = ended.finished.refused;
-      limits_are = limits_are;
-      remembered = remembered;
-      inputs_are = are_inputs start.texts session left own faults source;
-      input_count = refl;
-      act_count = refl;
-      end_count = refl;
-      each = each_is_first (EndHolds limits start after run) (told_bytes left) ended.acts ended.end
-          (end_holds limits start after run (told_bytes left) ended.acts ended.end
-          (λ is. rose_from _ _ _ (went.read session) (ended.read is))
-          (λ is. output_from start opened after run went.written (ended.write is))
-          (λ by_input. follows_text limits run start.texts after.texts session left own hv va hc ca
-          faults ended.acts ended.end _
-          source venue client written (ended.follows by_input)));
-      history = is_history limits ended.boards ended.acts ended.finished.lines ended.played
-          ended.finished.has_lines;
-      journal = journal_from start opened after run (ended.acts ∷ [])
-          ended.finished.lines ended.finished.refused went.written ended.finished.journal;
-      others = keeps_others limit_name out session start.texts after.texts va ca written;
-      told = inl (ended.finished.stands, nothing_told start.held after.held _ untold);
-    }
+module _ (run : RunWords) (limits : Limits) (sets : List (List ScreenValue)) (t0 : Option Texts)
+    (r0 w0 : List ℕ → ℕ)
+    (t1 : Option Texts) (r1 w1 : List ℕ → ℕ) (t2 : Option Texts) (r2 w2 : List ℕ → ℕ)
+    (objects : List ObjectsValue) (text : List ℕ) (status : ℕ)
+    (opened : HasOpened run (silent t0 r0 w0) (silent t1 r1 w1) objects)
+    (many : length objects ≡ length run.sessions)
+    (ended : HasEnded limits sets run (silent t1 r1 w1) (silent t2 r2 w2) objects text status) where
+  -- what is known of a session by its end
+  session_holds : (session : ℕ) (own now : ObjectsValue) (did : List Act) (end : End)
+      → slice_get objects session ≡ Some own → slice_get ended.objects_after session ≡ Some now
+      → HasDone limits (set_of sets session) own now did end
+      → EndHolds limits (armed_for limits (set_of sets session)) (shown t0 r0 w0 [])
+      (shown t2 r2 w2 text) run session (told_bytes own.left) did end
+  session_holds session own now did end is_own is_now done =
+      let new = opened.each session own is_own in
+      let causes = ended.finished.causes session now is_now in
+      end_holds limits (armed_for limits (set_of sets session)) (shown t0 r0 w0 [])
+      (shown t2 r2 w2 text) run session (told_bytes own.left) did end
+      (λ is. rose_from _ _ _ (opened.went.read (session_name run session))
+      (causes.input (rose_is_some _ _ new.input_fresh (done.read is))))
+      (λ is. either_rose _ _ _ _ _ _ new.venue_fresh new.client_fresh (done.write is)
+      (λ some. rose_from _ _ _ (opened.went.written (venue_name run.out session))
+      (causes.venue some))
+      (λ some. rose_from _ _ _ (opened.went.written (client_name run.out session))
+      (causes.client some)))
+      (λ by_input. follows_text limits (armed_for limits (set_of sets session)) run session
+      (length objects) t0 t1 t2 own now did end opened.texts
+      new ended.finished.written.tells (holds_one t1 t2 ended.finished.written.holds)
+      (done.follows by_input)) where
+        holds_one : (a b : Option Texts)
+            → IfSome a (λ old. IfSome b (λ new. (n : ℕ) (o : ObjectsValue)
+            → slice_get ended.objects_after n ≡ Some o → HoldsOutputs run new n o))
+            → IfSome a (λ _. IfSome b (λ new. HoldsOutputs run new session now))
+        holds_one None b holds = tt
+        holds_one (Some x) None holds = tt
+        holds_one (Some x) (Some y) holds = holds session now is_now
+
+  -- what the run did
+  pub has_run : HasLimits t0 run.limits limits → AdmittedStays → list_any is_memory ended.ends ≡
+      false
+      → HasRun run sets (shown t0 r0 w0 []) (shown t2 r2 w2 text) status
+  has_run limits_are stays remembered = record {
+    limits = limits;
+    inputs = map (λ (own : ObjectsValue). told_bytes own.left) objects;
+    acts = ended.acts;
+    ends = ended.ends;
+    lines = ended.finished.lines;
+    refused = ended.finished.refused;
+    limits_are = limits_are;
+    remembered = remembered;
+    inputs_are = are_inputs run t0 objects (sym many) opened.each;
+    input_count = length-map objects (λ (own : ObjectsValue). told_bytes own.left) ∙ many;
+    act_count = ended.done.act_count ∙ many;
+    end_count = ended.done.end_count ∙ many;
+    each = λ session bytes did end is_bytes is_did is_end.
+        let own = mapped_at (λ (o : ObjectsValue). told_bytes o.left) objects session bytes is_bytes
+        in
+        let now = there_is ended.objects_after session
+        (omega (arith, slice_get_within objects session own.0 own.1, ended.done.object_count)) in
+        subst (λ (b : List ℕ). EndHolds limits (armed_for limits (set_of sets session))
+        (shown t0 r0 w0 []) (shown t2 r2 w2 text) run session b did end) own.2
+        (session_holds session own.0 now.0 did end own.1 now.1
+        (ended.done.each session own.0 now.0 did end own.1 now.1 is_did is_end));
+    history = is_history limits ended.boards ended.acts ended.finished.lines ended.played
+        ended.finished.has_lines stays;
+    journal = journal_from run t0 t1 t2 r0 w0 r1 w1 r2 w2 text ended.acts ended.finished.lines
+        ended.finished.refused opened.went.written ended.finished.journal;
+    others = keeps_others run (length objects) t0 t1 t2 many opened.texts
+        ended.finished.written.others;
+    told = inl (
+      ended.finished.answer.stands,
+      ended.finished.answer.told ∙ told_at ended.finished.answer.stands,
+    );
+  } where
+    told_at : status ≡ standing_of ended.ends ended.finished.refused
+        → totals_of limits ended.acts ended.ends ended.finished.lines status
+        ≡ totals_of limits ended.acts ended.ends ended.finished.lines
+        (standing_of ended.ends ended.finished.refused)
+    told_at is = ap (totals_of limits ended.acts ended.ends ended.finished.lines) is

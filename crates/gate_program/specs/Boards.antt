@@ -1,21 +1,23 @@
--- The boards of a run: one of sums, for the firm, the accounts and the symbols, and one of the halt tree.
-use Rattle.std.specs.Prelude.{◌≡◌, ℕ, ◌<◌, List, [], ◌∷◌, ◌++◌, length, slice_get, Some, max}
+-- The boards of a run: one of sums, for the firm, the accounts and the symbols, and one of the halt
+-- tree.
+use Rattle.std.specs.Prelude.{◌≡◌, ℕ, ◌<◌, List, [], ◌++◌, length, map}
+use Rattle.std.specs.Prelude.{slice_get, slice_set, Some, max}
 use Rattle.fold_law.specs.Sum.{sum_of}
 use Rattle.fold_law.specs.Whole.{whole_of}
 use Rattle.limit_table.specs.declared.limits.Limits.{Limits}
+use Rattle.risk_board.specs.declared.hand.Call.{Call}
 use Rattle.risk_board.specs.declared.hand.Line.{Line}
 use Rattle.risk_board.specs.Plain.{BoardValue, IsLegalTree, empty_board, plain_events}
 use Rattle.risk_journal.specs.declared.acts.Act.{Act}
-use Rattle.risk_journal.specs.ActLists.{events_of}
-use Rattle.risk_journal.specs.JournalText.{journal_text}
+use Rattle.risk_journal.specs.ActLists.{calls_at, calls_below, events_of, placed}
 use Rattle.session_engine.specs.Trees.{halt_tree}
 use Rattle.gate_program.specs.declared.boards.Boards.{Boards}
 
--- the boards of these limits for one session, before any call
-pub record AreOpened (limits : Limits) (boards : Boards) : Type 0 where
+-- the boards of these limits for so many sessions, before any call
+pub record AreOpened (limits : Limits) (sessions : ℕ) (boards : Boards) : Type 0 where
   pub trees : boards.trees ≡ halt_tree limits
-  pub sums : boards.sums ≡ empty_board (halt_tree limits) 1 limits.quota
-  pub halt : boards.halt ≡ empty_board 1 1 limits.quota
+  pub sums : boards.sums ≡ empty_board (halt_tree limits) sessions limits.quota
+  pub halt : boards.halt ≡ empty_board 1 sessions limits.quota
 
 -- there are as many trees of sums as are told, and one halt tree
 pub record HasTrees (boards : Boards) : Type 0 where
@@ -28,23 +30,44 @@ IsLegalBoard whole unit board =
     (tree : ℕ) (own : List Line) → slice_get board.lines tree ≡ Some own
     → IsLegalTree whole unit board tree own
 
--- these lines are the boards', the halt tree's last, and with the calls one legal history in each tree
+-- these lines are the boards', the halt tree's last, and with the calls one legal history in each
+-- tree
 pub record HasLines (boards : Boards) (lines : List (List Line)) : Type 0 where
   pub lines_are : lines ≡ boards.sums.lines ++ boards.halt.lines
   pub sums : IsLegalBoard (whole_of sum_of 0) 0 boards.sums
   pub halt : IsLegalBoard (whole_of max 0) 0 boards.halt
 
--- the text is the journal of these acts and of the boards' lines
-pub record IsJournalOf (boards : Boards) (acts : List Act) (text : List ℕ) : Type 0 where
-  pub lines : List (List Line)
-  pub has_lines : HasLines boards lines
-  pub spelled : text ≡ journal_text (acts ∷ []) lines
+-- a session on these boards may begin: they have the trees and the quota of the limits, and no call
+-- of
+-- the session
+pub record IsReady (limits : Limits) (session : ℕ) (boards : Boards) : Type 0 where
+  pub trees : length boards.sums.lines ≡ halt_tree limits
+  pub quota : boards.sums.quota ≡ limits.quota
+  pub idle : slice_get boards.sums.calls session ≡ Some []
+  pub halt_trees : length boards.halt.lines ≡ 1
+  pub halt_quota : boards.halt.quota ≡ limits.quota
+  pub halt_idle : slice_get boards.halt.calls session ≡ Some []
 
--- the boards have the trees of the limits, and in each of them one session did what these acts say, a
+-- a session made these calls on a board, and no other session made one
+pub record HasCalls (session : ℕ) (before after : BoardValue) (own : List Call) : Type 0 where
+  pub trees : length after.lines ≡ length before.lines
+  pub quota : after.quota ≡ before.quota
+  pub calls : after.calls ≡ slice_set before.calls session own
+
+-- a session did this on the boards, a read's place being its stamp
+pub record HasRunOn (limits : Limits) (session : ℕ) (before after : Boards) (acts : List Act)
+    : Type 0 where
+  pub trees : after.trees ≡ before.trees
+  pub sums : HasCalls session before.sums after.sums (calls_below (halt_tree limits) acts)
+  pub halt : HasCalls session before.halt after.halt (calls_at (halt_tree limits) acts)
+  pub at_stamps : map (placed (λ stamp. stamp)) acts ≡ acts
+
+-- the boards have the trees of the limits, and in each of them the sessions did what these acts
+-- say, a
 -- read's place being its stamp
-pub record HasPlayed (limits : Limits) (boards : Boards) (acts : List Act) : Type 0 where
+pub record HasPlayed (limits : Limits) (boards : Boards) (acts : List (List Act)) : Type 0 where
   pub trees : length boards.sums.lines ≡ halt_tree limits
   pub halt_trees : length boards.halt.lines ≡ 1
   pub sums : (tree : ℕ) → tree < halt_tree limits
-      → plain_events tree boards.sums.calls ≡ events_of tree acts ∷ []
-  pub halt : plain_events 0 boards.halt.calls ≡ events_of (halt_tree limits) acts ∷ []
+      → plain_events tree boards.sums.calls ≡ map (events_of tree) acts
+  pub halt : plain_events 0 boards.halt.calls ≡ map (events_of (halt_tree limits)) acts

@@ -1,6 +1,7 @@
 -- What a call of the gate did, by how far it came.
-use Rattle.std.specs.Prelude.{◌≡◌, ℕ, ◌<◌, ◌==◌, List, [], ◌∷◌, ◌++◌, length, map, slice_get, Option}
-use Rattle.std.specs.Prelude.{Some, None, IfSome, Bool, true, false, codes, ◌⊎◌, if◌then◌else◌}
+use Rattle.std.specs.Prelude.{◌≡◌, ℕ, ◌<◌, List, [], ◌∷◌, ◌++◌, length, map, slice_get}
+use Rattle.std.specs.Prelude.{Option}
+use Rattle.std.specs.Prelude.{Some, None, IfSome, Bool, true, false, codes, ◌⊎◌}
 use Rattle.std.specs.List.{list_any}
 use Rattle.std.specs.Io.KnownBytes.{Appends}
 use Rattle.gate_ports.specs.Faults.{Rose}
@@ -15,10 +16,13 @@ use Rattle.limit_table.specs.declared.limits.Limits.{Limits}
 use Rattle.risk_journal.specs.JournalText.{journal_text}
 use Rattle.gate_program.specs.Words.{RunWords, Command, command_of, output_names, journal_name}
 use Rattle.gate_program.specs.Words.{is_among}
+use Rattle.gate_program.specs.Totals.{totals_of}
 use Rattle.gate_program.specs.Limits.{AreLimits, AreUnserved, limits_fault_text}
 use Rattle.gate_program.specs.Words.Command.{Run}
 use Rattle.gate_program.specs.Run.{PortsValue, Holds, ReadRose, WriteRose, OutputRose, session_name}
-use Rattle.gate_program.specs.Run.{EndHolds, IsHistory, standing_of, is_memory}
+use Rattle.gate_program.specs.Run.{EndHolds, IsHistory, set_of, standing_of, is_memory}
+use Rattle.screen_kit.specs.Screens.{ScreenValue}
+use Rattle.session_engine.specs.Session.{armed_for}
 
 -- a folder and standard output as clauses name them
 abbrev pub ports_of : {D O : Type 0} → (D → Option Texts) → (D → List ℕ → ℕ) → (D → List ℕ → ℕ)
@@ -31,7 +35,8 @@ ports_of texts read_faults write_faults held faults folder out = record {
   out_faults = faults out;
 }
 
--- The status that stands is told with its text. A fault of standard output gives 6 in its place, and
+-- The status that stands is told with its text. A fault of standard output gives 6 in its place,
+-- and
 -- leaves a front of the text there.
 abbrev pub IsTold : Option (List ℕ) → Option (List ℕ) → ℕ → ℕ → List ℕ → ℕ → ℕ → Type 0
 IsTold held held_after faults faults_after text standing status =
@@ -43,7 +48,7 @@ Tells before after text standing status =
     IsTold before.held after.held before.out_faults after.out_faults text standing status
 
 abbrev pub usage_text : List ℕ
-usage_text = codes "usage: gate run LIMITS OUT SESSION" ++ 10 ∷ []
+usage_text = codes "usage: gate run LIMITS OUT SESSION..." ++ 10 ∷ []
 
 abbrev pub read_fault_text : List ℕ
 read_fault_text = codes "read fault" ++ 10 ∷ []
@@ -95,13 +100,14 @@ pub record HasOtherLimits (run : RunWords) (before after : PortsValue) (status :
   pub told : Tells before after not_built_text 9 status
 
 -- A session's name could not be opened, behind limits that are served.
-pub record HasUnopenedSession (run : RunWords) (before after : PortsValue) (status : ℕ) : Type 0 where
-  pub limits : Limits
-  pub limits_are : HasLimits before.texts run.limits limits
-  pub session : ℕ
-  pub in_range : session < length run.sessions
-  pub rose : ReadRose before after (session_name run session)
-  pub told : Tells before after read_fault_text 5 status
+pub record HasUnopenedSession (run : RunWords) (before after : PortsValue) (status : ℕ) : Type 0
+  where
+    pub limits : Limits
+    pub limits_are : HasLimits before.texts run.limits limits
+    pub session : ℕ
+    pub in_range : session < length run.sessions
+    pub rose : ReadRose before after (session_name run session)
+    pub told : Tells before after read_fault_text 5 status
 
 -- An output of a session could not be created, behind limits that are served.
 pub record HasRefusedOutput (run : RunWords) (before after : PortsValue) (status : ℕ) : Type 0 where
@@ -113,19 +119,12 @@ pub record HasRefusedOutput (run : RunWords) (before after : PortsValue) (status
   pub told : Tells before after write_fault_text 6 status
 
 -- the journal stands whole, or its name's write count rose
-abbrev pub HasJournal : PortsValue → PortsValue → RunWords → List (List Act) → List (List Line) → Bool
+abbrev pub HasJournal : PortsValue → PortsValue → RunWords → List (List Act) → List (List Line) →
+    Bool
     → Type 0
 HasJournal before after run acts lines false =
     Holds after.texts (journal_name run.out) (journal_text acts lines)
 HasJournal before after run acts lines true = WriteRose before after (journal_name run.out)
-
--- what is told at a status after the sessions
-abbrev pub text_after : ℕ → List ℕ
-text_after status =
-    if status == 0 then codes "status 0" ++ 10 ∷ []
-    else (if status == 4 then codes "status 4" ++ 10 ∷ []
-    else (if status == 5 then read_fault_text
-    else (if status == 6 then write_fault_text else not_built_text)))
 
 -- names that are no outputs keep their texts
 abbrev pub KeepsOthers : PortsValue → PortsValue → RunWords → Type 0
@@ -138,9 +137,10 @@ abbrev pub AreInputs : Option Texts → List (List ℕ) → List (List ℕ) → 
 AreInputs told names inputs =
     IfSome told (λ texts. map texts names ≡ map (λ bytes. Some bytes) inputs)
 
--- The sessions were run: each did what its end says, all together have one legal history in each tree,
--- and the journal tells it.
-pub record HasRun (run : RunWords) (before after : PortsValue) (status : ℕ) : Type 0 where
+-- The sessions were run: each did, with its own set of these screens, what its end says, all
+-- together have one legal history in each tree, and the journal tells it.
+pub record HasRun (run : RunWords) (sets : List (List ScreenValue)) (before after : PortsValue)
+    (status : ℕ) : Type 0 where
   pub limits : Limits
   pub inputs : List (List ℕ)
   pub acts : List (List Act)
@@ -158,31 +158,34 @@ pub record HasRun (run : RunWords) (before after : PortsValue) (status : ℕ) : 
   pub each : (session : ℕ) (bytes : List ℕ) (own : List Act) (end : End)
       → slice_get inputs session ≡ Some bytes → slice_get acts session ≡ Some own
       → slice_get ends session ≡ Some end
-      → EndHolds limits before after run session bytes own end
+      → EndHolds limits (armed_for limits (set_of sets session)) before after run session bytes own
+      end
   pub history : IsHistory limits acts lines
   pub journal : HasJournal before after run acts lines refused
   pub others : KeepsOthers before after run
   pub told : let standing = standing_of ends refused in
-      Tells before after (text_after standing) standing status
+      Tells before after (totals_of limits acts ends lines standing) standing status
 
 -- a run that came behind its limits, to its sessions' names or to their end
-abbrev pub SessionsWent : RunWords → PortsValue → PortsValue → ℕ → Type 0
-SessionsWent run before after status =
+abbrev pub SessionsWent : RunWords → List (List ScreenValue) → PortsValue → PortsValue → ℕ → Type 0
+SessionsWent run sets before after status =
     HasUnopenedSession run before after status ⊎ HasRefusedOutput run before after status
-    ⊎ HasRun run before after status
+    ⊎ HasRun run sets before after status
 
 -- a run that came as far as its limit file, or behind it
-abbrev pub RunWent : RunWords → PortsValue → PortsValue → ℕ → Type 0
-RunWent run before after status =
+abbrev pub RunWent : RunWords → List (List ScreenValue) → PortsValue → PortsValue → ℕ → Type 0
+RunWent run sets before after status =
     HasUnreadLimits run before after status ⊎ HasRefusedLimits run before after status
-    ⊎ HasOtherLimits run before after status ⊎ SessionsWent run before after status
+    ⊎ HasOtherLimits run before after status ⊎ SessionsWent run sets before after status
 
 -- the way of a command
-abbrev pub CommandWent : List (List ℕ) → Option Command → PortsValue → PortsValue → ℕ → Type 0
-CommandWent words None before after status = HasNoForm words before after status
-CommandWent words (Some (Run run)) before after status = RunWent run before after status
+abbrev pub CommandWent : List (List ℕ) → Option Command → List (List ScreenValue) → PortsValue
+    → PortsValue → ℕ → Type 0
+CommandWent words None sets before after status = HasNoForm words before after status
+CommandWent words (Some (Run run)) sets before after status = RunWent run sets before after status
 
--- The call answered 8 for want of memory, or went the way of its words.
-abbrev pub GateRun : List (List ℕ) → PortsValue → PortsValue → ℕ → Type 0
-GateRun words before after status =
-    (status ≡ 8) ⊎ CommandWent words (command_of words) before after status
+-- The call, with a set of screens for each session, answered 8 for want of memory, or went the way
+-- of its words.
+abbrev pub GateRun : List (List ℕ) → List (List ScreenValue) → PortsValue → PortsValue → ℕ → Type 0
+GateRun words sets before after status =
+    (status ≡ 8) ⊎ CommandWent words (command_of words) sets before after status

@@ -1,8 +1,14 @@
 pub mod Words
 pub mod Run
+pub mod Totals
 pub mod Gate
 pub mod CommandOf
+pub mod Names
 pub mod Limits
 pub mod Statuses
 pub mod Boards
 pub mod Stages
+pub mod Objects
+pub mod Finish
+pub mod Room
+pub mod WholeInputs

@@ -1,16 +1,14 @@
 -- Which limit files a run is held to, and what is told of a text that isn't one.
-use Rattle.std.specs.Prelude.{◌≡◌, ℕ, ◌==◌, ◌&&◌, List, [], ◌∷◌, ◌++◌, length, Bool, false}
+use Rattle.std.specs.Prelude.{◌≡◌, ℕ, ◌==◌, List, [], ◌∷◌, ◌++◌, length, Bool, false}
 use Rattle.std.specs.Prelude.{IsTrue, codes, decimal}
-use Rattle.std.specs.Option.{is_none}
 use Rattle.limit_table.specs.Files.{IsLimitFile}
 use Rattle.limit_table.specs.declared.fault.LimitFault.{LimitFault}
 use Rattle.limit_table.specs.declared.fault.LimitFault.TheVariants as fault
 use Rattle.limit_table.specs.declared.limits.Limits.{Limits}
 
--- The program serves these limits: no number that trips the halt, no setting of the screen of repeats,
--- and no dropped screen.
+-- The program serves these limits: they drop no screen.
 abbrev pub is_served : Limits → Bool
-is_served limits = is_none limits.trip && limits.repeat == 0 && length limits.off == 0
+is_served limits = length limits.off == 0
 
 -- the text is a limit file with these limits, which are served
 pub record AreLimits (text : List ℕ) (limits : Limits) : Type 0 where

@@ -1,4 +1,5 @@
--- What the sessions of a run did together, and what is left of it in a folder and on standard output.
+-- What the sessions of a run did together, and what is left of it in a folder and on standard
+-- output.
 use Rattle.std.specs.Prelude.{◌≡◌, ℕ, List, [], length, map, Option, Some, IfSome, slice_get}
 use Rattle.std.specs.Prelude.{Bool, true, false, ◌⊎◌, ◌||◌, if◌then◌else◌}
 use Rattle.std.specs.List.{list_any, slice_index_or}
@@ -14,6 +15,7 @@ use Rattle.session_engine.specs.Trees.{tree_count, fold_of, limit_of}
 use Rattle.risk_journal.specs.ActLists.{events_of}
 use Rattle.session_engine.specs.Admitted.{StaysWithin}
 use Rattle.gate_program.specs.Words.{RunWords, venue_name, client_name}
+use Rattle.screen_kit.specs.Screens.{ScreenValue}
 use Rattle.session_engine.specs.Follows.{FollowsInput}
 
 -- a folder and standard output at a moment: texts and counts of faults by name, where they are told
@@ -46,33 +48,36 @@ OutputRose before after run session =
 abbrev pub session_name : RunWords → ℕ → List ℕ
 session_name run session = slice_index_or run.sessions session []
 
--- A session whose end is by its bytes: its acts and both its outputs follow its input, where the
--- folder tells its texts.
-abbrev pub FollowsText : Limits → PortsValue → RunWords → ℕ → List ℕ → List Act → End → Type 0
-FollowsText limits after run session bytes acts end =
+-- the screens of a session: the set in its place
+abbrev pub set_of : List (List ScreenValue) → ℕ → List ScreenValue
+set_of sets session = slice_index_or sets session []
+
+-- A session whose end is by its bytes: its acts and both its outputs follow its input, with these
+-- screens, armed, where the folder tells its texts.
+abbrev pub FollowsText : Limits → List ScreenValue → PortsValue → RunWords → ℕ → List ℕ
+    → List Act → End → Type 0
+FollowsText limits screens after run session bytes acts end =
     IfSome after.texts (λ texts. (venue : List ℕ) × (client : List ℕ)
     × (texts (venue_name run.out session) ≡ Some venue)
     × (texts (client_name run.out session) ≡ Some client)
-    × FollowsInput limits bytes acts end venue client)
+    × FollowsInput limits screens bytes acts end venue client)
 
--- what is known of a session of these bytes by its end
-abbrev pub EndHolds : Limits → PortsValue → PortsValue → RunWords → ℕ → List ℕ → List Act → End
-    → Type 0
-EndHolds limits before after run session bytes acts ending.ReadFault =
+-- what is known of a session of these bytes, with these screens, armed, by its end
+abbrev pub EndHolds : Limits → List ScreenValue → PortsValue → PortsValue → RunWords → ℕ → List ℕ
+    → List Act → End → Type 0
+EndHolds limits screens before after run session bytes acts ending.ReadFault =
     ReadRose before after (session_name run session)
-EndHolds limits before after run session bytes acts ending.WriteFault =
+EndHolds limits screens before after run session bytes acts ending.WriteFault =
     OutputRose before after run session
-EndHolds limits before after run session bytes acts ending.Memory = Unit {0}
-EndHolds limits before after run session bytes acts ending.Whole =
-    FollowsText limits after run session bytes acts ending.Whole
-EndHolds limits before after run session bytes acts (ending.Cut place) =
-    FollowsText limits after run session bytes acts (ending.Cut place)
-EndHolds limits before after run session bytes acts (ending.Broken place) =
-    FollowsText limits after run session bytes acts (ending.Broken place)
-EndHolds limits before after run session bytes acts (ending.TooLong place) =
-    FollowsText limits after run session bytes acts (ending.TooLong place)
-EndHolds limits before after run session bytes acts (ending.NotBuilt place) =
-    FollowsText limits after run session bytes acts (ending.NotBuilt place)
+EndHolds limits screens before after run session bytes acts ending.Memory = Unit {0}
+EndHolds limits screens before after run session bytes acts ending.Whole =
+    FollowsText limits screens after run session bytes acts ending.Whole
+EndHolds limits screens before after run session bytes acts (ending.Cut place) =
+    FollowsText limits screens after run session bytes acts (ending.Cut place)
+EndHolds limits screens before after run session bytes acts (ending.Broken place) =
+    FollowsText limits screens after run session bytes acts (ending.Broken place)
+EndHolds limits screens before after run session bytes acts (ending.TooLong place) =
+    FollowsText limits screens after run session bytes acts (ending.TooLong place)
 
 -- each tree has one legal history, and what is admitted in it stays within its limit
 pub record IsHistory (limits : Limits) (acts : List (List Act)) (lines : List (List Line))
@@ -97,10 +102,6 @@ abbrev pub is_read_fault : End → Bool
 is_read_fault ending.ReadFault = true
 is_read_fault other = false
 
-abbrev pub is_not_built : End → Bool
-is_not_built (ending.NotBuilt place) = true
-is_not_built other = false
-
 -- the input ends within a frame, or stands there no frame, or one too long
 abbrev pub is_cut_short : End → Bool
 is_cut_short (ending.Cut place) = true
@@ -109,11 +110,10 @@ is_cut_short (ending.TooLong place) = true
 is_cut_short other = false
 
 -- The status after the sessions, by their ends and by whether the journal could not be written: the
--- first of 8, 6, 5, 9, 4 and 0 that applies.
+-- first of 8, 6, 5, 4 and 0 that applies.
 abbrev pub standing_of : List End → Bool → ℕ
 standing_of ends refused =
     if list_any is_memory ends then 8
     else (if refused || list_any is_write_fault ends then 6
     else (if list_any is_read_fault ends then 5
-    else (if list_any is_not_built ends then 9
-    else (if list_any is_cut_short ends then 4 else 0))))
+    else (if list_any is_cut_short ends then 4 else 0)))

@@ -1,28 +1,29 @@
 -- What each stage of a run leaves in its folder.
-use Rattle.std.specs.Prelude.{◌≡◌, ℕ, List, [], ◌∷◌, ◌++◌, length, Option, Some, None, IfSome, ◌⊎◌}
-use Rattle.std.specs.Prelude.{MatchOption, Bool, false}
+use Rattle.std.specs.Prelude.{◌≡◌, ℕ, List, ◌++◌, length, Option, Some, None, IfSome, ◌⊎◌}
+use Rattle.std.specs.Prelude.{MatchOption, false, ◌<◌}
 use Rattle.std.specs.Str.{bytes_eq}
 use Rattle.gate_ports.specs.Faults.{NeverFalls}
 use Rattle.gate_ports.specs.Names.{Texts, with_text, IsThere, IsOpened, IsEmptySink, MeansName}
-use Rattle.risk_board.specs.declared.hand.Line.{Line}
-use Rattle.risk_journal.specs.declared.acts.Act.{Act}
-use Rattle.risk_journal.specs.declared.acts.End.{End}
-use Rattle.risk_journal.specs.declared.acts.End.TheVariants as ending
 use Rattle.gate_program.specs.declared.status.Status.{Status}
 use Rattle.gate_program.specs.declared.status.Status.TheVariants as status
-use Rattle.limit_table.specs.declared.limits.Limits.{Limits}
-use Rattle.gate_program.specs.Words.{RunWords, venue_name, client_name, journal_name}
-use Rattle.gate_program.specs.Words.{output_names, is_among}
-use Rattle.gate_program.specs.Run.{PortsValue, ReadRose, WriteRose, OutputRose, session_name}
-use Rattle.gate_program.specs.Run.{standing_of}
-use Rattle.session_engine.specs.Follows.{IsByInput, FollowsSource}
+use Rattle.gate_program.specs.Words.{RunWords, venue_name, client_name}
+use Rattle.gate_program.specs.Run.{PortsValue, ReadRose, WriteRose, session_name}
 use Rattle.limit_table.specs.Files.{IsFirstFault}
 use Rattle.limit_table.specs.declared.fault.LimitFault.{LimitFault}
 use Rattle.limit_table.specs.declared.fault.LimitFault.TheVariants as fault
 use Rattle.gate_program.specs.Limits.{AreUnserved}
-use Rattle.gate_program.specs.Boards.{HasLines, HasPlayed}
-use Rattle.gate_program.specs.declared.boards.Boards.{Boards}
-use Rattle.gate_program.specs.Gate.{HasUnserved, IsRefused, HasJournal}
+use Rattle.gate_program.specs.Gate.{HasUnserved, IsRefused}
+
+-- a folder as clauses name it, beside a standard output that got this text
+abbrev pub folder_with : {D : Type 0} → (D → Option Texts) → (D → List ℕ → ℕ) → (D → List ℕ → ℕ)
+    → List ℕ → D → PortsValue
+folder_with texts read_faults write_faults text folder = record {
+  texts = texts folder;
+  read_faults = read_faults folder;
+  write_faults = write_faults folder;
+  held = Some text;
+  out_faults = 0;
+}
 
 -- a folder as clauses name it, beside a standard output that tells nothing
 abbrev pub folder_of : {D : Type 0} → (D → Option Texts) → (D → List ℕ → ℕ) → (D → List ℕ → ℕ) → D
@@ -77,11 +78,6 @@ HasLimitsFault before after name status.NotBuilt = HasUnserved before.texts name
 HasLimitsFault before after name status.Memory = Unit {0}
 HasLimitsFault before after name other = ⊥
 
--- a status that tells a fault of the limit file tells that of the name's text
-abbrev pub TellsFault : Option Texts → List ℕ → Status → Type 0
-TellsFault told name (status.Limits why) = IsRefused told name why
-TellsFault told name other = Unit {0}
-
 -- why an output was not made
 abbrev pub IsUnmade : PortsValue → PortsValue → List ℕ → List ℕ → Status → Type 0
 IsUnmade before after venue client status.WriteFault =
@@ -122,7 +118,8 @@ pub record IsOwn (told : Option Texts) (name : List ℕ) (own : Option (List ℕ
   pub means : MeansName own name
   pub there : IsThere told name
 
--- Two names have what their sinks held, and each other name its text, where the folder tells them. A
+-- Two names have what their sinks held, and each other name its text, where the folder tells them.
+-- A
 -- folder that tells no texts tells none afterwards.
 abbrev pub AreClosed : Option Texts → Option Texts → List ℕ → List ℕ → Option (List ℕ)
     → Option (List ℕ) → Type 0
@@ -139,64 +136,9 @@ ChangesOnly before after name =
     (λ old. IfSome after (λ new. (other : List ℕ) → bytes_eq other name ≡ false
     → new other ≡ old other))
 
--- the names of the outputs of one session in a folder of outputs
-pub record AreOutputs (out venue client journal : List ℕ) : Type 0 where
-  pub venue_is : venue ≡ venue_name out 0
-  pub client_is : client ≡ client_name out 0
-  pub journal_is : journal ≡ journal_name out
-
--- what the texts are when the outputs and the journal are written
-pub record HasTexts (run : RunWords) (old new : Texts) (held_venue held_client : Option (List ℕ))
-    : Type 0 where
-  pub to_venue : List ℕ
-  pub to_client : List ℕ
-  pub venue_holds : new (venue_name run.out 0) ≡ Some to_venue
-  pub client_holds : new (client_name run.out 0) ≡ Some to_client
-  pub venue_told : IfSome held_venue (λ own. own ≡ to_venue)
-  pub client_told : IfSome held_client (λ own. own ≡ to_client)
-  pub others : (name : List ℕ) → is_among name (output_names run.out 1) ≡ false
-      → new name ≡ old name
-
--- the outputs and the journal are written, where the folder tells its texts
-abbrev pub AreWritten : RunWords → Option Texts → Option Texts → Option (List ℕ) → Option (List ℕ)
-    → Type 0
-AreWritten run before after held_venue held_client =
-    MatchOption before (after ≡ None)
-    (λ old. IfSome after (λ new. HasTexts run old new held_venue held_client))
-
--- The journal was written or refused, no other text changed, and the status is by that and by the
--- session's end.
-pub record HasStood (run : RunWords) (before after : PortsValue) (boards : Boards)
-    (acts : List Act) (end : End) (status : ℕ) : Type 0 where
-  pub lines : List (List Line)
-  pub refused : Bool
-  pub has_lines : HasLines boards lines
-  pub journal : HasJournal before after run (acts ∷ []) lines refused
-  pub others : ChangesOnly before.texts after.texts (journal_name run.out)
-  pub stands : status ≡ standing_of (end ∷ []) refused
-
--- the outputs were closed too
-pub record HasFinished (run : RunWords) (before after : PortsValue) (boards : Boards)
-    (acts : List Act) (end : End) (held_venue held_client : Option (List ℕ)) (status : ℕ)
-    : Type 0 where
-  pub lines : List (List Line)
-  pub refused : Bool
-  pub has_lines : HasLines boards lines
-  pub journal : HasJournal before after run (acts ∷ []) lines refused
-  pub written : AreWritten run before.texts after.texts held_venue held_client
-  pub stands : status ≡ standing_of (end ∷ []) refused
-
--- a session that was opened ran on boards of its own, was closed, and stands in the journal
-pub record HasEnded (limits : Limits) (run : RunWords) (before after : PortsValue)
-    (left held_venue held_client : Option (List ℕ)) (status : ℕ) : Type 0 where
-  pub boards : Boards
-  pub acts : List Act
-  pub end : End
-  pub venue_after : Option (List ℕ)
-  pub client_after : Option (List ℕ)
-  pub played : HasPlayed limits boards acts
-  pub follows : IsByInput end
-      → FollowsSource limits left acts end held_venue venue_after held_client client_after
-  pub read : end ≡ ending.ReadFault → ReadRose before after (session_name run 0)
-  pub write : end ≡ ending.WriteFault → OutputRose before after run 0
-  pub finished : HasFinished run before after boards acts end venue_after client_after status
+-- why a session of the run was not opened
+abbrev pub HasUnopened : RunWords → PortsValue → PortsValue → Status → Type 0
+HasUnopened run before after standing =
+    (session : ℕ) × (session < length run.sessions)
+    × IsUnopened before after (session_name run session) (venue_name run.out session)
+    (client_name run.out session) standing

@@ -1,9 +1,11 @@
--- The number of each status, and what is told at it.
+-- The number of each status and answer, and what is told at it.
 use Rattle.std.specs.Prelude.{ℕ, List, []}
 use Rattle.gate_program.specs.declared.status.Status.{Status}
 use Rattle.gate_program.specs.declared.status.Status.TheVariants as status
 use Rattle.gate_program.specs.Limits.{limits_fault_text}
-use Rattle.gate_program.specs.Gate.{usage_text, text_after}
+use Rattle.gate_program.specs.Gate.{usage_text, read_fault_text, write_fault_text, not_built_text}
+use Rattle.gate_program.specs.declared.status.Answer.{Answer}
+use Rattle.gate_program.specs.declared.status.Answer.TheVariants as answer
 
 -- the exit status of the program
 abbrev pub number_of : Status → ℕ
@@ -16,13 +18,25 @@ number_of status.WriteFault = 6
 number_of status.Memory = 8
 number_of status.NotBuilt = 9
 
--- what standard output is given; nothing where memory was wanting
+-- what is told of a run that stopped with this status; the statuses after sessions have their
+-- totals,
+-- and want of memory tells nothing
 abbrev pub told_text : Status → List ℕ
-told_text status.Done = text_after 0
+told_text status.Done = []
 told_text status.Usage = usage_text
 told_text (status.Limits why) = limits_fault_text why
-told_text status.CutShort = text_after 4
-told_text status.ReadFault = text_after 5
-told_text status.WriteFault = text_after 6
+told_text status.CutShort = []
+told_text status.ReadFault = read_fault_text
+told_text status.WriteFault = write_fault_text
 told_text status.Memory = []
-told_text status.NotBuilt = text_after 9
+told_text status.NotBuilt = not_built_text
+
+-- the exit status of an answer
+abbrev pub answer_number : Answer → ℕ
+answer_number (answer.Stopped s) = number_of s
+answer_number (answer.Ended s text) = number_of s
+
+-- what is told of an answer
+abbrev pub answer_text : Answer → List ℕ
+answer_text (answer.Stopped s) = told_text s
+answer_text (answer.Ended s text) = text.items

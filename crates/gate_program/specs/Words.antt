@@ -3,6 +3,7 @@ use Rattle.std.specs.Prelude.{ℕ, ◌+◌, ◌/◌, ◌%◌, ◌==◌, ◌&&◌
 use Rattle.std.specs.Prelude.{Option, Some, None, Bool, true, false, not, nat_le, if◌then◌else◌}
 use Rattle.std.specs.List.{list_all, list_any, flat_map, range_with_len}
 use Rattle.std.specs.Str.{bytes_eq}
+use Rattle.fold_law.specs.declared.limits.TheConstants.{SESSIONS}
 
 -- the words of a run: the limit file, the folder of outputs, and the sessions
 pub record RunWords : Type 0 where
@@ -52,9 +53,9 @@ abbrev pub are_distinct : List (List ℕ) → Bool
 are_distinct [] = true
 are_distinct (name ∷ names) = not (is_among name names) && are_distinct names
 
--- the most sessions of this stage
+-- the most sessions of a run
 abbrev pub session_most : ℕ
-session_most = 1
+session_most = SESSIONS
 
 -- A run has no empty word and none with a leading dash, one session to the most, no two of them
 -- equal, and neither the limit file nor a session is an output.

@@ -1,7 +1,8 @@
 //! The two boards of a run, and the lines of all their trees.
-ghost use Rattle.std.specs.Prelude.{◌≡◌, ◌++◌, length, map, IfOk, OnOk};
+ghost use Rattle.std.specs.Prelude.{◌≡◌, ◌≤◌, ◌++◌, length, map, IfOk, OnOk};
 ghost use Rattle.fold_law.specs.Whole.{whole_of};
 ghost use Rattle.limit_table.specs.Files.{IsHeldByFile};
+ghost use Rattle.gate_program.specs.Words.{session_most};
 ghost use Rattle.gate_program.specs.Boards.{AreOpened, HasTrees, HasLines, IsLegalBoard};
 
 use fold_law::{Fold, Max, Memory, Sum};
@@ -19,14 +20,15 @@ pub(crate) struct Boards {
     pub halt: PlainBoard<Max>,
 }
 
-/// Opens the boards of these limits for one session.
-pub(crate) fn open_boards(alloc: Global, limits: &Limits) -> Result<Boards, Memory>
-    requires { IsHeldByFile limits.now }
-    ensures { IfOk result (λ boards. AreOpened limits.now boards) }
+/// Opens the boards of these limits for so many sessions.
+pub(crate) fn open_boards(alloc: Global, limits: &Limits, sessions: u32) -> Result<Boards, Memory>
+    requires held { IsHeldByFile limits.now }
+    requires sessions { (1 ≤ sessions) × (sessions ≤ session_most) }
+    ensures { IfOk result (λ boards. AreOpened limits.now sessions boards) }
 {
     let trees = limits.halt_tree();
-    let sums = PlainBoard::open(alloc, trees, 1, limits.quota)?;
-    let halt = PlainBoard::open(alloc, 1, 1, limits.quota)?;
+    let sums = PlainBoard::open(alloc, trees, sessions, limits.quota)?;
+    let halt = PlainBoard::open(alloc, 1, sessions, limits.quota)?;
     Ok(Boards { trees, sums, halt })
 }
 

@@ -1,118 +1,196 @@
 //! The top call.
-ghost use Rattle.std.specs.Prelude.{◌≡◌, ◌⊎◌, map, string_bytes};
+ghost use Rattle.std.specs.Prelude.{◌≡◌, ◌⊎◌, ◌≤◌, IsTrue, IfOk, [], length, map, string_bytes};
 ghost use Rattle.gate_program.specs.CommandOf.{run_value};
+ghost use Rattle.gate_program.specs.Finish.{HasEnded};
 ghost use Rattle.gate_program.specs.Gate.{HasLimits, GateRun, RunWent, SessionsWent, ports_of};
+ghost use Rattle.gate_program.specs.Names.{AreNames};
+ghost use Rattle.gate_program.specs.Objects.{objects_of, EachOwn};
+ghost use Rattle.gate_program.specs.Room.{HasRoom, IsEmpty};
 ghost use Rattle.limit_table.specs.Files.{IsHeldByFile};
-ghost use Rattle.gate_program.specs.Stages.{folder_of, AreOutputs, IsOwn, HasEnded, TellsFault};
-ghost use Rattle.gate_program.specs.Statuses.{number_of};
+ghost use Rattle.gate_program.specs.Stages.{folder_of, folder_with};
+ghost use Rattle.gate_program.specs.Statuses.{answer_number, answer_text};
+ghost use Rattle.gate_program.specs.Words.{is_run, journal_name, session_most};
 
 use crate::boards::open_boards;
-use crate::close::{close_session, finish};
-use crate::open::{Opened, open_session, read_limits};
-use crate::play::play;
-use crate::status::Status;
-use crate::tell::tell;
-use crate::words::{Outputs, Run, command_from, outputs_in};
+use crate::close::close_sessions;
+use crate::finish::finish;
+use crate::names::{Names, names_in};
+use crate::open::{Opened, open_sessions, read_limits};
+use crate::play::{Ended, play_all, room_for};
+use crate::status::{Answer, Status};
+use crate::tell::{tell, tell_answer};
+use crate::words::{Run, command_from};
 use fold_law::Memory;
 use gate_ports::{Folder, Sink};
 use limit_table::Limits;
+use screen_kit::Screen;
+use session_engine::admitted_stays_within;
 use std::alloc::Global;
 
-/// Runs a session that was opened over boards of its own, closes it and writes the journal.
+/// What a run has by it before its sessions are opened: names, and room for what they do.
+#[derive(Drop)]
+struct Ready<S, K> {
+    names: Names,
+    room: Ended<S, K>,
+}
+
+/// Takes the memory for so many sessions.
+fn ready_for<S: Drop, K: Drop>(
+    alloc: Global,
+    out: &str,
+    count: usize,
+) -> Result<Ready<S, K>, Memory>
+    requires { count ≤ session_most }
+    ensures names { IfOk result (λ ready. AreNames out.now count ready.names.sessions.items) }
+    ensures journal { IfOk result (λ ready.
+        string_bytes ready.names.journal ≡ journal_name out.now) }
+    ensures empty { IfOk result (λ ready. IsEmpty ready.room) }
+    ensures room { IfOk result (λ ready. HasRoom count ready.room) }
+{
+    let names = names_in(alloc, out, count as u32)?;
+    let room = room_for(alloc, count)?;
+    Ok(Ready { names, room })
+}
+
+/// Runs sessions that were opened, with their screens over boards of their own, closes them and
+/// writes the journal.
 fn run_opened<D: Folder>(
     alloc: Global,
     run: &Run,
     limits: &Limits,
-    outputs: &Outputs,
-    opened: Opened<D::In, D::Out>,
+    ready: Ready<D::In, D::Out>,
+    screens: Vec<Vec<Box<dyn Screen + Send>>>,
+    opened: Vec<Opened<D::In, D::Out>>,
     folder: &mut D,
-) -> Status
+) -> Answer
     requires held { IsHeldByFile limits.now }
-    requires names { AreOutputs run.now.out.now (string_bytes outputs.now.venue)
-        (string_bytes outputs.now.client) (string_bytes outputs.now.journal) }
-    requires input { IsOwn (D.texts folder.old) run.now.session.now (D.In.name opened.input) }
-    requires venue { IsOwn (D.texts folder.old) (string_bytes outputs.now.venue)
-        (D.Out.name opened.sinks.venue) }
-    requires client { IsOwn (D.texts folder.old) (string_bytes outputs.now.client)
-        (D.Out.name opened.sinks.client) }
-    requires input_fresh { D.In.faults opened.input ≡ 0 }
-    requires venue_fresh { D.Out.faults opened.sinks.venue ≡ 0 }
-    requires client_fresh { D.Out.faults opened.sinks.client ≡ 0 }
-    ensures { (number_of result ≡ 8) ⊎ HasEnded limits.now (run_value run.now)
+    requires run { IsTrue (is_run (run_value run.now)) }
+    requires names { AreNames run.now.out.now (length run.now.sessions.now)
+        ready.names.sessions.items }
+    requires journal { string_bytes ready.names.journal ≡ journal_name run.now.out.now }
+    requires empty { IsEmpty ready.room }
+    requires room { HasRoom (length run.now.sessions.now) ready.room }
+    requires sets { length screens.items ≡ session_most }
+    requires many { length opened.items ≡ length run.now.sessions.now }
+    requires own { EachOwn (run_value run.now) (D.texts folder.old)
+        (map (objects_of D.In.left D.In.name D.In.faults D.Out.held D.Out.name D.Out.faults)
+        opened.items) }
+    ensures { (answer_number result ≡ 8) ⊎ HasEnded limits.now
+        (map (λ set. map (λ b. (Screen-box b).meaning b.value) set.items) screens.items)
+        (run_value run.now)
         (folder_of D.texts D.read_faults D.write_faults folder.old)
         (folder_of D.texts D.read_faults D.write_faults folder.new)
-        (D.In.left opened.input) (D.Out.held opened.sinks.venue)
-        (D.Out.held opened.sinks.client) (number_of result) }
+        (map (objects_of D.In.left D.In.name D.In.faults D.Out.held D.Out.name D.Out.faults)
+        opened.items) (answer_text result) (answer_number result) }
 {
-    match open_boards(alloc, limits) {
+    let Ready { names, room } = ready;
+    match open_boards(alloc, limits, run.sessions.len() as u32) {
         Ok(boards) => {
-            let played = play(alloc, limits, boards, opened);
-            finish(alloc, run, outputs, played, folder)
+            let finished = play_all(alloc, limits, boards, screens, opened, room);
+            finish(alloc, run, limits, &names, finished, folder)
         }
         Err(Memory) => {
-            close_session(run.session, outputs, opened, folder);
-            Status::Memory
+            close_sessions(run, &names.sessions, opened, folder);
+            Answer::Stopped(Status::Memory)
         }
     }
 }
 
-/// Runs the session of a run whose limits were read.
-fn run_limited<D: Folder>(alloc: Global, run: &Run, limits: &Limits, folder: &mut D) -> Status
+/// Runs the sessions of a run whose limits were read.
+fn run_limited<D: Folder>(
+    alloc: Global,
+    run: &Run,
+    limits: &Limits,
+    screens: Vec<Vec<Box<dyn Screen + Send>>>,
+    folder: &mut D,
+) -> Answer
+    requires run { IsTrue (is_run (run_value run.now)) }
     requires limits { HasLimits (D.texts folder.old) run.now.limits.now limits.now }
     requires held { IsHeldByFile limits.now }
-    ensures { (number_of result ≡ 8) ⊎ SessionsWent (run_value run.now)
-        (folder_of D.texts D.read_faults D.write_faults folder.old)
-        (folder_of D.texts D.read_faults D.write_faults folder.new) (number_of result) }
+    requires sets { length screens.items ≡ session_most }
+    ensures { (answer_number result ≡ 8) ⊎ SessionsWent (run_value run.now)
+        (map (λ set. map (λ b. (Screen-box b).meaning b.value) set.items) screens.items)
+        (folder_with D.texts D.read_faults D.write_faults [] folder.old)
+        (folder_with D.texts D.read_faults D.write_faults (answer_text result) folder.new)
+        (answer_number result) }
 {
-    let outputs = match outputs_in(alloc, run.out) {
-        Ok(outputs) => outputs,
-        Err(Memory) => return Status::Memory,
+    admitted_stays_within();
+    let ready = match ready_for(alloc, run.out, run.sessions.len()) {
+        Ok(ready) => ready,
+        Err(Memory) => return Answer::Stopped(Status::Memory),
     };
-    match open_session(run.session, &outputs, folder) {
-        Ok(opened) => run_opened(alloc, run, limits, &outputs, opened, folder),
-        Err(status) => status,
+    match open_sessions(alloc, run, &ready.names.sessions, folder) {
+        Ok(opened) => run_opened(alloc, run, limits, ready, screens, opened, folder),
+        Err(status) => Answer::Stopped(status),
     }
 }
 
 /// Does a run, but for what it tells.
-fn run_words<D: Folder>(alloc: Global, run: &Run, folder: &mut D) -> Status
-    ensures fault { TellsFault (D.texts folder.old) run.now.limits.now result }
-    ensures went { (number_of result ≡ 8) ⊎ RunWent (run_value run.now)
-        (folder_of D.texts D.read_faults D.write_faults folder.old)
-        (folder_of D.texts D.read_faults D.write_faults folder.new) (number_of result) }
+fn run_words<D: Folder>(
+    alloc: Global,
+    run: &Run,
+    screens: Vec<Vec<Box<dyn Screen + Send>>>,
+    folder: &mut D,
+) -> Answer
+    requires run { IsTrue (is_run (run_value run.now)) }
+    requires sets { length screens.items ≡ session_most }
+    ensures { (answer_number result ≡ 8) ⊎ RunWent (run_value run.now)
+        (map (λ set. map (λ b. (Screen-box b).meaning b.value) set.items) screens.items)
+        (folder_with D.texts D.read_faults D.write_faults [] folder.old)
+        (folder_with D.texts D.read_faults D.write_faults (answer_text result) folder.new)
+        (answer_number result) }
 {
     match read_limits(alloc, run.limits, folder) {
-        Ok(limits) => run_limited(alloc, run, &limits, folder),
-        Err(status) => status,
+        Ok(limits) => run_limited(alloc, run, &limits, screens, folder),
+        Err(status) => Answer::Stopped(status),
     }
 }
 
-/// Does a run, and tells its status. Where memory was wanting nothing is told.
-fn run_and_tell<D: Folder, O: Sink>(alloc: Global, run: &Run, folder: &mut D, out: &mut O) -> u8
+/// Does a run, and tells what it comes to.
+fn run_and_tell<D: Folder, O: Sink>(
+    alloc: Global,
+    run: &Run,
+    folder: &mut D,
+    out: &mut O,
+    screens: Vec<Vec<Box<dyn Screen + Send>>>,
+) -> u8
+    requires run { IsTrue (is_run (run_value run.now)) }
+    requires sets { length screens.items ≡ session_most }
     ensures { (result ≡ 8) ⊎ RunWent (run_value run.now)
+        (map (λ set. map (λ b. (Screen-box b).meaning b.value) set.items) screens.items)
         (ports_of D.texts D.read_faults D.write_faults O.held O.faults folder.old out.old)
         (ports_of D.texts D.read_faults D.write_faults O.held O.faults folder.new out.new) result }
 {
-    let status = run_words(alloc, run, folder);
-    if status.number() == Status::Memory.number() {
+    let answer = run_words(alloc, run, screens, folder);
+    if answer.number() == Status::Memory.number() {
         return Status::Memory.number();
     }
-    tell(alloc, out, status)
+    tell_answer(alloc, out, answer)
 }
 
 /// Does what the words ask for, and answers the status of the program.
 ///
-/// `words` doesn't hold the program's name. The statuses are 0 where all was read and written, 2 where
-/// the words are no form, 3 where the limit file is refused, 4 after a session that ends within a frame
-/// or with none, 5 and 6 after a fault of reading or of writing, 8 for want of memory, and 9 where a
-/// row of the limit file isn't served yet or the session has a form that isn't built yet.
-pub fn gate<D: Folder, O: Sink>(alloc: Global, words: &[String], folder: &mut D, out: &mut O) -> u8
+/// `words` doesn't hold the program's name. There is a set of screens for each session that a run
+/// may have: a session's is the one in its place, and those that no session takes are dropped. The
+/// statuses are 0 where all was read and written, 2 where the words are no form, 3 where the limit
+/// file is refused, 4 after a session that ends within a frame or with none, 5 and 6 after a fault
+/// of reading or of writing, 8 for want of memory, and 9 where a row of the limit file isn't served
+/// yet.
+pub fn gate<D: Folder, O: Sink>(
+    alloc: Global,
+    words: &[String],
+    folder: &mut D,
+    out: &mut O,
+    screens: Vec<Vec<Box<dyn Screen + Send>>>,
+) -> u8
+    requires sets { length screens.items ≡ session_most }
     ensures run { GateRun (map string_bytes words.now)
+        (map (λ set. map (λ b. (Screen-box b).meaning b.value) set.items) screens.items)
         (ports_of D.texts D.read_faults D.write_faults O.held O.faults folder.old out.old)
         (ports_of D.texts D.read_faults D.write_faults O.held O.faults folder.new out.new) result }
 {
     match command_from(words) {
-        Some(run) => run_and_tell(alloc, &run, folder, out),
+        Some(run) => run_and_tell(alloc, &run, folder, out, screens),
         None => tell(alloc, out, Status::Usage),
     }
 }

@@ -28,7 +28,7 @@ pub(crate) fn limits_from(alloc: Global, text: &[u8]) -> Result<Limits, Status>
 fn is_served(limits: &Limits) -> bool
     ensures { result ≡ is_served limits.now }
 {
-    limits.trip.is_none() && limits.repeat == 0 && limits.off.rows().is_empty()
+    limits.off.rows().is_empty()
 }
 
 /// The status of a text that is refused for this fault.

@@ -1,25 +1,39 @@
-//! The gate: the words of its command line, its limit file, its session and its journal.
+//! The gate: the words of its command line, its limit file, its sessions, its journal and its
+//! totals.
 #![tactic(auto)]
 
 mod boards;
 mod close;
 mod command;
+mod completeness;
+mod finish;
 #[cfg(test)]
 mod leaf_tests;
 mod limits;
+mod names;
 mod open;
 mod play;
 #[cfg(test)]
 mod run_tests;
+#[cfg(test)]
+mod screen_tests;
+mod sets;
 mod status;
 mod tell;
 #[cfg(test)]
+mod test_screens;
+#[cfg(test)]
 mod tests;
+mod totals;
+#[cfg(test)]
+mod turn_tests;
 mod words;
 
 pub use command::gate;
+pub use completeness::whole_inputs_are_done;
 use fold_law::Memory;
 use gate_ports::{RealFolder, RealOut};
+use sets::gate_with_screens;
 use status::Status;
 use std::alloc::Global;
 use std::env;
@@ -36,7 +50,8 @@ fn words_behind_name<R: Env + Alloc<A = Global>>(rt: &R) -> Result<Vec<String>, 
     }
 }
 
-/// Does what the command line asks for over the system's files, and ends with the status.
+/// Does what the command line asks for over the system's files, with the program's own screens, and
+/// ends with the status.
 fn main(rt: HostRuntime) -> ExitCode {
     let words = match words_behind_name(&rt) {
         Ok(words) => words,
@@ -44,5 +59,8 @@ fn main(rt: HostRuntime) -> ExitCode {
     };
     let mut folder = RealFolder::new(&rt);
     let mut out = RealOut::new(&rt);
-    ExitCode::from(gate(rt.alloc(), &words, &mut folder, &mut out))
+    match gate_with_screens(rt.alloc(), &words, &mut folder, &mut out) {
+        Ok(status) => ExitCode::from(status),
+        Err(_) => ExitCode::from(Status::Memory.number()),
+    }
 }

@@ -1,15 +1,21 @@
 //! What is read and opened before a session runs.
-ghost use Rattle.std.specs.Prelude.{◌≡◌, ◌+◌, [], IfOk, IfErr, string_bytes};
+ghost use Rattle.std.specs.Prelude.{◌≡◌, ◌+◌, [], IfOk, IfErr, IsTrue, length, map, string_bytes};
 ghost use Rattle.std.specs.Option.{option_map};
 ghost use Rattle.limit_table.specs.Files.{IsHeldByFile};
 ghost use Rattle.gate_program.specs.Stages.{folder_of, Went, HasFront, HasLimitsFault};
 ghost use Rattle.gate_program.specs.Gate.{HasLimits};
 ghost use Rattle.gate_program.specs.Stages.{IsUnread, IsUnmade, IsUnopened, IsNewSource, IsNewSink};
-ghost use Rattle.gate_program.specs.Stages.{with_two};
+ghost use Rattle.gate_program.specs.Stages.{with_two, HasUnopened};
+ghost use Rattle.gate_program.specs.Words.{is_run};
+ghost use Rattle.gate_program.specs.CommandOf.{run_value};
+ghost use Rattle.gate_program.specs.Names.{AreNames};
+ghost use Rattle.gate_program.specs.Objects.{objects_of, HasOpened};
 
+use crate::close::close_sessions;
 use crate::limits::limits_from;
+use crate::names::Outputs;
 use crate::status::Status;
-use crate::words::Outputs;
+use crate::words::Run;
 use gate_ports::{FetchEnd, Folder, PortFault, fetch_up_to};
 use limit_table::Limits;
 use std::alloc::Global;
@@ -151,4 +157,40 @@ pub(crate) fn open_session<D: Folder>(
             Err(status)
         }
     }
+}
+
+/// Opens the sessions of a run in their order, each with its outputs. Where one can't be opened
+/// those
+/// before it are given back, and their outputs closed empty.
+pub(crate) fn open_sessions<D: Folder>(
+    alloc: Global,
+    run: &Run,
+    names: &[Outputs],
+    folder: &mut D,
+) -> Result<Vec<Opened<D::In, D::Out>>, Status>
+    requires run { IsTrue (is_run (run_value run.now)) }
+    requires names { AreNames run.now.out.now (length run.now.sessions.now) names.now }
+    ensures ok { IfOk result (λ all. HasOpened (run_value run.now)
+        (folder_of D.texts D.read_faults D.write_faults folder.old)
+        (folder_of D.texts D.read_faults D.write_faults folder.new)
+        (map (objects_of D.In.left D.In.name D.In.faults D.Out.held D.Out.name D.Out.faults)
+        all.items)) }
+    ensures many { IfOk result (λ all. length all.items ≡ length run.now.sessions.now) }
+    ensures err { IfErr result (λ status. HasUnopened (run_value run.now)
+        (folder_of D.texts D.read_faults D.write_faults folder.old)
+        (folder_of D.texts D.read_faults D.write_faults folder.new) status) }
+{
+    let Ok(mut all) = Vec::with_capacity(alloc, run.sessions.len()) else {
+        return Err(Status::Memory);
+    };
+    for session in 0..run.sessions.len() {
+        match open_session(run.sessions[session].as_str(), &names[session], folder) {
+            Ok(opened) => all.push_reserved(opened),
+            Err(status) => {
+                close_sessions(run, names, all, folder);
+                return Err(status);
+            }
+        }
+    }
+    Ok(all)
 }

@@ -1,32 +1,29 @@
-//! A session over plain boards of its own.
-ghost use Rattle.std.specs.Prelude.{◌≡◌, ◌⊎◌, map};
-ghost use Rattle.gate_ports.specs.Faults.{Rose};
+//! The sessions of a run, one after another over the same two plain boards.
+ghost use Rattle.std.specs.Prelude.{◌≡◌, ◌≤◌, [], length, map, IfOk};
 ghost use Rattle.limit_table.specs.Files.{IsHeldByFile};
-ghost use Rattle.session_engine.specs.Follows.{IsByInput, FollowsSource};
 ghost use Rattle.risk_journal.specs.ActLists.{placed};
-ghost use Rattle.gate_program.specs.Boards.{AreOpened, HasPlayed, HasTrees};
+ghost use Rattle.gate_program.specs.Boards.{AreOpened, IsReady, HasRunOn, HasPlayed, HasTrees};
+ghost use Rattle.gate_program.specs.Objects.{objects_of, HasDone, HaveDone};
+ghost use Rattle.gate_program.specs.Room.{HasRoom, IsEmpty};
+ghost use Rattle.gate_program.specs.Words.{session_most};
 
 use crate::boards::Boards;
 use crate::open::{Opened, Sinks};
+use fold_law::Memory;
 use gate_ports::{Sink, Source};
 use limit_table::Limits;
 use risk_journal::{Act, End, set_places};
+use screen_kit::Screen;
 use session_engine::{Hands, SessionDone, places_are_free, run_session};
 use std::alloc::Global;
 
-/// What a session did, how it ended, and the boards that it ran on.
-#[derive(Drop)]
-pub(crate) struct Ended {
-    pub acts: Vec<Act>,
-    pub end: End,
-    pub boards: Boards,
-}
-
-/// A session that has run, with its objects.
+/// A session that has run: what it did, how it ended, its objects, and the boards behind it.
 #[derive(Drop)]
 pub(crate) struct Played<S, K> {
-    pub ended: Ended,
+    pub acts: Vec<Act>,
+    pub end: End,
     pub opened: Opened<S, K>,
+    pub boards: Boards,
 }
 
 /// The acts with the place of each read by its stamp.
@@ -38,43 +35,33 @@ fn with_places(acts: Vec<Act>) -> Vec<Act>
     acts
 }
 
-/// Runs a session over empty boards, and sets the place of each read to its stamp.
-pub(crate) fn play<S: Source, K: Sink>(
+/// Runs a session with its screens over its hands of the boards, and sets the place of each read to
+/// its stamp.
+fn play<S: Source, K: Sink>(
     alloc: Global,
     limits: &Limits,
+    session: u32,
     boards: Boards,
+    screens: Vec<Box<dyn Screen + Send>>,
     opened: Opened<S, K>,
 ) -> Played<S, K>
     requires held { IsHeldByFile limits.now }
-    requires opened { AreOpened limits.now boards }
-    ensures played { HasPlayed limits.now result.ended.boards result.ended.acts.items }
-    ensures trees { HasTrees result.ended.boards }
-    ensures follows { IsByInput result.ended.end → FollowsSource limits.now
-        (S.left opened.input) result.ended.acts.items result.ended.end
-        (K.held opened.sinks.venue) (K.held result.opened.sinks.venue)
-        (K.held opened.sinks.client) (K.held result.opened.sinks.client) }
-
-    // A fault that ends the session is one of its own objects.
-    ensures read_fault { result.ended.end ≡ End.ReadFault
-        → Rose (S.faults opened.input) (S.faults result.opened.input) }
-    ensures write_fault { result.ended.end ≡ End.WriteFault
-        → Rose (K.faults opened.sinks.venue) (K.faults result.opened.sinks.venue)
-        ⊎ Rose (K.faults opened.sinks.client) (K.faults result.opened.sinks.client) }
-
-    // The objects are those that were opened.
-    ensures input_name { S.name result.opened.input ≡ S.name opened.input }
-    ensures venue_name { K.name result.opened.sinks.venue ≡ K.name opened.sinks.venue }
-    ensures client_name { K.name result.opened.sinks.client ≡ K.name opened.sinks.client }
+    requires ready { IsReady limits.now session boards }
+    ensures ran { HasRunOn limits.now session boards result.boards result.acts.items }
+    ensures done { HasDone limits.now (map (λ b. (Screen-box b).meaning b.value) screens.items)
+        (objects_of S.left S.name S.faults K.held K.name K.faults opened)
+        (objects_of S.left S.name S.faults K.held K.name K.faults result.opened)
+        result.acts.items result.end }
 {
     places_are_free();
     let Opened { input, sinks } = opened;
     let Sinks { venue, client } = sinks;
     let Boards { trees, sums, halt } = boards;
     let hands = Hands {
-        sum: sums.hand(0),
-        halt: halt.hand(0),
+        sum: sums.hand(session),
+        halt: halt.hand(session),
     };
-    let done = run_session(alloc, limits, hands, input, venue, client);
+    let done = run_session(alloc, limits, hands, screens, input, venue, client);
     let SessionDone {
         hands,
         acts,
@@ -84,20 +71,91 @@ pub(crate) fn play<S: Source, K: Sink>(
         client,
     } = done;
     let Hands { sum, halt } = hands;
-    let boards = Boards {
-        trees,
-        sums: sum.give_back(),
-        halt: halt.give_back(),
-    };
     Played {
-        ended: Ended {
-            acts: with_places(acts),
-            end,
-            boards,
-        },
+        acts: with_places(acts),
+        end,
         opened: Opened {
             input: source,
             sinks: Sinks { venue, client },
         },
+        boards: Boards {
+            trees,
+            sums: sum.give_back(),
+            halt: halt.give_back(),
+        },
     }
+}
+
+/// What sessions did, how each ended, and their objects, all in the order of the sessions.
+#[derive(Drop)]
+pub(crate) struct Ended<S, K> {
+    pub acts: Vec<Vec<Act>>,
+    pub ends: Vec<End>,
+    pub opened: Vec<Opened<S, K>>,
+}
+
+/// Room for so many sessions that have ended.
+pub(crate) fn room_for<S: Drop, K: Drop>(alloc: Global, count: usize) -> Result<Ended<S, K>, Memory>
+    ensures empty { IfOk result (λ room. IsEmpty room) }
+    ensures room { IfOk result (λ room. HasRoom count room) }
+{
+    let Ok(acts) = Vec::with_capacity(alloc, count) else {
+        return Err(Memory);
+    };
+    let Ok(ends) = Vec::with_capacity(alloc, count) else {
+        return Err(Memory);
+    };
+    let Ok(opened) = Vec::with_capacity(alloc, count) else {
+        return Err(Memory);
+    };
+    Ok(Ended { acts, ends, opened })
+}
+
+/// Sessions that have ended, and the boards behind them.
+#[derive(Drop)]
+pub(crate) struct Finished<S, K> {
+    pub ended: Ended<S, K>,
+    pub boards: Boards,
+}
+
+/// Runs the sessions that were opened, one after another, each with the set of screens in its
+/// place. There is room for them.
+pub(crate) fn play_all<S: Source, K: Sink>(
+    alloc: Global,
+    limits: &Limits,
+    boards: Boards,
+    screens: Vec<Vec<Box<dyn Screen + Send>>>,
+    opened: Vec<Opened<S, K>>,
+    room: Ended<S, K>,
+) -> Finished<S, K>
+    requires held { IsHeldByFile limits.now }
+    requires few { length opened.items ≤ session_most }
+    requires opened { AreOpened limits.now (length opened.items) boards }
+    requires sets { length opened.items ≤ length screens.items }
+    requires empty { IsEmpty room }
+    requires room { HasRoom (length opened.items) room }
+    ensures played { HasPlayed limits.now result.boards
+        (map (λ own. own.items) result.ended.acts.items) }
+    ensures trees { HasTrees result.boards }
+    ensures done { HaveDone limits.now
+        (map (λ set. map (λ b. (Screen-box b).meaning b.value) set.items) screens.items)
+        (map (objects_of S.left S.name S.faults K.held K.name K.faults) opened.items)
+        (map (objects_of S.left S.name S.faults K.held K.name K.faults) result.ended.opened.items)
+        (map (λ own. own.items) result.ended.acts.items) result.ended.ends.items }
+{
+    let count = opened.len() as u32;
+    let mut opened = opened;
+    let mut screens = screens;
+    let mut boards = boards;
+    let mut ended = room;
+    for session in 0..count {
+        let next = opened.remove(0);
+        let set = screens.remove(0);
+        let played = play(alloc, limits, session, boards, set, next);
+        boards = played.boards;
+        ended.acts.push_reserved(played.acts);
+        ended.ends.push_reserved(played.end);
+        ended.opened.push_reserved(played.opened);
+    }
+    Finished { ended, boards }
 }

@@ -1,7 +1,7 @@
 //! Whole runs of one session over a folder in memory, byte by byte. No clause says that memory isn't
 //! wanting, nor what a worked row gives.
 use crate::command::gate;
-use crate::tests::words_of;
+use crate::tests::{no_screens, words_of};
 use gate_ports::{Folder, MemFolder, MemSink};
 use std::test::*;
 
@@ -30,7 +30,12 @@ const ROWS: [Row; 15] = [
         client: b"",
         journal: b"kind,session,a,b,c,d\nended,0,0,,,\n",
         status: 0,
-        told: b"status 0\n",
+        told: b"session 0 whole sent 0 refused 0 noted 0\n\
+            tree 0 firm - posts 0 root 0 limit 1000\n\
+            tree 1 account ACC posts 0 root 0 limit 100000\n\
+            tree 2 symbol XYZ posts 0 root 0 limit 100000\n\
+            tree 3 halt - posts 0 root 0 limit 0\n\
+            status 0\n",
     },
     Row {
         name: "at the limit",
@@ -54,7 +59,12 @@ const ROWS: [Row; 15] = [
             line,0,1,1,1,1000\n\
             line,0,2,1,1,1000\n",
         status: 0,
-        told: b"status 0\n",
+        told: b"session 0 whole sent 1 refused 0 noted 0\n\
+            tree 0 firm - posts 1 root 1000 limit 1000\n\
+            tree 1 account ACC posts 1 root 1000 limit 100000\n\
+            tree 2 symbol XYZ posts 1 root 1000 limit 100000\n\
+            tree 3 halt - posts 0 root 0 limit 0\n\
+            status 0\n",
     },
     Row {
         name: "above the firm's limit by rounding up",
@@ -84,7 +94,12 @@ const ROWS: [Row; 15] = [
             line,0,2,1,1,1001\n\
             line,0,2,2,2,0\n",
         status: 0,
-        told: b"status 0\n",
+        told: b"session 0 whole sent 0 refused 1 noted 0\n\
+            tree 0 firm - posts 2 root 0 limit 1000\n\
+            tree 1 account ACC posts 2 root 0 limit 100000\n\
+            tree 2 symbol XYZ posts 2 root 0 limit 100000\n\
+            tree 3 halt - posts 0 root 0 limit 0\n\
+            status 0\n",
     },
     Row {
         name: "above the account's limit",
@@ -114,7 +129,12 @@ const ROWS: [Row; 15] = [
             line,0,2,1,1,1000\n\
             line,0,2,2,2,0\n",
         status: 0,
-        told: b"status 0\n",
+        told: b"session 0 whole sent 0 refused 1 noted 0\n\
+            tree 0 firm - posts 2 root 0 limit 1000\n\
+            tree 1 account ACC posts 2 root 0 limit 999\n\
+            tree 2 symbol XYZ posts 2 root 0 limit 100000\n\
+            tree 3 halt - posts 0 root 0 limit 0\n\
+            status 0\n",
     },
     Row {
         name: "above the symbol's limit, and another symbol",
@@ -156,7 +176,13 @@ const ROWS: [Row; 15] = [
             line,0,2,2,2,0\n\
             line,0,3,1,1,10\n",
         status: 0,
-        told: b"status 0\n",
+        told: b"session 0 whole sent 1 refused 1 noted 0\n\
+            tree 0 firm - posts 3 root 10 limit 5000\n\
+            tree 1 account ACC posts 3 root 10 limit 100000\n\
+            tree 2 symbol XYZ posts 2 root 0 limit 0\n\
+            tree 3 symbol ABC posts 1 root 10 limit 100000\n\
+            tree 4 halt - posts 0 root 0 limit 0\n\
+            status 0\n",
     },
     Row {
         name: "an account without a limit",
@@ -168,7 +194,10 @@ const ROWS: [Row; 15] = [
             refused,0,0,8,0,0\n\
             ended,0,0,,,\n",
         status: 0,
-        told: b"status 0\n",
+        told: b"session 0 whole sent 0 refused 1 noted 0\n\
+            tree 0 firm - posts 0 root 0 limit 1000\n\
+            tree 1 halt - posts 0 root 0 limit 0\n\
+            status 0\n",
     },
     Row {
         name: "a symbol without a limit",
@@ -180,7 +209,11 @@ const ROWS: [Row; 15] = [
             refused,0,0,9,0,0\n\
             ended,0,0,,,\n",
         status: 0,
-        told: b"status 0\n",
+        told: b"session 0 whole sent 0 refused 1 noted 0\n\
+            tree 0 firm - posts 0 root 0 limit 1000\n\
+            tree 1 account ACC posts 0 root 0 limit 100000\n\
+            tree 2 halt - posts 0 root 0 limit 0\n\
+            status 0\n",
     },
     Row {
         name: "more than a leaf holds",
@@ -194,7 +227,12 @@ const ROWS: [Row; 15] = [
             refused,0,0,6,0,0\n\
             ended,0,0,,,\n",
         status: 0,
-        told: b"status 0\n",
+        told: b"session 0 whole sent 0 refused 1 noted 0\n\
+            tree 0 firm - posts 0 root 0 limit 1000\n\
+            tree 1 account ACC posts 0 root 0 limit 100000\n\
+            tree 2 symbol XYZ posts 0 root 0 limit 100000\n\
+            tree 3 halt - posts 0 root 0 limit 0\n\
+            status 0\n",
     },
     Row {
         name: "a quota of one post",
@@ -209,7 +247,12 @@ const ROWS: [Row; 15] = [
             refused,0,0,5,0,0\n\
             ended,0,0,,,\n",
         status: 0,
-        told: b"status 0\n",
+        told: b"session 0 whole sent 0 refused 1 noted 0\n\
+            tree 0 firm - posts 0 root 0 limit 1000\n\
+            tree 1 account ACC posts 0 root 0 limit 100000\n\
+            tree 2 symbol XYZ posts 0 root 0 limit 100000\n\
+            tree 3 halt - posts 0 root 0 limit 0\n\
+            status 0\n",
     },
     Row {
         name: "a heartbeat",
@@ -222,7 +265,12 @@ const ROWS: [Row; 15] = [
         journal: b"kind,session,a,b,c,d\n\
             ended,0,0,,,\n",
         status: 0,
-        told: b"status 0\n",
+        told: b"session 0 whole sent 0 refused 0 noted 0\n\
+            tree 0 firm - posts 0 root 0 limit 1000\n\
+            tree 1 account ACC posts 0 root 0 limit 100000\n\
+            tree 2 symbol XYZ posts 0 root 0 limit 100000\n\
+            tree 3 halt - posts 0 root 0 limit 0\n\
+            status 0\n",
     },
     Row {
         name: "a cut frame behind a heartbeat",
@@ -235,7 +283,12 @@ const ROWS: [Row; 15] = [
         journal: b"kind,session,a,b,c,d\n\
             ended,0,1,67,,\n",
         status: 4,
-        told: b"status 4\n",
+        told: b"session 0 cut 67 sent 0 refused 0 noted 0\n\
+            tree 0 firm - posts 0 root 0 limit 1000\n\
+            tree 1 account ACC posts 0 root 0 limit 100000\n\
+            tree 2 symbol XYZ posts 0 root 0 limit 100000\n\
+            tree 3 halt - posts 0 root 0 limit 0\n\
+            status 4\n",
     },
     Row {
         name: "no frame behind a heartbeat",
@@ -248,7 +301,12 @@ const ROWS: [Row; 15] = [
         journal: b"kind,session,a,b,c,d\n\
             ended,0,2,67,,\n",
         status: 4,
-        told: b"status 4\n",
+        told: b"session 0 broken 67 sent 0 refused 0 noted 0\n\
+            tree 0 firm - posts 0 root 0 limit 1000\n\
+            tree 1 account ACC posts 0 root 0 limit 100000\n\
+            tree 2 symbol XYZ posts 0 root 0 limit 100000\n\
+            tree 3 halt - posts 0 root 0 limit 0\n\
+            status 4\n",
     },
     Row {
         name: "a frame that is too long",
@@ -261,20 +319,31 @@ const ROWS: [Row; 15] = [
         journal: b"kind,session,a,b,c,d\n\
             ended,0,3,67,,\n",
         status: 4,
-        told: b"status 4\n",
+        told: b"session 0 long 67 sent 0 refused 0 noted 0\n\
+            tree 0 firm - posts 0 root 0 limit 1000\n\
+            tree 1 account ACC posts 0 root 0 limit 100000\n\
+            tree 2 symbol XYZ posts 0 root 0 limit 100000\n\
+            tree 3 halt - posts 0 root 0 limit 0\n\
+            status 4\n",
     },
     Row {
-        name: "a cancel request, which is not built",
+        name: "a cancel of an order that isn't there",
         limits: b"firm,,1000,,,\n\
             account,ACC,100000,,,\n\
             symbol,XYZ,100000,1,12,100000\n",
         session: b"8=FIX.4.4\x019=45\x0135=0\x0149=C1\x0156=GATE\x0134=1\x0152=20240102-10:00:00\x0110=136\x018=FIX.4.4\x019=90\x0135=F\x0149=C1\x0156=GATE\x0134=1\x0152=20240102-10:00:00\x0111=c1\x0141=a1\x0155=XYZ\x0154=1\x0160=20240102-10:00:00\x0110=131\x01",
         venue: b"",
-        client: b"",
+        client: b"8=FIX.4.4\x019=93\x0135=9\x0149=GATE\x0156=C1\x0134=1\x0152=20240102-10:00:00\x0137=NONE\x0111=c1\x0141=a1\x0139=8\x01434=1\x01102=1\x0158=UNKNOWN\x0110=158\x01",
         journal: b"kind,session,a,b,c,d\n\
-            ended,0,9,67,,\n",
-        status: 9,
-        told: b"not built\n",
+            refused,0,1,11,0,0\n\
+            ended,0,0,,,\n",
+        status: 0,
+        told: b"session 0 whole sent 0 refused 1 noted 0\n\
+            tree 0 firm - posts 0 root 0 limit 1000\n\
+            tree 1 account ACC posts 0 root 0 limit 100000\n\
+            tree 2 symbol XYZ posts 0 root 0 limit 100000\n\
+            tree 3 halt - posts 0 root 0 limit 0\n\
+            status 0\n",
     },
     Row {
         name: "each kind of frame that needs no book",
@@ -302,7 +371,12 @@ const ROWS: [Row; 15] = [
             line,0,1,1,1,120\n\
             line,0,2,1,1,120\n",
         status: 0,
-        told: b"status 0\n",
+        told: b"session 0 whole sent 1 refused 1 noted 3\n\
+            tree 0 firm - posts 1 root 120 limit 1000\n\
+            tree 1 account ACC posts 1 root 120 limit 100000\n\
+            tree 2 symbol XYZ posts 1 root 120 limit 100000\n\
+            tree 3 halt - posts 0 root 0 limit 0\n\
+            status 0\n",
     },
 ];
 
@@ -310,13 +384,13 @@ const ROWS: [Row; 15] = [
 fn whole_runs(rt: HostRuntime) -> Result<(), Fail> {
     let alloc = rt.alloc();
     let words = words_of(alloc, &["run", "limits", "out", "session"])?;
-    for row in ROWS {
+    for row in &ROWS {
         let name = row.name;
         let mut folder = MemFolder::new(alloc, 65536);
         folder.put("limits", Vec::from_slice(alloc, row.limits)?)?;
         folder.put("session", Vec::from_slice(alloc, row.session)?)?;
         let mut out = MemSink::new(alloc, 65536, Vec::new(alloc));
-        let status = gate(alloc, &words, &mut folder, &mut out);
+        let status = gate(alloc, &words, &mut folder, &mut out, no_screens(alloc)?);
         assert_eq!(rt; status, row.status, "{name}");
         assert_eq!(rt; out.bytes(), row.told, "{name}");
         assert_eq!(rt; folder.get("out/s00.venue"), Some(row.venue), "{name}");

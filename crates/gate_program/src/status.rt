@@ -1,7 +1,9 @@
-//! How a call of the gate ends.
-ghost use Rattle.std.specs.Prelude.{◌≡◌, ◌∷◌, [], ◌≢◌, Bool};
-ghost use Rattle.gate_program.specs.Run.{standing_of};
-ghost use Rattle.gate_program.specs.Statuses.{number_of};
+//! How a call of the gate ends, and what it is to tell.
+ghost use Rattle.std.specs.Prelude.{◌≡◌};
+ghost use Rattle.std.specs.List.{list_any};
+ghost use Rattle.gate_program.specs.Run.{standing_of, is_memory, is_write_fault, is_read_fault};
+ghost use Rattle.gate_program.specs.Run.{is_cut_short};
+ghost use Rattle.gate_program.specs.Statuses.{number_of, answer_number};
 
 use limit_table::LimitFault;
 use risk_journal::End;
@@ -23,7 +25,7 @@ pub(crate) enum Status {
     WriteFault,
     /// Memory was wanting.
     Memory,
-    /// A row of the limit file or a session has a form that isn't built yet.
+    /// The limit file has a row that isn't served.
     NotBuilt,
 }
 
@@ -45,18 +47,76 @@ impl Status {
     }
 }
 
-/// The status after a session with this end. `refused` says whether the journal could not be
-/// written.
-pub(crate) fn standing(end: End, refused: bool) -> Status
-    ensures { number_of result ≡ standing_of (end ∷ []) refused }
+/// The status after sessions with these ends, the first that applies. `refused` says whether the
+/// journal could not be written.
+pub(crate) fn standing(ends: &[End], refused: bool) -> Status
+    ensures { number_of result ≡ standing_of ends.now refused }
 {
-    match end {
-        End::Memory => Status::Memory,
-        _ if refused => Status::WriteFault,
-        End::WriteFault => Status::WriteFault,
-        End::ReadFault => Status::ReadFault,
-        End::NotBuilt(_) => Status::NotBuilt,
-        End::Cut(_) | End::Broken(_) | End::TooLong(_) => Status::CutShort,
-        End::Whole => Status::Done,
+    if has_memory(ends) {
+        Status::Memory
+    } else if refused || has_write_fault(ends) {
+        Status::WriteFault
+    } else if has_read_fault(ends) {
+        Status::ReadFault
+    } else if has_cut_short(ends) {
+        Status::CutShort
+    } else {
+        Status::Done
+    }
+}
+
+/// Whether memory was wanting in a session.
+fn has_memory(ends: &[End]) -> bool
+    ensures { result ≡ list_any is_memory ends.now }
+{
+    ends.iter().any(|end| matches!(end, End::Memory))
+}
+
+/// Whether a session ended by a write that failed.
+fn has_write_fault(ends: &[End]) -> bool
+    ensures { result ≡ list_any is_write_fault ends.now }
+{
+    ends.iter().any(|end| matches!(end, End::WriteFault))
+}
+
+/// Whether a session ended by a read that failed.
+fn has_read_fault(ends: &[End]) -> bool
+    ensures { result ≡ list_any is_read_fault ends.now }
+{
+    ends.iter().any(|end| matches!(end, End::ReadFault))
+}
+
+/// Whether a session ended within a frame, or with none, or one that is too long.
+fn has_cut_short(ends: &[End]) -> bool
+    ensures { result ≡ list_any is_cut_short ends.now }
+{
+    ends.iter().any(|end| is_cut_short(end))
+}
+
+/// Whether the input ends within a frame, or no frame stands there, or one that is too long.
+fn is_cut_short(end: &End) -> bool
+    ensures { result ≡ is_cut_short end.now }
+{
+    matches!(end, End::Cut(_) | End::Broken(_) | End::TooLong(_))
+}
+
+/// What a run comes to.
+#[derive(Drop)]
+pub(crate) enum Answer {
+    /// It stopped with this status, and has no totals.
+    Stopped(Status),
+    /// Its sessions ended with this status, and these are its totals.
+    Ended(Status, Vec<u8>),
+}
+
+impl Answer {
+    /// The exit status of the program, before it is told.
+    pub(crate) fn number(&self) -> u8
+        ensures { result ≡ answer_number self.now }
+    {
+        match self {
+            Answer::Stopped(status) => status.number(),
+            Answer::Ended(status, _) => status.number(),
+        }
     }
 }

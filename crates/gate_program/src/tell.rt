@@ -2,31 +2,41 @@
 ghost use Rattle.std.specs.Prelude.{◌≡◌, ◌⊎◌, ◌++◌, decimal, IfOk, OnOk};
 ghost use Rattle.gate_program.specs.Limits.{fault_number, fault_row, limits_fault_text};
 ghost use Rattle.gate_program.specs.Gate.{IsTold};
-ghost use Rattle.gate_program.specs.Statuses.{number_of, told_text};
+ghost use Rattle.gate_program.specs.Statuses.{number_of, told_text, answer_number, answer_text};
 
-use crate::status::Status;
+use crate::status::{Answer, Status};
 use fold_law::Memory;
 use gate_ports::{PortFault, Sink, give_all};
 use itoa::Buffer;
 use limit_table::LimitFault;
 use std::alloc::Global;
 
-/// Tells the status that stands, and answers its number. A write that fails gives that of a write
-/// fault in its place. A fault of the limit file takes memory for its text; at want of it nothing is
-/// told.
+/// Tells what a run comes to, and answers its status. A write that fails gives that of a write
+/// fault
+/// in its place. Where memory was wanting nothing is told.
+pub(crate) fn tell_answer<O: Sink>(alloc: Global, out: &mut O, answer: Answer) -> u8
+    ensures { (result ≡ 8) ⊎ IsTold (O.held out.old) (O.held out.new) (O.faults out.old)
+        (O.faults out.new) (answer_text answer) (answer_number answer) result }
+{
+    match answer {
+        Answer::Stopped(status) => tell(alloc, out, status),
+        Answer::Ended(status, text) => tell_text(out, &text, status),
+    }
+}
+
+/// Tells why a run stopped. A fault of the limit file takes memory for its text.
 pub(crate) fn tell<O: Sink>(alloc: Global, out: &mut O, standing: Status) -> u8
     ensures { (result ≡ 8) ⊎ IsTold (O.held out.old) (O.held out.new)
         (O.faults out.old) (O.faults out.new) (told_text standing) (number_of standing) result }
 {
     match standing {
-        Status::Done => tell_text(out, b"status 0\n", standing),
-        Status::Usage => tell_text(out, b"usage: gate run LIMITS OUT SESSION\n", standing),
+        Status::Usage => { tell_text(out, b"usage: gate run LIMITS OUT SESSION...\n", standing) }
         Status::Limits(fault) => tell_fault(alloc, out, fault),
-        Status::CutShort => tell_text(out, b"status 4\n", standing),
         Status::ReadFault => tell_text(out, b"read fault\n", standing),
         Status::WriteFault => tell_text(out, b"write fault\n", standing),
-        Status::Memory => Status::Memory.number(),
         Status::NotBuilt => tell_text(out, b"not built\n", standing),
+        Status::Done | Status::CutShort => tell_text(out, b"", standing),
+        Status::Memory => Status::Memory.number(),
     }
 }
 

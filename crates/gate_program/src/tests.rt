@@ -1,7 +1,12 @@
 //! Runs that stop before a session, and one whose standard output fails: statuses and what is told. No
 //! clause says that memory isn't wanting, nor what a table's row gives.
+ghost use Rattle.std.specs.Prelude.{◌≡◌, length, IfOk};
+ghost use Rattle.gate_program.specs.Words.{session_most};
+
 use crate::command::gate;
+use fold_law::SESSIONS;
 use gate_ports::{Folder, MemFolder, MemSink};
+use screen_kit::Screen;
 use std::alloc::{AllocError, Global};
 use std::test::*;
 
@@ -24,13 +29,24 @@ pub(crate) fn words_of(alloc: Global, words: &[&str]) -> Result<Vec<String>, All
     Ok(all)
 }
 
+/// A set of no screens for each session that a run may have.
+pub(crate) fn no_screens(alloc: Global) -> Result<Vec<Vec<Box<dyn Screen + Send>>>, AllocError>
+    ensures { IfOk result (λ sets. length sets.items ≡ session_most) }
+{
+    let mut sets: Vec<Vec<Box<dyn Screen + Send>>> = Vec::new(alloc);
+    for _ in 0..SESSIONS {
+        sets.push(Vec::new(alloc))?;
+    }
+    Ok(sets)
+}
+
 /// Words, the limit file's text, the status and what is told. No session is there.
-const STOPS: [(&str, &[&str], &[u8], u8, &[u8]); 11] = [
+const STOPS: [(&str, &[&str], &[u8], u8, &[u8]); 14] = [
     ("no words", &[], LIMITS, 2, USAGE),
     ("too few words", &["run", "limits", "out"], LIMITS, 2, USAGE),
     (
-        "two sessions",
-        &["run", "limits", "out", "session", "other"],
+        "two equal sessions",
+        &["run", "limits", "out", "a", "b", "a"],
         LIMITS,
         2,
         USAGE,
@@ -72,6 +88,27 @@ const STOPS: [(&str, &[&str], &[u8], u8, &[u8]); 11] = [
         USAGE,
     ),
     (
+        "a session that is another's output",
+        &["run", "limits", "out", "out/s01.venue", "session"],
+        LIMITS,
+        2,
+        USAGE,
+    ),
+    (
+        "limits that are the last output",
+        &["run", "out/s02.client", "out", "a", "b", "c"],
+        LIMITS,
+        2,
+        USAGE,
+    ),
+    (
+        "an output of no session",
+        &["run", "limits", "out", "out/s01.venue"],
+        LIMITS,
+        5,
+        b"read fault\n",
+    ),
+    (
         "no limit file",
         &["run", "other", "out", "session"],
         LIMITS,
@@ -81,11 +118,11 @@ const STOPS: [(&str, &[&str], &[u8], u8, &[u8]); 11] = [
     ("no session", &WORDS, LIMITS, 5, b"read fault\n"),
 ];
 
-const USAGE: &[u8] = b"usage: gate run LIMITS OUT SESSION\n";
+const USAGE: &[u8] = b"usage: gate run LIMITS OUT SESSION...\n";
 
 /// A limit file's text, the status and what is told. No session is there, so limits that are served
 /// end as a read fault.
-const LIMIT_FILES: [(&str, &[u8], u8, &[u8]); 16] = [
+const LIMIT_FILES: [(&str, &[u8], u8, &[u8]); 15] = [
     (
         "five columns",
         b"firm,,1000,,\n",
@@ -131,13 +168,6 @@ const LIMIT_FILES: [(&str, &[u8], u8, &[u8]); 16] = [
         3,
         b"limits fault 8 row 1\n",
     ),
-    ("a trip", b"firm,,1,,,\ntrip,,1,,,\n", 9, b"not built\n"),
-    (
-        "the screen of repeats",
-        b"firm,,1,,,\nrepeat,,1,,,\n",
-        9,
-        b"not built\n",
-    ),
     (
         "a dropped screen",
         b"firm,,1,,,\noff,size,0,,,\n",
@@ -146,6 +176,7 @@ const LIMIT_FILES: [(&str, &[u8], u8, &[u8]); 16] = [
     ),
     ("the firm alone", b"firm,,1000,,,\n", 5, b"read fault\n"),
     ("an account and a symbol", LIMITS, 5, b"read fault\n"),
+    ("a trip", b"firm,,1,,,\ntrip,,1,,,\n", 5, b"read fault\n"),
     ("no line end", b"firm,,1000,,,", 5, b"read fault\n"),
     (
         "a quota",
@@ -154,8 +185,8 @@ const LIMIT_FILES: [(&str, &[u8], u8, &[u8]); 16] = [
         b"read fault\n",
     ),
     (
-        "no repeats to look for",
-        b"firm,,1,,,\nrepeat,,0,,,\n",
+        "the screen of repeats",
+        b"repeat,,64,,,\nfirm,,1,,,\n",
         5,
         b"read fault\n",
     ),
@@ -169,7 +200,7 @@ fn a_limit_file_is_taken_refused_or_not_served(rt: HostRuntime) -> Result<(), Fa
         let mut folder = MemFolder::new(alloc, 65536);
         folder.put("limits", Vec::from_slice(alloc, limits)?)?;
         let mut out = MemSink::new(alloc, 65536, Vec::new(alloc));
-        let status = gate(alloc, &words, &mut folder, &mut out);
+        let status = gate(alloc, &words, &mut folder, &mut out, no_screens(alloc)?);
         assert_eq!(rt; status, want, "{name}");
         assert_eq!(rt; out.bytes(), told, "{name}");
         assert_eq!(rt; folder.get("out/s00.venue"), None, "{name}");
@@ -189,7 +220,7 @@ fn a_limit_file_has_a_most_length(rt: HostRuntime) -> Result<(), Fail> {
         let mut folder = MemFolder::new(alloc, 65536);
         folder.put("limits", vec![in alloc; b'\n'; length]?)?;
         let mut out = MemSink::new(alloc, 65536, Vec::new(alloc));
-        let status = gate(alloc, &words, &mut folder, &mut out);
+        let status = gate(alloc, &words, &mut folder, &mut out, no_screens(alloc)?);
         assert_eq!(rt; status, 3);
         assert_eq!(rt; out.bytes(), told);
     }
@@ -204,10 +235,27 @@ fn stops_before_a_session(rt: HostRuntime) -> Result<(), Fail> {
         folder.put("limits", Vec::from_slice(alloc, limits)?)?;
         let mut out = MemSink::new(alloc, 65536, Vec::new(alloc));
         let words = words_of(alloc, words)?;
-        let status = gate(alloc, &words, &mut folder, &mut out);
+        let status = gate(alloc, &words, &mut folder, &mut out, no_screens(alloc)?);
         assert_eq!(rt; status, want, "{name}");
         assert_eq!(rt; out.bytes(), told, "{name}");
         assert_eq!(rt; folder.get("out/journal.csv"), None, "{name}");
+    }
+    Ok(())
+}
+
+#[test]
+fn a_run_has_at_most_32_sessions(rt: HostRuntime) -> Result<(), Fail> {
+    let alloc = rt.alloc();
+    for (count, want) in [(32, 5), (33, 2)] {
+        let mut words = words_of(alloc, &["run", "limits", "out"])?;
+        for session in 0..count {
+            words.push(format!(in alloc; "session{session}")?)?;
+        }
+        let mut folder = MemFolder::new(alloc, 65536);
+        folder.put("limits", Vec::from_slice(alloc, LIMITS)?)?;
+        let mut out = MemSink::new(alloc, 65536, Vec::new(alloc));
+        let status = gate(alloc, &words, &mut folder, &mut out, no_screens(alloc)?);
+        assert_eq!(rt; status, want);
     }
     Ok(())
 }
@@ -220,9 +268,9 @@ fn a_fault_of_standard_output_is_a_write_fault(rt: HostRuntime) -> Result<(), Fa
     folder.put("session", Vec::from_slice(alloc, ORDER)?)?;
     let mut out = MemSink::new(alloc, 4, Vec::from_slice(alloc, &[1])?);
     let words = words_of(alloc, &WORDS)?;
-    let status = gate(alloc, &words, &mut folder, &mut out);
+    let status = gate(alloc, &words, &mut folder, &mut out, no_screens(alloc)?);
     assert_eq!(rt; status, 6);
-    assert_eq!(rt; out.bytes(), b"stat".as_slice());
+    assert_eq!(rt; out.bytes(), b"sess".as_slice());
     assert_eq!(rt; folder.get("out/s00.venue"), Some(FORWARD));
     Ok(())
 }

@@ -1,12 +1,14 @@
 //! The words of the command line.
-ghost use Rattle.std.specs.Prelude.{◌≡◌, ◌≢◌, ℕ, ◌++◌, List, map, string_bytes, IfOk, MatchOption};
+ghost use Rattle.std.specs.Prelude.{◌≡◌, ◌≢◌, ℕ, ◌<◌, ◌≤◌, ◌∷◌, ◌++◌, List, map, string_bytes};
+ghost use Rattle.std.specs.Prelude.{IsTrue, IfSome, MatchOption};
+ghost use Rattle.std.specs.List.{list_all, list_any};
 ghost use Rattle.std.specs.Option.{option_map};
+ghost use Rattle.std.specs.Str.{bytes_eq};
 ghost use Rattle.gate_program.specs.Words.{RunWords, command_of, is_word, is_run, is_among};
-ghost use Rattle.gate_program.specs.Words.{output_names, venue_name, client_name, journal_name};
-ghost use Rattle.gate_program.specs.CommandOf.{command_value, run_value, file_names};
+ghost use Rattle.gate_program.specs.Words.{output_names, are_distinct, session_most};
+ghost use Rattle.gate_program.specs.CommandOf.{command_value, run_value, file_names, files_of};
 
-use fold_law::Memory;
-use std::alloc::Global;
+use fold_law::SESSIONS;
 
 /// The words of a run.
 #[derive(Clone, Copy, Debug)]
@@ -15,29 +17,22 @@ pub(crate) struct Run<'a> {
     pub limits: &'a str,
     /// The folder of the outputs.
     pub out: &'a str,
-    /// The name of the session's input.
-    pub session: &'a str,
-}
-
-/// The names that a run of one session writes.
-#[derive(Drop)]
-pub(crate) struct Outputs {
-    pub venue: String,
-    pub client: String,
-    pub journal: String,
+    /// The names of the sessions' inputs.
+    pub sessions: &'a [String],
 }
 
 /// The run that the words ask for. None where they are no form.
 pub(crate) fn command_from<'a>(words: &'a [String]) -> Option<Run<'a>>
-    ensures { option_map command_value result ≡ command_of (map string_bytes words.now) }
+    ensures command { option_map command_value result ≡ command_of (map string_bytes words.now) }
+    ensures run { IfSome result (λ run. IsTrue (is_run (run_value run))) }
 {
-    let [command, limits, out, session] = words else {
+    let [command, limits, out, sessions @ ..] = words else {
         return None;
     };
     let run = Run {
         limits: limits.as_str(),
         out: out.as_str(),
-        session: session.as_str(),
+        sessions,
     };
     if command.as_str() == "run" && is_run(&run) {
         Some(run)
@@ -46,15 +41,48 @@ pub(crate) fn command_from<'a>(words: &'a [String]) -> Option<Run<'a>>
     }
 }
 
-/// Whether the words are those of a run of one session.
+/// Whether the words are those of a run.
 fn is_run(run: &Run) -> bool
     ensures { result ≡ is_run (run_value run.now) }
 {
-    is_word(run.limits)
-        && is_word(run.out)
-        && is_word(run.session)
-        && !is_output(run.out, run.limits)
-        && !is_output(run.out, run.session)
+    let count = run.sessions.len();
+    if !has_words(run) {
+        return false;
+    }
+    if count < 1 || count > SESSIONS as usize {
+        return false;
+    }
+    if !are_distinct(run.sessions) {
+        return false;
+    }
+    !reads_outputs(run, count)
+}
+
+/// Whether each name of the run is a word.
+fn has_words(run: &Run) -> bool
+    ensures { let words = run_value run.now in
+        result ≡ list_all is_word (words.limits ∷ words.out ∷ words.sessions) }
+{
+    if !is_word(run.limits) {
+        return false;
+    }
+    if !is_word(run.out) {
+        return false;
+    }
+    are_words(run.sessions)
+}
+
+/// Whether the limit file or a session is an output of a run of so many sessions.
+fn reads_outputs(run: &Run, count: usize) -> bool
+    requires { count ≤ session_most }
+    ensures { let words = run_value run.now in
+        result ≡ list_any (λ name. is_among name (output_names words.out count))
+        (words.limits ∷ words.sessions) }
+{
+    if is_output(run.out, count, run.limits) {
+        return true;
+    }
+    has_output(run.out, count, run.sessions)
 }
 
 /// Not empty, and without a leading dash.
@@ -67,23 +95,82 @@ fn is_word(word: &str) -> bool
     }
 }
 
-/// Whether a run of one session with these outputs writes the name.
-fn is_output(out: &str, name: &str) -> bool
-    ensures { result ≡ is_among name.now (output_names out.now 1) }
+/// Whether each is a word.
+fn are_words(words: &[String]) -> bool
+    ensures { result ≡ list_all (λ word. is_word (string_bytes word)) words.now }
+{
+    words.iter().all(|word| is_word(word.as_str()))
+}
+
+/// Whether the name is one of these.
+fn is_among(name: &str, names: &[String]) -> bool
+    ensures { result ≡ list_any (λ other. bytes_eq name.now (string_bytes other)) names.now }
+{
+    names.iter().any(|other| name == other.as_str())
+}
+
+/// Whether no two are equal.
+fn are_distinct(names: &[String]) -> bool
+    ensures { result ≡ are_distinct (map string_bytes names.now) }
+{
+    for place in 0..names.len() {
+        if is_among(names[place].as_str(), &names[place + 1..]) {
+            return false;
+        }
+    }
+    true
+}
+
+/// Whether a run of so many sessions with these outputs writes one of the names.
+fn has_output(out: &str, count: usize, names: &[String]) -> bool
+    requires { count ≤ session_most }
+    ensures { result ≡ list_any (λ name. is_among (string_bytes name)
+        (output_names out.now count)) names.now }
+{
+    for name in names {
+        if is_output(out, count, name.as_str()) {
+            return true;
+        }
+    }
+    false
+}
+
+/// Whether a run of so many sessions with these outputs writes the name.
+fn is_output(out: &str, count: usize, name: &str) -> bool
+    requires { count ≤ session_most }
+    ensures { result ≡ is_among name.now (output_names out.now count) }
 {
     match name_within(out, name) {
         None => false,
-        Some(rest) => is_file(rest),
+        Some(rest) => is_file(count, rest),
     }
 }
 
-/// Whether a run of one session writes this name in its folder of outputs.
-fn is_file(rest: &[u8]) -> bool
-    ensures { result ≡ is_among rest.now file_names }
+/// Whether a run of so many sessions writes this name in its folder of outputs.
+fn is_file(count: usize, rest: &[u8]) -> bool
+    requires { count ≤ session_most }
+    ensures { result ≡ is_among rest.now (file_names count) }
 {
-    rest == b"/s00.venue".as_slice()
-        || rest == b"/s00.client".as_slice()
-        || rest == b"/journal.csv".as_slice()
+    for session in 0..count {
+        if is_file_of(session, rest) {
+            return true;
+        }
+    }
+    rest == b"/journal.csv".as_slice()
+}
+
+/// Whether this is the name of one of a session's outputs in the folder of outputs.
+fn is_file_of(session: usize, rest: &[u8]) -> bool
+    requires { session < 100 }
+    ensures { result ≡ is_among rest.now (files_of session) }
+{
+    let tens = b'0' + (session / 10) as u8;
+    let units = b'0' + (session % 10) as u8;
+    let venue = [b'/', b's', tens, units, b'.', b'v', b'e', b'n', b'u', b'e'];
+    let client = [
+        b'/', b's', tens, units, b'.', b'c', b'l', b'i', b'e', b'n', b't',
+    ];
+    rest == venue.as_slice() || rest == client.as_slice()
 }
 
 /// What of the name comes after the folder.
@@ -92,26 +179,4 @@ fn name_within<'a>(out: &str, name: &'a str) -> Option<&'a [u8]>
         (λ rest. name.now ≡ out.now ++ rest.now) }
 {
     name.as_bytes().strip_prefix(out.as_bytes())
-}
-
-/// The names of the outputs in a folder.
-pub(crate) fn outputs_in(alloc: Global, out: &str) -> Result<Outputs, Memory>
-    ensures venue { IfOk result (λ names. string_bytes names.venue ≡ venue_name out.now 0) }
-    ensures client { IfOk result (λ names. string_bytes names.client ≡ client_name out.now 0) }
-    ensures journal { IfOk result (λ names. string_bytes names.journal ≡ journal_name out.now) }
-{
-    let Ok(venue) = format!(in alloc; "{out}/s00.venue") else {
-        return Err(Memory);
-    };
-    let Ok(client) = format!(in alloc; "{out}/s00.client") else {
-        return Err(Memory);
-    };
-    let Ok(journal) = format!(in alloc; "{out}/journal.csv") else {
-        return Err(Memory);
-    };
-    Ok(Outputs {
-        venue,
-        client,
-        journal,
-    })
 }

@@ -28,7 +28,6 @@ end_fits (ending.TooLong place) h = (omega arith, h)
 end_fits ending.ReadFault h = (omega arith, h)
 end_fits ending.WriteFault h = (omega arith, h)
 end_fits ending.Memory h = (omega arith, h)
-end_fits (ending.NotBuilt place) h = (omega arith, h)
 
 act_fits : (session : ℕ) (act : Act) → session < 2 ^ 32 → FitsAct act
     → FitColumns (act_columns session act)
@@ -90,7 +89,6 @@ end_text (ending.TooLong place) = refl
 end_text ending.ReadFault = refl
 end_text ending.WriteFault = refl
 end_text ending.Memory = refl
-end_text (ending.NotBuilt place) = refl
 
 act_text_is : (session : ℕ) (act : Act)
     → act_text session act ≡ columns_text (act_columns session act)
@@ -160,7 +158,6 @@ end_injective (ending.TooLong a) (ending.TooLong b) e f = cc
 end_injective ending.ReadFault ending.ReadFault e f = refl
 end_injective ending.WriteFault ending.WriteFault e f = refl
 end_injective ending.Memory ending.Memory e f = refl
-end_injective (ending.NotBuilt a) (ending.NotBuilt b) e f = cc
 end_injective a b e f = absurd (omega arith)
 
 -- the same columns, one by one

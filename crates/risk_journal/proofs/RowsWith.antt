@@ -38,7 +38,6 @@ end_is (ending.TooLong place) = refl
 end_is ending.ReadFault = refl
 end_is ending.WriteFault = refl
 end_is ending.Memory = refl
-end_is (ending.NotBuilt place) = refl
 
 act_is : (session : ℕ) (act : Act) → FitsAct act → act_with (act_columns session act) ≡ act
 act_is session (Post tree index value) h =
@@ -125,14 +124,12 @@ either_end a b first second test =
 
 end_fits : (number place : ℕ) → place < 2 ^ 64 → FitsEnd (end_with number place)
 end_fits number place h =
-    let e9 : End = if number == 9 then ending.NotBuilt place else ending.Whole in
-    let e6 : End = if number == 6 then ending.Memory else e9 in
+    let e6 : End = if number == 6 then ending.Memory else ending.Whole in
     let e5 : End = if number == 5 then ending.WriteFault else e6 in
     let e4 : End = if number == 4 then ending.ReadFault else e5 in
     let e3 : End = if number == 3 then ending.TooLong place else e4 in
     let e2 : End = if number == 2 then ending.Broken place else e3 in
-    let f9 = either_end (ending.NotBuilt place) ending.Whole h tt (number == 9) in
-    let f6 = either_end ending.Memory e9 tt f9 (number == 6) in
+    let f6 = either_end ending.Memory ending.Whole tt tt (number == 6) in
     let f5 = either_end ending.WriteFault e6 tt f6 (number == 5) in
     let f4 = either_end ending.ReadFault e5 tt f5 (number == 4) in
     let f3 = either_end (ending.TooLong place) e4 h f4 (number == 3) in

@@ -21,7 +21,6 @@ end_number (ending.TooLong place) = 3
 end_number ending.ReadFault = 4
 end_number ending.WriteFault = 5
 end_number ending.Memory = 6
-end_number (ending.NotBuilt place) = 9
 
 -- the place of an end, where it has one
 abbrev pub end_place : End → List ℕ
@@ -32,7 +31,6 @@ end_place (ending.TooLong place) = decimal place
 end_place ending.ReadFault = []
 end_place ending.WriteFault = []
 end_place ending.Memory = []
-end_place (ending.NotBuilt place) = decimal place
 
 -- the cells of an act after its session: kind first, and the four columns
 abbrev pub act_cells : ℕ → Act → List (List ℕ)

@@ -40,7 +40,6 @@ end_with number place =
     else if number == 4 then ending.ReadFault
     else if number == 5 then ending.WriteFault
     else if number == 6 then ending.Memory
-    else if number == 9 then ending.NotBuilt place
     else ending.Whole
 
 -- the act of a kind with these columns

@@ -25,7 +25,6 @@ FitsEnd (ending.TooLong place) = place < 2 ^ 64
 FitsEnd ending.ReadFault = ⊤
 FitsEnd ending.WriteFault = ⊤
 FitsEnd ending.Memory = ⊤
-FitsEnd (ending.NotBuilt place) = place < 2 ^ 64
 
 -- each number of an act fits its type
 abbrev pub FitsAct : Act → Type 0
@@ -86,7 +85,6 @@ end_column (ending.TooLong place) = Some place
 end_column ending.ReadFault = None
 end_column ending.WriteFault = None
 end_column ending.Memory = None
-end_column (ending.NotBuilt place) = Some place
 
 -- columns with these last four
 abbrev pub columns_in : Kind → ℕ → Option ℕ → Option ℕ → Option ℕ → Option ℕ → Columns

@@ -17,7 +17,6 @@ end_words (ending.TooLong place) = codes "long " ++ decimal place
 end_words ending.ReadFault = codes "read-fault"
 end_words ending.WriteFault = codes "write-fault"
 end_words ending.Memory = codes "memory"
-end_words (ending.NotBuilt place) = codes "not-built " ++ decimal place
 
 -- the word of a kind of tree
 abbrev pub kind_word : TreeKind → List ℕ

@@ -17,8 +17,6 @@ pub enum End {
     WriteFault,
     /// Memory was wanting.
     Memory,
-    /// What stands there isn't built yet.
-    NotBuilt(u64),
 }
 
 /// One act of a session. Values are in whole currency units.

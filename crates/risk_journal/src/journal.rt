@@ -146,7 +146,6 @@ pub(crate) fn number_of_end(end: End) -> u64
         End::ReadFault => 4,
         End::WriteFault => 5,
         End::Memory => 6,
-        End::NotBuilt(_) => 9,
     }
 }
 
@@ -155,9 +154,7 @@ fn place_of_end(end: End) -> Option<u64>
     ensures { cell_text result ≡ end_place end }
 {
     match end {
-        End::Cut(place) | End::Broken(place) | End::TooLong(place) | End::NotBuilt(place) => {
-            Some(place)
-        }
+        End::Cut(place) | End::Broken(place) | End::TooLong(place) => Some(place),
         End::Whole | End::ReadFault | End::WriteFault | End::Memory => None,
     }
 }

@@ -23,7 +23,7 @@ const READ: [(&str, &str); 7] = [
     ),
     (
         "the ends with a place",
-        "ended,0,1,136,,\nended,1,2,0,,\nended,2,3,33554432,,\nended,3,9,321,,\n",
+        "ended,0,1,136,,\nended,1,2,0,,\nended,2,3,33554432,,\n",
     ),
     (
         "trees without lines before and between",
@@ -38,7 +38,7 @@ const READ: [(&str, &str); 7] = [
 ];
 
 /// Rows behind the header, and the first that no journal has there.
-const REFUSED: [(&str, &str, u32); 31] = [
+const REFUSED: [(&str, &str, u32); 32] = [
     ("a row without LF", "ended,0,0,,,", 2),
     ("a last row without LF", "ended,0,0,,,\nended,1,0,,,", 3),
     ("an empty row", "\nended,0,0,,,\n", 2),
@@ -62,6 +62,7 @@ const REFUSED: [(&str, &str, u32); 31] = [
     ),
     ("a code above its type", "refused,0,1,256,0,0\n", 2),
     ("no such end", "ended,0,7,,,\n", 2),
+    ("no such end with a place", "ended,0,9,321,,\n", 2),
     ("a place where the end has none", "ended,0,0,5,,\n", 2),
     ("no place where the end has one", "ended,0,1,,,\n", 2),
     ("the second session first", "ended,1,0,,,\n", 2),

@@ -127,7 +127,6 @@ fn end_for(number: u64, place: u64) -> End
         4 => End::ReadFault,
         5 => End::WriteFault,
         6 => End::Memory,
-        9 => End::NotBuilt(place),
         _ => End::Whole,
     }
 }
@@ -239,9 +238,7 @@ fn column_of_end(end: End) -> Option<u64>
     ensures { result ≡ end_column end }
 {
     match end {
-        End::Cut(place) | End::Broken(place) | End::TooLong(place) | End::NotBuilt(place) => {
-            Some(place)
-        }
+        End::Cut(place) | End::Broken(place) | End::TooLong(place) => Some(place),
         End::Whole | End::ReadFault | End::WriteFault | End::Memory => None,
     }
 }

@@ -29,7 +29,7 @@ const ACTS: [Act; 6] = [
         second: 6,
     },
     Act::Ended {
-        end: End::NotBuilt(321),
+        end: End::TooLong(321),
     },
 ];
 
@@ -40,7 +40,7 @@ const LINES: [Line; 1] = [Line {
 }];
 
 const JOURNAL: &str = "kind,session,a,b,c,d\npost,0,0,1,1000,\nread,0,0,1,1,1000\nsent,0,0,,,\n\
-    refused,0,1,6,0,0\nnoted,0,2,5,44,6\nended,0,9,321,,\nline,0,0,1,1,1000\n";
+    refused,0,1,6,0,0\nnoted,0,2,5,44,6\nended,0,3,321,,\nline,0,0,1,1,1000\n";
 
 #[test]
 fn writes_the_journal(rt: HostRuntime) -> Result<(), Fail> {

@@ -11,7 +11,7 @@ const ONE_ORDER: &str = "session 0 whole sent 1 refused 0 noted 0\n\
     tree 3 halt - posts 0 root 0 limit 0\nstatus 0\n";
 
 /// Each end with its words.
-const ENDS: [(End, &str); 8] = [
+const ENDS: [(End, &str); 7] = [
     (
         End::Whole,
         "session 0 whole sent 1 refused 2 noted 3\nstatus 4\n",
@@ -39,10 +39,6 @@ const ENDS: [(End, &str); 8] = [
     (
         End::Memory,
         "session 0 memory sent 1 refused 2 noted 3\nstatus 4\n",
-    ),
-    (
-        End::NotBuilt(5),
-        "session 0 not-built 5 sent 1 refused 2 noted 3\nstatus 4\n",
     ),
 ];
 

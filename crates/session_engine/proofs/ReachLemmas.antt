@@ -1,7 +1,7 @@
 -- Frame by frame, the bytes lead to a session.
 use Rattle.std.proofs.Common.{◌≡◌, ℕ, List, [], ◌∷◌, ◌++◌, refl, sym}
-use Rattle.std.proofs.Common.{ap, ◌∙◌, subst, true}
-use Rattle.std.specs.Prelude.{Option, IsTrue}
+use Rattle.std.proofs.Common.{ap, ◌∙◌, subst}
+use Rattle.std.specs.Prelude.{Option}
 use Rattle.std.proofs.lemmas.List.{append_assoc}
 use Rattle.fix_fields.specs.Fields.{FieldValue}
 use Rattle.fix_fields.specs.Frames.{FrameValue, IsFrameAt}
@@ -10,8 +10,9 @@ use Rattle.fix_fields.specs.declared.frame.Frame.{Frame}
 use Rattle.fix_fields.specs.declared.frame.Found.{Found}
 use Rattle.session_engine.specs.Session.{LimitsValue, SessionValue, opening, after_frame}
 use Rattle.risk_journal.specs.ActLists.{SeenAt}
-use Rattle.session_engine.specs.Session.{after_frames, AreTaken, is_taken}
+use Rattle.session_engine.specs.Session.{after_frames}
 use Rattle.risk_journal.specs.ActLists.{reads_of}
+use Rattle.screen_kit.specs.Screens.{ScreenValue}
 use Rattle.session_engine.specs.Reaches.{with_reads, Steps, SplitsTo, Reaches}
 
 after_frames-snoc : (limits : LimitsValue) (session : SessionValue) (frames : List FrameValue)
@@ -21,14 +22,6 @@ after_frames-snoc : (limits : LimitsValue) (session : SessionValue) (frames : Li
 after_frames-snoc limits session [] frame = refl
 after_frames-snoc limits session (x ∷ frames) frame =
     after_frames-snoc limits (after_frame limits x.fields session) frames frame
-
-taken-snoc : (limits : LimitsValue) (session : SessionValue) (frames : List FrameValue)
-    (frame : FrameValue) → AreTaken limits session frames
-    → IsTrue (is_taken limits (after_frames limits session frames) frame.fields)
-    → AreTaken limits session (frames ++ frame ∷ [])
-taken-snoc limits session [] frame taken one = (one, tt)
-taken-snoc limits session (x ∷ frames) frame taken one =
-    (taken.0, taken-snoc limits (after_frame limits x.fields session) frames frame taken.1 one)
 
 splits-snoc : (bytes : List ℕ) (from : ℕ) (frames : List FrameValue) (frame : FrameValue)
     (body_from body_to : ℕ) → SplitsTo bytes from frames
@@ -70,32 +63,28 @@ splits-more stays bytes more from (x ∷ frames) split = (
       x.end frames split.3,
 )
 
-pub reaches_opening : (limits : LimitsValue) (bytes : List ℕ) → Reaches limits bytes 0 (opening [])
-reaches_opening limits bytes = record {
-  frames = [];
-  split = tt;
-  place_is = refl;
-  reached =
-      λ more. refl;
-  taken = λ more. tt;
-}
+pub reaches_opening : (limits : LimitsValue) (screens : List ScreenValue) (bytes : List ℕ)
+    → Reaches limits screens bytes 0 (opening limits screens [])
+reaches_opening limits screens bytes =
+    record { frames = []; split = tt; place_is = refl; reached = λ more. refl }
 
 -- one frame more
-pub reaches_next : (limits : LimitsValue) (bytes : List ℕ) (place : ℕ) (frame : Frame)
+pub reaches_next : (limits : LimitsValue) (screens : List ScreenValue) (bytes : List ℕ)
+    (place : ℕ) (frame : Frame)
     (fields : Option (List FieldValue)) (session next : SessionValue)
-    → Reaches limits bytes place session → StandsAt bytes place frame fields
-    → is_taken limits session fields ≡ true → Steps limits fields session next
-    → Reaches limits bytes frame.end next
-reaches_next limits bytes place frame fields session next reaches stands taken steps =
+    → Reaches limits screens bytes place session → StandsAt bytes place frame fields
+    → Steps limits fields session next → Reaches limits screens bytes frame.end next
+reaches_next limits screens bytes place frame fields session next reaches stands steps =
     let one = frame_value frame fields in
     let P : ℕ → Type 0 = λ p. IsFrameAt bytes p one frame.body_from frame.body_to in
-    let reads : (more : List SeenAt) → opening (reads_of next.acts ++ more) ≡ opening
-    (reads_of session.acts ++ (steps.seen ++ more)) =
-    λ more. ap opening (ap (λ rs. rs ++ more) steps.reads_are
+    let from : List SeenAt → SessionValue = opening limits screens in
+    let reads : (more : List SeenAt) → from (reads_of next.acts ++ more)
+    ≡ from (reads_of session.acts ++ (steps.seen ++ more)) =
+    λ more. ap from (ap (λ rs. rs ++ more) steps.reads_are
     ∙ append_assoc (reads_of session.acts) steps.seen more) in
     let before : (more : List SeenAt)
-    → after_frames limits (opening (reads_of next.acts ++ more)) reaches.frames ≡ with_reads
-    (steps.seen ++ more) session =
+    → after_frames limits (from (reads_of next.acts ++ more)) reaches.frames
+    ≡ with_reads (steps.seen ++ more) session =
     λ more. ap (λ s. after_frames limits s reaches.frames) (reads more)
     ∙ reaches.reached (steps.seen ++ more) in
     record {
@@ -103,11 +92,7 @@ reaches_next limits bytes place frame fields session next reaches stands taken s
       split = splits-snoc bytes 0 reaches.frames one frame.body_from frame.body_to reaches.split
           (subst P reaches.place_is stands);
       place_is = sym (place_after-snoc 0 reaches.frames one);
-      reached = λ more. after_frames-snoc limits (opening (reads_of next.acts ++ more))
+      reached = λ more. after_frames-snoc limits (from (reads_of next.acts ++ more))
           reaches.frames one
           ∙ ap (after_frame limits fields) (before more) ∙ steps.stepped more;
-      taken = λ more. let Q : SessionValue → Type 0 = λ s. AreTaken limits s reaches.frames in
-          taken-snoc limits (opening (reads_of next.acts ++ more)) reaches.frames one
-          (subst Q (sym (reads more)) (reaches.taken (steps.seen ++ more)))
-          (ap (λ s. is_taken limits s fields) (before more) ∙ taken);
     }

@@ -1,105 +1,19 @@
--- Admitted exposure: what a session has posted, as far as a read within the limit has covered it.
-use Rattle.std.specs.Prelude.{◌≡◌, ℕ, ◌+◌, ◌≤◌, ◌<◌, ◌==◌, List, [], ◌∷◌, ◌++◌, take, fold, min, replicate}
-use Rattle.std.specs.Prelude.{sum_by, if◌then◌else◌, nat_le, IfSome}
-use Rattle.std.specs.List.{slice_index_or, slice_set, enumerate_from, flat_map}
-use Rattle.risk_board.specs.declared.hand.Line.{Line}
-use Rattle.risk_board.specs.History.{Event}
-use Rattle.risk_board.specs.History.Event.{Posted, Saw}
+-- What a session has admitted, and what its orders are worth.
+use Rattle.std.specs.Prelude.{◌≡◌}
+use Rattle.risk_journal.specs.ActLists.{posts_in}
+use Rattle.order_desk.specs.Backing.{Covers}
+pub use Rattle.hand_acts.specs.Admitted.{StaysWithin}
+use Rattle.hand_acts.specs.Trees.{LimitsValue, halt_tree}
 use Rattle.session_engine.specs.Session.{SessionValue}
-use Rattle.risk_journal.specs.ActLists.{last_post}
-use Rattle.session_engine.specs.Trees.{LimitsValue, tree_count, limit_of}
-use Rattle.session_engine.specs.OrderTrees.{value_in}
-use Rattle.risk_journal.specs.ActLists.{events_of}
+use Rattle.session_engine.specs.Trips.{trips_by}
 
--- what a session has posted in a tree, and how much of it is admitted
-pub record Standing : Type 0 where
-  pub posted : ℕ
-  pub admitted : ℕ
-
--- a session before its first post
-abbrev pub nothing : Standing
-nothing = record { posted = 0; admitted = 0 }
-
--- one step of a tree's history: a session posts a value, or reads one
-pub data Moment : Type 0 where
-  Posts : ℕ → ℕ → Moment
-  Reads : ℕ → ℕ → Moment
-
--- a post lowers what is admitted to it
-abbrev pub after_post : ℕ → Standing → Standing
-after_post value standing =
-    record { posted = value; admitted = min standing.admitted value }
-
--- a read within the limit admits what was posted
-abbrev pub after_read : ℕ → ℕ → Standing → Standing
-after_read limit value standing = record standing {
-  admitted = if nat_le value limit then standing.posted else standing.admitted;
-}
-
--- how a session stands, and as before its first post where there is none
-abbrev pub standing_at : ℕ → List Standing → Standing
-standing_at session standings = slice_index_or standings session nothing
-
--- the sessions after one step
-abbrev pub after_moment : ℕ → List Standing → Moment → List Standing
-after_moment limit standings (Posts session value) =
-    slice_set standings session (after_post value (standing_at session standings))
-after_moment limit standings (Reads session value) =
-    slice_set standings session (after_read limit value (standing_at session standings))
-
--- a session's reads at a place, in order
-abbrev pub reads_at : ℕ → ℕ → List Event → List Moment
-reads_at session place [] = []
-reads_at session place (Posted value ∷ events) = reads_at session place events
-reads_at session place (Saw stamp at value ∷ events) =
-    if at == place then Reads session value ∷ reads_at session place events
-    else reads_at session place events
-
--- all reads at a place
-abbrev pub all_reads_at : ℕ → List (ℕ × List Event) → List Moment
-all_reads_at place numbered = flat_map (λ own. reads_at own.0 place own.1) numbered
-
--- the lines from a place on, each followed by the reads at its place
-abbrev pub moments_from : ℕ → List Line → List (ℕ × List Event) → List Moment
-moments_from place [] numbered = all_reads_at place numbered
-moments_from place (line ∷ lines) numbered =
-    all_reads_at place numbered
-    ++ Posts line.session line.value ∷ moments_from (place + 1) lines numbered
-
--- the steps of a tree's history
-abbrev pub moments : List Line → List (List Event) → List Moment
-moments lines events = moments_from 0 lines (enumerate_from 0 events)
-
--- what is admitted over all of so many sessions after these steps
-abbrev pub admitted_sum : ℕ → ℕ → List Moment → ℕ
-admitted_sum limit sessions passed =
-    sum_by (λ (standing : Standing). standing.admitted)
-    (fold (after_moment limit) (replicate sessions nothing) passed)
-
--- after every line and every read, what is admitted is within the limit
-abbrev pub StaysWithin : ℕ → ℕ → List Line → List (List Event) → Type 0
-StaysWithin limit sessions lines events =
-    (count : ℕ) → admitted_sum limit sessions (take count (moments lines events)) ≤ limit
-
--- how a session stands after one event of its own
-abbrev pub after_event : ℕ → Standing → Event → Standing
-after_event limit standing (Posted value) = after_post value standing
-after_event limit standing (Saw stamp place value) = after_read limit value standing
-
--- what a session has admitted in a tree, by its own posts and reads there
-abbrev pub own_admitted : ℕ → List Event → ℕ
-own_admitted limit events = (fold (after_event limit) nothing events).admitted
-
--- In a tree with this limit what a session has admitted is its last post, and its sent orders are
--- worth no more there.
-pub record IsCovered (limits : LimitsValue) (limit tree : ℕ) (session : SessionValue)
-    : Type 0 where
-  pub posted : own_admitted limit (events_of tree session.acts) ≡ last_post tree session.acts
-  pub orders : value_in limits tree session.orders
-      ≤ own_admitted limit (events_of tree session.acts)
-
--- in each tree that has a limit, what a session's sent orders are worth is admitted
+-- in each tree with a limit what a session has admitted is its last post, and the orders of its
+-- book are worth no more there
 abbrev pub CoversOrders : LimitsValue → SessionValue → Type 0
-CoversOrders limits session =
-    (tree : ℕ) → tree < tree_count limits
-    → IfSome (limit_of limits tree) (λ limit. IsCovered limits limit tree session)
+CoversOrders limits session = Covers limits session.acts session.book
+
+-- the session has posted in the halt tree once where as many requests as the trip number were refused
+-- as Firm, and never else
+abbrev pub TripsOnce : LimitsValue → SessionValue → Type 0
+TripsOnce limits session =
+    posts_in (halt_tree limits) session.acts ≡ trips_by limits.trip session.firms

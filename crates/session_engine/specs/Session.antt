@@ -1,16 +1,9 @@
 -- What a session does with each frame, as a function of the frames and of the reads.
-use Rattle.std.specs.Prelude.{ℕ, ◌+◌, ◌||◌, List, [], ◌∷◌, ◌++◌, length, drop, fold, map}
-use Rattle.std.specs.Prelude.{Option, Some, None, IsTrue, Bool, true, false}
-use Rattle.std.specs.Prelude.{not, nat_lt, if◌then◌else◌, codes, Result, Ok, Err}
-use Rattle.std.specs.List.{list_any, slice_index_or}
+use Rattle.std.specs.Prelude.{ℕ, ◌+◌, List, [], ◌∷◌, ◌++◌, length, map, Option, Some, None}
+use Rattle.std.specs.Prelude.{Bool, true, false, codes, Result, Ok, Err}
 use Rattle.std.specs.Option.{unwrap_or}
-use Rattle.std.specs.Result.{is_err}
-use Rattle.std.specs.Str.{bytes_eq}
-use Rattle.fold_law.specs.declared.limits.TheConstants.{LEAF}
 use Rattle.fix_fields.specs.Fields.{FieldValue}
 use Rattle.fix_fields.specs.Frames.{FrameValue}
-use Rattle.fix_fields.specs.declared.frame.Found.{Found}
-use Rattle.fix_fields.specs.declared.frame.Found.TheVariants as found
 use Rattle.fix_orders.specs.declared.kind.Kind.{Kind}
 use Rattle.fix_orders.specs.declared.kind.Kind.TheVariants as kind
 use Rattle.fix_orders.specs.declared.message.FieldFault.{FieldFault}
@@ -20,194 +13,147 @@ use Rattle.fix_orders.specs.Envelopes.{envelope_of}
 use Rattle.fix_orders.specs.Faults.{value_of}
 use Rattle.fix_orders.specs.Kinds.{kind_of}
 use Rattle.fix_orders.specs.Reading.{read_of}
+use Rattle.exposure_book.specs.Books.{BookValue}
+use Rattle.screen_kit.specs.declared.order.Order.{Order}
+use Rattle.screen_kit.specs.declared.order.Terms.{Terms}
+use Rattle.screen_kit.specs.Screens.{ScreenValue, armed}
 use Rattle.risk_journal.specs.declared.acts.Act.{Act}
-use Rattle.risk_journal.specs.declared.acts.Act.TheVariants.{Post, Read, Sent, Refused, Noted}
-use Rattle.risk_journal.specs.declared.acts.End.{End}
-use Rattle.risk_journal.specs.declared.acts.End.TheVariants as ending
+use Rattle.risk_journal.specs.declared.acts.Act.TheVariants.{Sent, Refused, Noted}
+use Rattle.risk_journal.specs.ActLists.{SeenAt}
+use Rattle.hand_acts.specs.Tapes.{Tape, tape}
+pub use Rattle.hand_acts.specs.Trees.{LimitsValue}
+use Rattle.order_desk.specs.declared.effect.Effect.{Effect}
+use Rattle.order_desk.specs.declared.effect.Effect.TheVariants as effect
+use Rattle.order_desk.specs.declared.refusal.Refusal.{Refusal}
+use Rattle.order_desk.specs.Decisions.{Decision, cancel_decided}
+use Rattle.order_desk.specs.Reported.{Settled, report_settled, reject_settled}
+use Rattle.order_desk.specs.Screening.{new_screened, replace_screened, screens_after}
+use Rattle.order_desk.specs.Screening.{new_to_screen, replace_to_screen}
+use Rattle.order_desk.specs.Values.{first_book}
 use Rattle.session_engine.specs.declared.note.Note.{Note}
 use Rattle.session_engine.specs.declared.note.Note.TheVariants as note
-use Rattle.session_engine.specs.declared.refusal.Refusal.{Refusal}
-use Rattle.session_engine.specs.declared.refusal.Refusal.TheVariants as refusal
-use Rattle.session_engine.specs.declared.rows.OrderRows.{OrderRows}
-use Rattle.risk_journal.specs.ActLists.{SeenAt, posts_in, last_post}
-pub use Rattle.session_engine.specs.Trees.{LimitsValue}
-use Rattle.session_engine.specs.Trees.{halt_tree, tree_limits, account_tree, symbol_tree}
-pub use Rattle.session_engine.specs.OrderTrees.{OrderValue}
-use Rattle.session_engine.specs.OrderTrees.{rows_of, value_in}
-use Rattle.session_engine.specs.Reserves.{order_of}
-use Rattle.session_engine.specs.Answers.{forward_text, refusal_text, reject_text}
-use Rattle.session_engine.specs.Answers.{code_of, fault_code, note_code}
+use Rattle.session_engine.specs.Answers.{Wording, order_refusal, cancel_refusal, replace_refusal}
+use Rattle.session_engine.specs.Answers.{forward_text, reject_text, code_of, fault_code, note_code}
+use Rattle.session_engine.specs.Trips.{acts_tripped, firms_after}
 
--- a session after some frames: what it did and wrote, and the reads that are still to come
+-- a session after some frames: what it did and wrote, its book, its screens, how many requests it
+-- refused as Firm, and the reads that are still to come
 pub record SessionValue : Type 0 where
   pub acts : List Act
   pub venue : List (List ℕ)
   pub client : List (List ℕ)
-  pub orders : List OrderValue
+  pub book : BookValue
+  pub screens : List ScreenValue
   pub client_id : List ℕ
   pub frames : ℕ
+  pub firms : ℕ
   pub reads : List SeenAt
 
 -- the client before any request names it
 abbrev pub unnamed_client : List ℕ
 unnamed_client = codes "CLIENT"
 
--- a session before its first frame
-abbrev pub opening : List SeenAt → SessionValue
-opening reads = record {
+-- the terms that screens are armed with
+abbrev pub terms_of : LimitsValue → Terms
+terms_of limits = record { repeat = limits.repeat }
+
+-- screens as they stand before the first frame
+abbrev pub armed_for : LimitsValue → List ScreenValue → List ScreenValue
+armed_for limits screens = map (armed (terms_of limits)) screens
+
+-- a session before its first frame, with screens that are armed
+abbrev pub opening : LimitsValue → List ScreenValue → List SeenAt → SessionValue
+opening limits screens reads = record {
   acts = [];
   venue = [];
   client = [];
-  orders = [];
+  book = first_book limits;
+  screens = screens;
   client_id = unnamed_client;
   frames = 0;
+  firms = 0;
   reads = reads;
 }
-
--- the next read, and zeros past the last
-abbrev pub next_read : List SeenAt → SeenAt
-next_read [] = record { stamp = 0; place = 0; value = 0 }
-next_read (seen ∷ reads) = seen
 
 -- one more act
 abbrev pub with_act : Act → SessionValue → SessionValue
 with_act act session = record session { acts = session.acts ++ act ∷ [] }
 
--- a post of the next index in the tree
-abbrev pub with_post : ℕ → ℕ → List Act → List Act
-with_post tree value acts = acts ++ Post tree (posts_in tree acts + 1) value ∷ []
+-- the acts and the reads to come
+abbrev pub tape_of : SessionValue → Tape
+tape_of session = tape session.acts session.reads
 
-abbrev pub after_posting : ℕ → ℕ → SessionValue → SessionValue
-after_posting tree value session =
-    record session { acts = with_post tree value session.acts }
-
--- the next read, in the tree
-abbrev pub after_reading : ℕ → SessionValue → SessionValue
-after_reading tree session =
-    let seen = next_read session.reads in
-    record (with_act (Read tree seen.stamp seen.place seen.value) session) {
-      reads = drop 1 session.reads;
-    }
-
--- a tree that an order counts in: its limit, the value last posted, the value with the order, and
--- the refusal where the root is above the limit
-pub record Leg : Type 0 where
-  pub tree : ℕ
-  pub limit : ℕ
-  pub old : ℕ
-  pub new : ℕ
-  pub refusal : Refusal
-
--- the leg of a tree, by what was last posted in each tree and what is to be posted
-abbrev pub leg_with : LimitsValue → (ℕ → ℕ) → (ℕ → ℕ) → ℕ → Refusal → Leg
-leg_with limits old new tree why = record {
-  tree = tree;
-  limit = slice_index_or (tree_limits limits) tree 0;
-  old = old tree;
-  new = new tree;
-  refusal = why;
-}
-
--- the legs of these rows: the firm's, the account's and the symbol's
-abbrev pub legs_with : LimitsValue → OrderRows → (ℕ → ℕ) → (ℕ → ℕ) → List Leg
-legs_with limits rows old new =
-    leg_with limits old new 0 refusal.Firm
-    ∷ leg_with limits old new (account_tree rows.account) refusal.Account
-    ∷ leg_with limits old new (symbol_tree limits rows.symbol) refusal.Symbol ∷ []
-
--- the legs of an order of these rows: what the session last posted, and what its orders are worth
--- with this one
-abbrev pub legs_of : LimitsValue → OrderRows → SessionValue → OrderValue → List Leg
-legs_of limits rows session order =
-    legs_with limits rows (λ tree. last_post tree session.acts)
-    (λ tree. value_in limits tree (session.orders ++ order ∷ []))
-
--- the first leg whose read is above its limit
-abbrev pub first_above : List Leg → List SeenAt → Option Refusal
-first_above [] reads = None
-first_above (leg ∷ legs) reads =
-    if nat_lt leg.limit (next_read reads).value then Some leg.refusal
-    else first_above legs (drop 1 reads)
-
--- why the order is refused before any post: a value that no leaf holds, or too few posts left
-abbrev pub early_refusal : LimitsValue → List Act → List Leg → Option Refusal
-early_refusal limits acts legs =
-    if list_any (λ leg. nat_lt LEAF leg.new) legs then Some refusal.Cap
-    else (if list_any (λ leg. nat_lt limits.quota (posts_in leg.tree acts + 2)) legs
-    then Some refusal.Quota else None)
-
-abbrev pub post_new : SessionValue → Leg → SessionValue
-post_new session leg = after_posting leg.tree leg.new session
-
-abbrev pub post_old : SessionValue → Leg → SessionValue
-post_old session leg = after_posting leg.tree leg.old session
-
--- the trees whose roots are read for an order, in order: the halt tree comes first
-abbrev pub roots_of : LimitsValue → List Leg → List ℕ
-roots_of limits legs = halt_tree limits ∷ map (λ leg. leg.tree) legs
-
-abbrev pub read_root : SessionValue → ℕ → SessionValue
-read_root session tree = after_reading tree session
-
--- why the roots that were read refuse the order, if they do: somebody has halted, or a root is
--- above its limit
-abbrev pub verdict_of : List Leg → List SeenAt → Option Refusal
-verdict_of legs reads =
-    if nat_lt 0 (next_read reads).value then Some refusal.Halt else first_above legs (drop 1 reads)
-
--- the order is sent
-abbrev pub after_sending : List FieldValue → OrderValue → SessionValue → SessionValue
-after_sending fields order session =
+-- the request is sent: it goes on to the venue
+abbrev pub after_sending : List FieldValue → SessionValue → SessionValue
+after_sending fields session =
     let number = length session.venue + 1 in
     record (with_act (Sent session.frames) session) {
       venue = session.venue ++ forward_text (codes "VENUE") number fields ∷ [];
-      orders = session.orders ++ order ∷ [];
     }
 
--- the order is refused
-abbrev pub after_refusing : List FieldValue → Refusal → SessionValue → SessionValue
-after_refusing fields why session =
+-- the request is refused: the client is told so
+abbrev pub after_refusing : Wording → List FieldValue → Refusal → SessionValue → SessionValue
+after_refusing wording fields why session =
     let number = length session.client + 1 in
     record (with_act (Refused session.frames (code_of why) 0 0) session) {
-      client = session.client ++ refusal_text session.client_id number fields why ∷ [];
+      client = session.client ++ wording session.client_id number fields why ∷ [];
     }
 
--- The roots were read: the order is sent, or the old values are posted again and it is refused.
-abbrev pub after_verdict : List FieldValue → OrderValue → List Leg → Option Refusal → SessionValue
+abbrev pub after_answer : Wording → List FieldValue → Option Refusal → SessionValue → SessionValue
+after_answer wording fields None session = after_sending fields session
+after_answer wording fields (Some why) session = after_refusing wording fields why session
+
+-- the session with what was decided
+abbrev pub decided : Decision → SessionValue → SessionValue
+decided decision session = record session {
+  acts = decision.tape.acts;
+  reads = decision.tape.reads;
+  book = decision.book;
+}
+
+-- the session with its screens asked about an order, if they are
+abbrev pub with_asked : Option Order → SessionValue → SessionValue
+with_asked asked session = record session { screens = screens_after session.screens asked }
+
+-- a request that was refused as Firm is counted, and where the count reaches the trip number, the
+-- halt tree is tripped
+abbrev pub after_trip : LimitsValue → Option Refusal → SessionValue → SessionValue
+after_trip limits refusal session = record session {
+  acts = acts_tripped limits refusal session.firms session.acts;
+  firms = firms_after refusal session.firms;
+}
+
+-- a request was decided on, and is answered; before the answer the halt tree is tripped, where it is
+abbrev pub after_decision : LimitsValue → Wording → List FieldValue → Decision → SessionValue
     → SessionValue
-after_verdict fields order legs None session = after_sending fields order session
-after_verdict fields order legs (Some why) session =
-    after_refusing fields why (fold post_old session legs)
-
--- the new values are posted and the roots read
-abbrev pub after_admission : LimitsValue → List FieldValue → OrderValue → List Leg → SessionValue
-    → SessionValue
-after_admission limits fields order legs session =
-    after_verdict fields order legs (verdict_of legs session.reads)
-    (fold read_root (fold post_new session legs) (roots_of limits legs))
-
-abbrev pub after_checks : LimitsValue → List FieldValue → OrderValue → List Leg → Option Refusal
-    → SessionValue → SessionValue
-after_checks limits fields order legs None session =
-    after_admission limits fields order legs session
-after_checks limits fields order legs (Some why) session = after_refusing fields why session
-
--- an order is taken up, whose rows are these or aren't there
-abbrev pub after_rows : LimitsValue → List FieldValue → OrderValue → Result OrderRows Refusal
-    → SessionValue → SessionValue
-after_rows limits fields order (Err why) session = after_refusing fields why session
-after_rows limits fields order (Ok rows) session =
-    let legs = legs_of limits rows session order in
-    after_checks limits fields order legs (early_refusal limits session.acts legs) session
-
--- an order is taken up
-abbrev pub after_order : LimitsValue → List FieldValue → OrderValue → SessionValue → SessionValue
-after_order limits fields order session =
-    after_rows limits fields order (rows_of limits order) session
+after_decision limits wording fields decision session =
+    after_answer wording fields decision.refusal
+    (after_trip limits decision.refusal (decided decision session))
 
 -- a frame is noted
 abbrev pub after_noting : Note → SessionValue → SessionValue
 after_noting what session = with_act (Noted session.frames (note_code what) 0 0) session
+
+-- what became of a report is noted, where it wasn't applied or a value couldn't be lowered
+abbrev pub after_effect : Effect → SessionValue → SessionValue
+after_effect effect.Applied session = session
+after_effect effect.NotLowered session = after_noting note.NotLowered session
+after_effect effect.Stray session = after_noting note.Stray session
+after_effect effect.Over session = after_noting note.Over session
+
+-- a report goes on to the client
+abbrev pub after_passing : List FieldValue → SessionValue → SessionValue
+after_passing fields session =
+    let number = length session.client + 1 in
+    record session {
+      client = session.client ++ forward_text session.client_id number fields ∷ [];
+    }
+
+-- a report was settled, and goes on
+abbrev pub after_settling : List FieldValue → Settled → SessionValue → SessionValue
+after_settling fields settled session =
+    after_passing fields
+    (after_effect settled.effect (record session { acts = settled.acts; book = settled.book }))
 
 -- a request with a field fault is refused: the client gets a Reject
 abbrev pub after_rejecting : List FieldValue → FieldFault → SessionValue → SessionValue
@@ -236,7 +182,8 @@ is_request kind.OrderCancelReject = false
 is_request kind.Admin = false
 is_request kind.Other = false
 
--- the client: SenderCompID (49) of a request, where it stands once as an id, and else the one before
+-- the client: SenderCompID (49) of a request, where it stands once as an id, and else the one
+-- before
 abbrev pub client_after : Bool → List FieldValue → List ℕ → List ℕ
 client_after true fields before = unwrap_or (envelope_of fields).sender before
 client_after false fields before = before
@@ -251,14 +198,23 @@ abbrev pub after_fault : Bool → List FieldValue → FieldFault → SessionValu
 after_fault true fields fault session = after_rejecting fields fault session
 after_fault false fields fault session = after_returning fields fault session
 
--- a message without a field fault; one that isn't taken yet changes nothing
+-- a message without a field fault
 abbrev pub after_message : LimitsValue → List FieldValue → Message → SessionValue → SessionValue
 after_message limits fields (message.New order) session =
-    after_order limits fields (order_of limits order) session
-after_message limits fields (message.Cancel request) session = session
-after_message limits fields (message.Replace request) session = session
-after_message limits fields (message.Report report) session = session
-after_message limits fields (message.CancelReject report) session = session
+    after_decision limits order_refusal fields
+    (new_screened limits order session.screens session.book (tape_of session))
+    (with_asked (new_to_screen limits order session.book) session)
+after_message limits fields (message.Cancel request) session =
+    after_decision limits cancel_refusal fields
+    (cancel_decided request session.book (tape_of session)) session
+after_message limits fields (message.Replace request) session =
+    after_decision limits replace_refusal fields
+    (replace_screened limits request session.screens session.book (tape_of session))
+    (with_asked (replace_to_screen limits request session.book) session)
+after_message limits fields (message.Report report) session =
+    after_settling fields (report_settled limits report session.book session.acts) session
+after_message limits fields (message.CancelReject report) session =
+    after_settling fields (reject_settled limits report session.book session.acts) session
 after_message limits fields message.Admin session = session
 after_message limits fields message.Other session = after_noting note.OtherType session
 
@@ -288,55 +244,3 @@ abbrev pub after_frames : LimitsValue → SessionValue → List FrameValue → S
 after_frames limits session [] = session
 after_frames limits session (frame ∷ frames) =
     after_frames limits (after_frame limits frame.fields session) frames
-
--- no order sent before has this ClOrdID (11)
-abbrev pub is_new_id : List ℕ → List OrderValue → Bool
-is_new_id id orders = not (list_any (λ order. bytes_eq order.id id) orders)
-
--- an order that is taken: its id is new, or it is refused before its id is looked up
-abbrev pub is_taken_order : LimitsValue → List OrderValue → OrderValue → Bool
-is_taken_order limits orders order =
-    is_err (rows_of limits order) || is_new_id order.id orders
-
--- a message without a field fault that is taken
-abbrev pub is_taken_message : LimitsValue → List OrderValue → Message → Bool
-is_taken_message limits orders (message.New order) =
-    is_taken_order limits orders (order_of limits order)
-is_taken_message limits orders (message.Cancel request) = false
-is_taken_message limits orders (message.Replace request) = false
-is_taken_message limits orders (message.Report report) = false
-is_taken_message limits orders (message.CancelReject report) = false
-is_taken_message limits orders message.Admin = true
-is_taken_message limits orders message.Other = true
-
--- a message that is taken: one with a field fault is
-abbrev pub is_taken_read : LimitsValue → List OrderValue → Result Message FieldFault → Bool
-is_taken_read limits orders (Ok whole) = is_taken_message limits orders whole
-is_taken_read limits orders (Err fault) = true
-
--- a frame that is taken: one that isn't sound is
-abbrev pub is_taken : LimitsValue → SessionValue → Option (List FieldValue) → Bool
-is_taken limits session None = true
-is_taken limits session (Some fields) = is_taken_read limits session.orders (read_of fields)
-
--- each of these frames is taken, as the session stands before it
-abbrev pub AreTaken : LimitsValue → SessionValue → List FrameValue → Type 0
-AreTaken limits session [] = Unit {0}
-AreTaken limits session (frame ∷ frames) =
-    IsTrue (is_taken limits session frame.fields)
-    × AreTaken limits (after_frame limits frame.fields session) frames
-
--- the most bytes of a session's input
-abbrev pub input_most : ℕ
-input_most = 33554432
-
--- The end by what stands after the last frame taken: a frame there isn't taken. Where the source goes
--- on past the input, a frame that is cut there is too long, and so is the input.
-abbrev pub end_of : Bool → Found → End
-end_of goes_on (found.Frame f) = ending.NotBuilt f.start
-end_of goes_on (found.Broken place) = ending.Broken place
-end_of goes_on (found.TooLong place) = ending.TooLong place
-end_of true (found.Cut place) = ending.TooLong place
-end_of true found.End = ending.TooLong input_most
-end_of false (found.Cut place) = ending.Cut place
-end_of false found.End = ending.Whole

@@ -1,57 +1,62 @@
 -- Frames as a session takes them.
-use Rattle.std.specs.Prelude.{◌≡◌, ℕ, ◌+◌, ◌*◌, ◌≤◌, ◌<◌, ◌^◌, List, ◌++◌, Option, Some, None, codes}
-use Rattle.std.specs.Prelude.{is_some, Bool, true, false, not, ◌||◌, Ok}
-use Rattle.std.specs.List.{concat}
-use Rattle.std.specs.Result.{is_err}
-use Rattle.std.specs.BTreeSet.{contains}
-use Rattle.std.specs.Ordering.{nat_cmp}
-use Rattle.std.specs.Cmp.Lexicographic.{slice_cmp}
+use Rattle.std.specs.Prelude.{◌≡◌, ℕ, ◌+◌, ◌≤◌, ◌<◌, List, [], ◌∷◌, ◌++◌, Option, Some, None}
+use Rattle.std.specs.Prelude.{is_some, codes, Ok}
 use Rattle.std.specs.Io.KnownBytes.{Appends}
 use Rattle.fix_fields.specs.Fields.{FieldValue}
+use Rattle.fix_fields.specs.Messages.{message_text}
 use Rattle.fix_fields.specs.Places.{HasFieldsIn, IsSoundIn}
 use Rattle.fix_fields.specs.Found.{StandsAt}
 use Rattle.fix_fields.specs.declared.frame.Frame.{Frame}
-use Rattle.fix_orders.specs.declared.message.Message.TheVariants as message
-use Rattle.fix_orders.specs.declared.message.NewOrder.{NewOrder}
+use Rattle.fix_orders.specs.declared.message.Message.{Message}
+use Rattle.fix_orders.specs.Put.{HasPut}
 use Rattle.fix_orders.specs.Reading.{read_of}
-use Rattle.risk_board.specs.Hands.{HandValue}
+use Rattle.exposure_book.specs.Books.{BookValue}
+use Rattle.screen_kit.specs.Screens.{ScreenValue}
 use Rattle.risk_journal.specs.declared.acts.Act.{Act}
-use Rattle.session_engine.specs.declared.decide.State.{State}
-use Rattle.session_engine.specs.declared.refusal.Refusal.{Refusal}
-use Rattle.session_engine.specs.declared.totals.Totals.{Totals}
-use Rattle.session_engine.specs.declared.totals.TreeTotals.{TreeTotals}
-use Rattle.session_engine.specs.OrderTrees.{OrderValue, rows_of}
-use Rattle.session_engine.specs.Session.{LimitsValue, SessionValue, is_taken}
-use Rattle.session_engine.specs.Stands.{StandsFor, InStep, totals_at}
+use Rattle.risk_journal.specs.declared.acts.Act.TheVariants.{Sent, Refused, Noted}
+use Rattle.risk_journal.specs.ActLists.{posts_in}
+use Rattle.hand_acts.specs.Trees.{halt_tree}
+use Rattle.order_desk.specs.declared.effect.Effect.{Effect}
+use Rattle.order_desk.specs.declared.effect.Effect.TheVariants as effect
+use Rattle.order_desk.specs.declared.refusal.Refusal.{Refusal}
+use Rattle.order_desk.specs.Values.{roomless}
+use Rattle.session_engine.specs.declared.counts.Counts.{Counts}
+use Rattle.session_engine.specs.declared.note.Note.{Note}
+use Rattle.session_engine.specs.declared.note.Note.TheVariants as note
+use Rattle.session_engine.specs.declared.state.State.{State}
+use Rattle.session_engine.specs.Answers.{Wording, forward_text, code_of, note_code}
+use Rattle.session_engine.specs.Session.{LimitsValue, SessionValue}
+use Rattle.session_engine.specs.Stands.{StandsFor}
 use Rattle.session_engine.specs.Reaches.{Steps}
-use Rattle.session_engine.specs.Answers.{forward_text, refusal_text}
+use Rattle.session_engine.specs.Trips.{firms_after, trips_by}
 
 -- what a session keeps from frame to frame, and what its sinks hold
 pub record Kept : Type 0 where
-  pub has : List ℕ → Bool
   pub acts : List Act
-  pub trees : List TreeTotals
-  pub totals : Totals
+  pub book : BookValue
+  pub screens : List ScreenValue
+  pub counts : Counts
   pub client_id : List ℕ
   pub venue : Option (List ℕ)
   pub client : Option (List ℕ)
 
--- what is kept, by the running values, the client and what the sinks hold
-abbrev pub kept_by : State → List ℕ → Option (List ℕ) → Option (List ℕ) → Kept
-kept_by state client_id venue client = record {
-  has = contains (slice_cmp nat_cmp) state.ids;
-  acts = state.acts.items;
-  trees = state.trees.items;
-  totals = state.totals;
+-- what is kept, by the screens, the running values, the client and what the sinks hold
+abbrev pub kept_by : List ScreenValue → State → List ℕ → Option (List ℕ) → Option (List ℕ) → Kept
+kept_by screens state client_id venue client = record {
+  acts = state.told.acts.items;
+  book = roomless state.book;
+  screens = screens;
+  counts = state.counts;
   client_id = client_id;
   venue = venue;
   client = client;
 }
 
 -- what is kept is that of the session's value
-pub record StandsAs (limits : LimitsValue) (kept : Kept) (session : SessionValue) : Type 0 where
-  pub stands : StandsFor limits kept.has kept.acts kept.trees kept.totals session
+pub record StandsAs (kept : Kept) (session : SessionValue) : Type 0 where
+  pub stands : StandsFor kept.acts kept.book kept.counts session
   pub client_is : session.client_id ≡ kept.client_id
+  pub screens_are : session.screens ≡ kept.screens
 
 -- the frame stands somewhere in the bytes, with these fields where it is sound
 abbrev pub IsFrameOf : List ℕ → Frame → Option (List FieldValue) → Type 0
@@ -62,72 +67,120 @@ IsFrameOf bytes frame fields =
 abbrev pub IsSomeFrame : List ℕ → Frame → Type 0
 IsSomeFrame bytes frame = (fields : Option (List FieldValue)) × IsFrameOf bytes frame fields
 
--- the frame is sound, and whatever its fields are, it reads as this order
-pub record IsOrderIn (bytes : List ℕ) (frame : Frame) (order : NewOrder) : Type 0 where
+-- the frame is sound, and whatever its fields are, it reads as this message
+pub record ReadsAs (bytes : List ℕ) (frame : Frame) (whole : Message) : Type 0 where
   pub sound : IsSoundIn bytes frame
   pub each : (fields : List FieldValue) → HasFieldsIn bytes frame fields
-      → read_of fields ≡ Ok (message.New order)
+      → read_of fields ≡ Ok whole
 
--- the counts of a session after the frames up to a place
-pub record CountsFit (place : ℕ) (trees : List TreeTotals) (totals : Totals) : Type 0 where
-  pub frames : totals.frames ≤ place
-  pub sent : totals.sent ≤ totals.frames
-  pub refused : totals.refused ≤ totals.frames
-  pub exposures : (tree : ℕ)
-      → (totals_at tree trees).exposure ≤ 10000000000000000000 * totals.frames
+-- one frame more is counted, and one more message has a number of at most eight digits in either
+-- stream
+pub record HasSmallCounts (counts : Counts) : Type 0 where
+  pub frames : counts.frames < 99999999
+  pub venue : counts.venue < 99999999
+  pub client : counts.client < 99999999
 
--- the counts are those of at most as many frames as an input has bytes
-pub record HasSmallCounts (trees : List TreeTotals) (totals : Totals) : Type 0 where
-  pub frames : totals.frames < 2 ^ 31
-  pub sent : totals.sent < 2 ^ 31
-  pub refused : totals.refused < 2 ^ 31
-  pub exposures : (tree : ℕ) → (totals_at tree trees).exposure < 2 ^ 99
+-- the counts after a frame that has no message
+abbrev pub counted : Counts → Counts
+counted counts = record counts { frames = counts.frames + 1 }
 
--- one more message has a number of at most eight digits in either stream
-pub record HasFewMessages (totals : Totals) : Type 0 where
-  pub sent : totals.sent < 99999999
-  pub refused : totals.refused < 99999999
+-- the counts after a frame with a message to the venue
+abbrev pub counted_venue : Counts → Counts
+counted_venue counts = record counts {
+  frames = counts.frames + 1;
+  venue = counts.venue + 1;
+}
 
--- the totals after a frame that has no message
-abbrev pub counted_totals : Totals → Totals
-counted_totals totals = record totals { frames = totals.frames + 1 }
+-- the counts after a frame with a message to the client
+abbrev pub counted_client : Counts → Counts
+counted_client counts = record counts {
+  frames = counts.frames + 1;
+  client = counts.client + 1;
+}
 
--- the number of the message that answers an order: it is counted already
-abbrev pub answer_number : Option Refusal → Totals → ℕ
-answer_number None totals = totals.sent
-answer_number (Some refusal) totals = totals.refused
+-- the counts with a request that was refused so, if it was, before the frame is counted
+abbrev pub counts_decided : Option Refusal → Counts → Counts
+counts_decided refusal counts = record counts { firms = firms_after refusal counts.firms }
 
--- an order is taken whose id the ids don't have, or whose account or symbol is unknown
-abbrev pub is_taken_by : LimitsValue → (List ℕ → Bool) → OrderValue → Bool
-is_taken_by limits has order = is_err (rows_of limits order) || not (has order.id)
+-- The acts have as many posts in the halt tree as there are trips after the refusals as Firm that are
+-- counted, and one more of these can be counted.
+pub record CountsTrips (limits : LimitsValue) (acts : List Act) (counts : Counts) : Type 0 where
+  pub posts : posts_in (halt_tree limits) acts ≡ trips_by limits.trip counts.firms
+  pub firms : counts.firms < 99999999
 
--- one sink took a message, and the other nothing
-abbrev pub IsAnswered : List FieldValue → List ℕ → Totals → Option Refusal → Option (List ℕ)
+-- the act that tells what was decided on the request of this frame
+abbrev pub answer_act : ℕ → Option Refusal → Act
+answer_act frame None = Sent frame
+answer_act frame (Some why) = Refused frame (code_of why) 0 0
+
+-- the counts after a request that was sent or refused
+abbrev pub counts_answered : Option Refusal → Counts → Counts
+counts_answered None counts = counted_venue counts
+counts_answered (Some why) counts = counted_client counts
+
+-- the number of the message that answers a request: it is counted already
+abbrev pub answer_number : Option Refusal → Counts → ℕ
+answer_number None counts = counts.venue
+answer_number (Some why) counts = counts.client
+
+-- a note of this frame
+abbrev pub noted_act : Note → ℕ → Act
+noted_act what frame = Noted frame (note_code what) 0 0
+
+-- what is noted of a report, if anything
+abbrev pub note_by : Effect → Option Note
+note_by effect.Applied = None
+note_by effect.NotLowered = Some note.NotLowered
+note_by effect.Stray = Some note.Stray
+note_by effect.Over = Some note.Over
+
+-- the acts of at most one note of this frame
+abbrev pub note_acts : ℕ → Option Note → List Act
+note_acts frame None = []
+note_acts frame (Some what) = noted_act what frame ∷ []
+
+-- the body so far is that of the message of this text
+abbrev pub HasWritten : List ℕ → Option (List ℕ) → Type 0
+HasWritten text writer =
+    (fields : List FieldValue) × HasPut fields writer × (message_text fields ≡ text)
+
+-- one sink took the answer of a request, and the other nothing
+abbrev pub IsAnswered : Wording → List FieldValue → List ℕ → ℕ → Option Refusal → Option (List ℕ)
     → Option (List ℕ) → Option (List ℕ) → Option (List ℕ) → Type 0
-IsAnswered fields client_id totals None venue venue_after client client_after =
-    Appends venue venue_after (forward_text (codes "VENUE") totals.sent fields)
+IsAnswered wording fields client_id number None venue venue_after client client_after =
+    Appends venue venue_after (forward_text (codes "VENUE") number fields)
     × (client_after ≡ client)
-IsAnswered fields client_id totals (Some refusal) venue venue_after client client_after =
+IsAnswered wording fields client_id number (Some why) venue venue_after client client_after =
     (venue_after ≡ venue)
-    × Appends client client_after (refusal_text client_id totals.refused fields refusal)
+    × Appends client client_after (wording client_id number fields why)
 
--- A frame was taken: the session goes on with it, and its answer was given.
+-- the messages with at most one more
+abbrev pub with_message : Option (List ℕ) → List (List ℕ) → List (List ℕ)
+with_message None messages = messages
+with_message (Some text) messages = messages ++ text ∷ []
+
+-- the text of at most one message
+abbrev pub text_in : Option (List ℕ) → List ℕ
+text_in None = []
+text_in (Some text) = text
+
+-- A frame was taken: the session goes on with it, and at most one message was given to either sink.
 pub record Takes (limits : LimitsValue) (fields : Option (List FieldValue))
     (session next : SessionValue) (before after : Kept) : Type 0 where
-  pub taken : is_taken limits session fields ≡ true
   pub steps : Steps limits fields session next
-  pub stands : StandsAs limits after next
-  pub to_venue : List ℕ
-  pub to_client : List ℕ
-  pub venue_grows : Appends before.venue after.venue to_venue
-  pub client_grows : Appends before.client after.client to_client
-  pub venue_is : concat next.venue ≡ concat session.venue ++ to_venue
-  pub client_is : concat next.client ≡ concat session.client ++ to_client
+  pub stands : StandsAs after next
+  pub to_venue : Option (List ℕ)
+  pub to_client : Option (List ℕ)
+  pub venue_is : next.venue ≡ with_message to_venue session.venue
+  pub client_is : next.client ≡ with_message to_client session.client
+  pub venue_grows : Appends before.venue after.venue (text_in to_venue)
+  pub client_grows : Appends before.client after.client (text_in to_client)
+  pub firms_most : next.firms ≤ session.firms + 1
 
 -- Whatever session stands for what was kept before, a frame of these fields was taken in it.
 abbrev pub TakesFrom : LimitsValue → Option (List FieldValue) → Kept → Kept → Type 0
 TakesFrom limits fields before after =
-    (session : SessionValue) → StandsAs limits before session
+    (session : SessionValue) → StandsAs before session
     → (next : SessionValue) × Takes limits fields session next before after
 
 -- Whatever its fields are, the frame was taken.
@@ -141,39 +194,3 @@ abbrev pub TakesSound : LimitsValue → List ℕ → Frame → Kept → Kept →
 TakesSound limits bytes frame before after =
     (fields : List FieldValue) → HasFieldsIn bytes frame fields
     → TakesFrom limits (Some fields) before after
-
--- nothing was told or written
-pub record IsAsBefore (before after : Kept) : Type 0 where
-  pub same_acts : after.acts ≡ before.acts
-  pub same_venue : after.venue ≡ before.venue
-  pub same_client : after.client ≡ before.client
-
--- Whatever session stands for what was kept before, and whatever its fields are, the frame isn't
--- taken.
-abbrev pub LeavesAny : LimitsValue → List ℕ → Frame → Kept → Type 0
-LeavesAny limits bytes frame before =
-    (fields : Option (List FieldValue)) → IsFrameOf bytes frame fields
-    → (session : SessionValue) → StandsAs limits before session
-    → is_taken limits session fields ≡ false
-
--- the same of a sound frame
-abbrev pub LeavesSound : LimitsValue → List ℕ → Frame → Kept → Type 0
-LeavesSound limits bytes frame before =
-    (fields : List FieldValue) → HasFieldsIn bytes frame fields
-    → (session : SessionValue) → StandsAs limits before session
-    → is_taken limits session (Some fields) ≡ false
-
--- hands that are in step with the acts before are in step with those after
-abbrev pub StayInStep : List Act → List Act → List TreeTotals → List TreeTotals → Type 0
-StayInStep acts acts_after trees trees_after =
-    (limits : LimitsValue) (sum halt : HandValue) → InStep limits sum halt acts trees
-    → InStep limits sum halt acts_after trees_after
-
--- the counts after one frame more
-pub record CountsGrow (trees trees_after : List TreeTotals) (totals totals_after : Totals)
-    : Type 0 where
-  pub frames : totals_after.frames ≡ totals.frames + 1
-  pub sent : totals_after.sent ≤ totals.sent + 1
-  pub refused : totals_after.refused ≤ totals.refused + 1
-  pub exposures : (tree : ℕ) → (totals_at tree trees_after).exposure
-      ≤ (totals_at tree trees).exposure + 10000000000000000000

@@ -1,20 +1,29 @@
-//! The messages that answer an order, and how a message is given.
-ghost use Rattle.std.specs.Prelude.{◌≡◌, ◌≤◌, ◌<◌, List, codes, ◌⊎◌, IsSome};
+//! The messages of a session: a request or a report that is passed on, and a request's refusal.
+ghost use Rattle.std.specs.Prelude.{◌≡◌, ◌≤◌, List, codes, ◌⊎◌, IsSome, IsTrue};
 ghost use Rattle.std.specs.Io.KnownBytes.{Appends};
 ghost use Rattle.fix_fields.specs.Fields.{FieldValue};
 ghost use Rattle.fix_fields.specs.Messages.{message_text};
 ghost use Rattle.fix_fields.specs.Places.{HasFieldsIn};
-ghost use Rattle.fix_orders.specs.Put.{HasPut, IsSeq};
+ghost use Rattle.fix_orders.specs.Faults.{value_of};
+ghost use Rattle.fix_orders.specs.Put.{HasPut, IsSeq, IsPassedOn};
 ghost use Rattle.gate_ports.specs.Faults.{Rose};
-ghost use Rattle.session_engine.specs.Answers.{forward_text, refusal_text};
-ghost use Rattle.session_engine.specs.Taken.{IsAnswered, IsOrderIn, answer_number};
+ghost use Rattle.session_engine.specs.Answers.{forward_text};
+ghost use Rattle.session_engine.specs.Requests.{request_message, request_head, request_wording};
+ghost use Rattle.session_engine.specs.Taken.{IsAnswered, ReadsAs, HasWritten};
 
-use crate::decide::State;
-use crate::refusal::Refusal;
+use crate::codes::{order_reason_of, request_reason_of, text_of};
+use crate::request::Request;
 use fix_fields::{Frame, Id, Writer};
-use fix_orders::{NewOrder, Stamp, write_forward, write_reject_order};
+use fix_orders::{Stamp, write_forward, write_reject_cancel, write_reject_order};
 use gate_ports::{PortFault, Sink, give_all};
+use order_desk::Refusal;
 use risk_journal::End;
+
+/// CxlRejResponseTo (434) of a cancel (F) that is refused.
+const TO_CANCEL: u8 = 1;
+
+/// CxlRejResponseTo (434) of a replace (G) that is refused.
+const TO_REPLACE: u8 = 2;
 
 /// Where the messages of a session go.
 #[derive(Drop)]
@@ -30,8 +39,6 @@ pub(crate) struct Sinks<V, C> {
 pub(crate) enum Step {
     /// It was taken, and its message, if it has one, was given.
     Taken,
-    /// It isn't taken yet, and nothing was done.
-    NotBuilt,
     /// The session ends here.
     Fault(End),
 }
@@ -65,54 +72,93 @@ pub(crate) fn give_written<S: Sink>(sink: &mut S, writer: &mut Writer) -> Step
     }
 }
 
-/// Passes an order on to the venue.
-fn forward_order<V: Sink>(
-    venue: &mut V,
+/// Passes a message on, with the time that it has.
+pub(crate) fn forward<S: Sink>(
+    sink: &mut S,
     writer: &mut Writer,
     bytes: &[u8],
     frame: &Frame,
-    order: &NewOrder,
-    number: u32,
+    stamp: &Stamp,
 ) -> Step
-    requires order { IsOrderIn bytes.now frame.now order.now }
-    requires number { IsSeq number }
+    requires passed { IsPassedOn bytes.now frame.now }
+    requires number { IsSeq stamp.now.seq }
+    requires time { (fields : List FieldValue) → HasFieldsIn bytes.now frame.now fields
+        → stamp.now.time ≡ value_of 52 fields }
     ensures taken { result ≡ Step.Taken → (fields : List FieldValue)
         → HasFieldsIn bytes.now frame.now fields
-        → Appends (V.held venue.old) (V.held venue.new)
-        (forward_text (codes "VENUE") number fields) }
+        → Appends (S.held sink.old) (S.held sink.new)
+        (forward_text stamp.now.target stamp.now.seq fields) }
     ensures write_fault { result ≡ Step.Fault End.WriteFault
-        → Rose (V.faults venue.old) (V.faults venue.new) }
+        → Rose (S.faults sink.old) (S.faults sink.new) }
     ensures kinds { (result ≡ Step.Taken)
         ⊎ ((result ≡ Step.Fault End.WriteFault) ⊎ (result ≡ Step.Fault End.Memory)) }
-    ensures later { V.faults venue.old ≤ V.faults venue.new }
-    ensures name { V.name venue.new ≡ V.name venue.old }
+    ensures later { S.faults sink.old ≤ S.faults sink.new }
+    ensures name { S.name sink.new ≡ S.name sink.old }
 {
-    let stamp = Stamp {
-        target: venue_id(),
-        seq: number,
-        time: order.head.time,
-    };
-    write_forward(writer, bytes, frame, &stamp);
-    give_written(venue, writer)
+    write_forward(writer, bytes, frame, stamp);
+    give_written(sink, writer)
 }
 
-/// Answers an order that is refused.
-fn refuse_order<C: Sink>(
+/// Writes the message that refuses a request, with the time that it has.
+fn write_refusal(
+    writer: &mut Writer,
+    bytes: &[u8],
+    frame: &Frame,
+    request: &Request,
+    stamp: &Stamp,
+    why: Refusal,
+)
+    requires read { ReadsAs bytes.now frame.now (request_message request.now) }
+    requires number { IsSeq stamp.now.seq }
+    requires time { stamp.now.time ≡ (request_head request.now).time }
+    ensures { (fields : List FieldValue) → HasFieldsIn bytes.now frame.now fields
+        → HasWritten (request_wording request.now stamp.now.target stamp.now.seq fields why)
+        writer.new }
+{
+    let held = text_of(why);
+    let text = held.bytes();
+    match request {
+        Request::New(order) => {
+            let reason = order_reason_of(why);
+            write_reject_order(writer, bytes, frame, order, stamp, reason, text);
+        }
+        Request::Cancel(cancel) => {
+            let reason = request_reason_of(why);
+            write_reject_cancel(
+                writer,
+                &cancel.id,
+                &cancel.orig,
+                stamp,
+                TO_CANCEL,
+                reason,
+                text,
+            );
+        }
+        Request::Replace(replace) => {
+            let (id, orig) = (&replace.id, &replace.orig);
+            let reason = request_reason_of(why);
+            write_reject_cancel(writer, id, orig, stamp, TO_REPLACE, reason, text);
+        }
+    }
+}
+
+/// Tells the client that a request is refused.
+fn refuse<C: Sink>(
     client: &mut C,
     writer: &mut Writer,
     bytes: &[u8],
     frame: &Frame,
-    order: &NewOrder,
+    request: &Request,
     stamp: &Stamp,
-    refusal: Refusal,
+    why: Refusal,
 ) -> Step
-    requires order { IsOrderIn bytes.now frame.now order.now }
+    requires read { ReadsAs bytes.now frame.now (request_message request.now) }
     requires number { IsSeq stamp.now.seq }
-    requires time { stamp.now.time ≡ order.now.head.time }
+    requires time { stamp.now.time ≡ (request_head request.now).time }
     ensures taken { result ≡ Step.Taken → (fields : List FieldValue)
         → HasFieldsIn bytes.now frame.now fields
         → Appends (C.held client.old) (C.held client.new)
-        (refusal_text stamp.now.target stamp.now.seq fields refusal) }
+        (request_wording request.now stamp.now.target stamp.now.seq fields why) }
     ensures write_fault { result ≡ Step.Fault End.WriteFault
         → Rose (C.faults client.old) (C.faults client.new) }
     ensures kinds { (result ≡ Step.Taken)
@@ -120,30 +166,27 @@ fn refuse_order<C: Sink>(
     ensures later { C.faults client.old ≤ C.faults client.new }
     ensures name { C.name client.new ≡ C.name client.old }
 {
-    let reason = refusal.order_reason();
-    write_reject_order(writer, bytes, frame, order, stamp, reason, refusal.text());
+    write_refusal(writer, bytes, frame, request, stamp, why);
     give_written(client, writer)
 }
 
-/// Gives the message of an order that was sent or refused, whose number is the count of messages.
-pub(crate) fn answer_order<V: Sink, C: Sink>(
+/// Gives the message of this number that answers a request: what is sent goes on to the venue, and
+/// the client is told of what is refused.
+pub(crate) fn answer_request<V: Sink, C: Sink>(
     sinks: &mut Sinks<V, C>,
-    state: &mut State,
+    writer: &mut Writer,
     bytes: &[u8],
     frame: &Frame,
-    order: &NewOrder,
+    request: &Request,
+    number: u32,
     refusal: Option<Refusal>,
 ) -> Step
-    requires order { IsOrderIn bytes.now frame.now order.now }
-    requires number { IsSeq (answer_number refusal state.old.totals) }
-    ensures acts { state.new.acts ≡ state.old.acts }
-    ensures trees { state.new.trees ≡ state.old.trees }
-    ensures ids { state.new.ids ≡ state.old.ids }
-    ensures totals { state.new.totals ≡ state.old.totals }
+    requires read { ReadsAs bytes.now frame.now (request_message request.now) }
+    requires number { IsSeq number }
     ensures client_id { sinks.new.client_id ≡ sinks.old.client_id }
     ensures taken { result ≡ Step.Taken → (fields : List FieldValue)
         → HasFieldsIn bytes.now frame.now fields
-        → IsAnswered fields sinks.old.client_id state.old.totals refusal
+        → IsAnswered (request_wording request.now) fields sinks.old.client_id number refusal
         (V.held sinks.old.venue) (V.held sinks.new.venue)
         (C.held sinks.old.client) (C.held sinks.new.client) }
     ensures write_fault { result ≡ Step.Fault End.WriteFault
@@ -156,33 +199,30 @@ pub(crate) fn answer_order<V: Sink, C: Sink>(
     ensures venue_name { V.name sinks.new.venue ≡ V.name sinks.old.venue }
     ensures client_name { C.name sinks.new.client ≡ C.name sinks.old.client }
 {
+    let time = request.head().time;
     match refusal {
         None => {
-            let number = state.totals.sent;
-            forward_order(
-                &mut sinks.venue,
-                &mut state.writer,
-                bytes,
-                frame,
-                order,
-                number,
-            )
+            let stamp = Stamp {
+                target: venue_id(),
+                seq: number,
+                time,
+            };
+            forward(&mut sinks.venue, writer, bytes, frame, &stamp)
         }
-        Some(refusal) => {
+        Some(why) => {
             let stamp = Stamp {
                 target: sinks.client_id,
-                seq: state.totals.refused,
-                time: order.head.time,
+                seq: number,
+                time,
             };
-            let writer = &mut state.writer;
-            refuse_order(
+            refuse(
                 &mut sinks.client,
                 writer,
                 bytes,
                 frame,
-                order,
+                request,
                 &stamp,
-                refusal,
+                why,
             )
         }
     }

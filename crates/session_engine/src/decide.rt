@@ -1,107 +1,55 @@
-//! What is done with an order.
-ghost use Rattle.std.specs.Prelude.{◌≡◌, ℕ, ◌+◌, ◌^◌, ◌≤◌, ◌<◌, List, [], ◌∷◌, ◌++◌, false, vec_len, vec_capacity, IfOk, OnOk, OnErr};
-ghost use Rattle.std.specs.BTreeSet.{contains};
+//! What is decided on a request.
+ghost use Rattle.std.specs.Prelude.{◌≡◌, ◌+◌, ◌≤◌, length, map, vec_len, vec_capacity};
 ghost use Rattle.limit_table.specs.Files.{IsHeldByFile};
-ghost use Rattle.session_engine.specs.Orders.{order_value};
-ghost use Rattle.session_engine.specs.Ids.{SameIds};
-ghost use Rattle.session_engine.specs.Stands.{InStep, Decides, sent_totals, refused_totals};
-ghost use Rattle.session_engine.specs.Taken.{HasSmallCounts};
-ghost use Rattle.session_engine.specs.Answers.{code_of};
+ghost use Rattle.hand_acts.specs.Steps.{InStep};
+ghost use Rattle.order_desk.specs.Decisions.{Decides};
+ghost use Rattle.order_desk.specs.Screening.{screens_after};
+ghost use Rattle.order_desk.specs.Values.{roomless};
+ghost use Rattle.session_engine.specs.Requests.{request_decided, request_to_screen};
 
-use crate::ask::ask_order;
-use crate::hands::Hands;
-use crate::ids::{add_id, remove_id};
-use crate::order::Order;
-use crate::refusal::Refusal;
-use crate::totals::{Totals, TreeTotals};
-use fix_fields::{Id, Writer};
-use fold_law::Memory;
+use crate::request::Request;
+use exposure_book::Book;
+use hand_acts::{Hands, Told};
 use limit_table::Limits;
+use order_desk::{Refusal, decide_cancel, decide_new, decide_replace};
 use risk_board::Hand;
-use risk_journal::Act;
-use std::collections::BTreeSet;
+use screen_kit::Screen;
 
-/// What a session keeps as it goes.
-#[derive(Drop)]
-pub(crate) struct State {
-    pub acts: Vec<Act>,
-    pub ids: BTreeSet<Id>,
-    pub trees: Vec<TreeTotals>,
-    pub totals: Totals,
-    pub writer: Writer,
-}
-
-/// Sends or refuses an order whose id is new, and tells what was done. It writes no message.
-pub(crate) fn decide<H: Hand, M: Hand>(
-    hands: &mut Hands<H, M>,
-    state: &mut State,
+/// Decides on a request: it is sent, or refused for this.
+pub(crate) fn decide<H: Hand, M: Hand, K: Screen>(
     limits: &Limits,
-    order: &Order,
-) -> Result<Option<Refusal>, Memory>
+    hands: &mut Hands<H, M>,
+    screens: &mut Vec<K>,
+    told: &mut Told,
+    book: &mut Book,
+    request: &Request,
+) -> Option<Refusal>
     requires held { IsHeldByFile limits.now }
+    requires accounts { book.old.accounts ≡ length limits.now.accounts }
+    requires symbols { book.old.symbols ≡ length limits.now.symbols }
+    requires book_room { 1 ≤ book.old.room }
     requires step { InStep limits.now (H.meaning hands.old.sum) (M.meaning hands.old.halt)
-        state.old.acts.items state.old.trees.items }
+        told.old.acts.items told.old.lasts.items }
     requires sum_spare { 9 ≤ (H.meaning hands.old.sum).spare }
     requires halt_spare { 1 ≤ (M.meaning hands.old.halt).spare }
-    requires room { vec_len state.old.acts + 11 ≤ vec_capacity state.old.acts }
-    requires counts { HasSmallCounts state.old.trees.items state.old.totals }
-    requires new { contains ⟦<Id as Ord>⟧.cmp state.old.ids order.now.id ≡ false }
+    requires room { vec_len told.old.acts + 10 ≤ vec_capacity told.old.acts }
     ensures step { InStep limits.now (H.meaning hands.new.sum) (M.meaning hands.new.halt)
-        state.new.acts.items state.new.trees.items }
+        told.new.acts.items told.new.lasts.items }
     ensures sum_origin { H.SameOrigin hands.old.sum hands.new.sum }
     ensures halt_origin { M.SameOrigin hands.old.halt hands.new.halt }
-    ensures room { vec_capacity state.new.acts ≡ vec_capacity state.old.acts }
-    ensures few { vec_len state.new.acts ≤ vec_len state.old.acts + 11 }
-    ensures ok { IfOk result (λ refusal. Decides limits.now (order_value order.now)
-        (contains ⟦<Id as Ord>⟧.cmp state.old.ids) (contains ⟦<Id as Ord>⟧.cmp state.new.ids)
-        state.old.acts.items state.new.acts.items state.old.trees.items state.new.trees.items
-        state.old.totals state.new.totals refusal) }
-    ensures err { OnErr result (state.new.acts.items ≡ state.old.acts.items) }
+    ensures halt_spare { (M.meaning hands.old.halt).spare ≤ (M.meaning hands.new.halt).spare + 1 }
+    ensures room { vec_capacity told.new.acts ≡ vec_capacity told.old.acts }
+    ensures few { vec_len told.new.acts ≤ vec_len told.old.acts + 10 }
+    ensures decides { Decides
+        (request_decided limits.now request.now (map K.meaning screens.old.items))
+        told.old.acts.items told.new.acts.items (roomless book.old) (roomless book.new) result }
+    ensures screens { map K.meaning screens.new.items
+        ≡ screens_after (map K.meaning screens.old.items)
+        (request_to_screen limits.now request.now (roomless book.old)) }
 {
-    add_id(&mut state.ids, order.id)?;
-    let refusal = ask_order(hands, &mut state.acts, &mut state.trees, limits, order);
-    match refusal {
-        None => tell_sent(&mut state.acts, &mut state.totals),
-        Some(refusal) => {
-            remove_id(&mut state.ids, &order.id);
-            tell_refused(&mut state.acts, &mut state.totals, refusal);
-        }
+    match request {
+        Request::New(order) => decide_new(hands, told, book, screens, limits, order),
+        Request::Cancel(cancel) => decide_cancel(book, cancel),
+        Request::Replace(replace) => { decide_replace(hands, told, book, screens, limits, replace) }
     }
-    Ok(refusal)
-}
-
-/// Tells that the order of this frame was sent, and counts it.
-fn tell_sent(acts: &mut Vec<Act>, totals: &mut Totals)
-    requires room { vec_len acts.old < vec_capacity acts.old }
-    requires frames { totals.old.frames < 2 ^ 31 }
-    requires sent { totals.old.sent < 2 ^ 31 }
-    ensures acts { acts.new.items ≡ acts.old.items ++ Act.Sent totals.old.frames ∷ [] }
-    ensures room { vec_capacity acts.new ≡ vec_capacity acts.old }
-    ensures totals { totals.new ≡ sent_totals totals.old }
-{
-    acts.push_reserved(Act::Sent {
-        frame: totals.frames,
-    });
-    totals.sent += 1;
-    totals.frames += 1;
-}
-
-/// Tells that the order of this frame was refused, and counts it.
-pub(crate) fn tell_refused(acts: &mut Vec<Act>, totals: &mut Totals, refusal: Refusal)
-    requires room { vec_len acts.old < vec_capacity acts.old }
-    requires frames { totals.old.frames < 2 ^ 31 }
-    requires refused { totals.old.refused < 2 ^ 31 }
-    ensures acts { acts.new.items
-        ≡ acts.old.items ++ Act.Refused totals.old.frames (code_of refusal) 0 0 ∷ [] }
-    ensures room { vec_capacity acts.new ≡ vec_capacity acts.old }
-    ensures totals { totals.new ≡ refused_totals totals.old }
-{
-    acts.push_reserved(Act::Refused {
-        frame: totals.frames,
-        code: refusal.code(),
-        first: 0,
-        second: 0,
-    });
-    totals.refused += 1;
-    totals.frames += 1;
 }

@@ -9,8 +9,14 @@ pub(crate) enum Note {
     NotSound,
     /// A message of another type.
     OtherType,
+    /// A report with no id, or with an id of no order.
+    Stray,
+    /// A report of a trade of more than is left, or above the reserve price.
+    Over,
     /// A field fault in a message of the venue.
     FaultyField,
+    /// A report lowered a value in a tree in which no post is left.
+    NotLowered,
 }
 
 impl Note {
@@ -21,7 +27,10 @@ impl Note {
         match self {
             Note::NotSound => 1,
             Note::OtherType => 2,
+            Note::Stray => 3,
+            Note::Over => 4,
             Note::FaultyField => 5,
+            Note::NotLowered => 6,
         }
     }
 }

@@ -1,5 +1,6 @@
 //! The answers to messages with a field fault.
-ghost use Rattle.std.specs.Prelude.{◌≡◌, ℕ, ◌+◌, ◌≤◌, ◌<◌, List, ◌⊎◌, vec_len, vec_capacity, true, false, Err, Option};
+ghost use Rattle.std.specs.Prelude.{◌≡◌, ℕ, ◌+◌, ◌≤◌, ◌<◌, List, ◌⊎◌, vec_len, vec_capacity};
+ghost use Rattle.std.specs.Prelude.{true, false, Err, Option};
 ghost use Rattle.std.specs.Io.KnownBytes.{Appends};
 ghost use Rattle.std.specs.Option.{unwrap_or};
 ghost use Rattle.fix_fields.specs.Fields.{FieldValue};
@@ -8,14 +9,15 @@ ghost use Rattle.fix_orders.specs.Envelopes.{envelope_of};
 ghost use Rattle.fix_orders.specs.Put.{IsSeq};
 ghost use Rattle.fix_orders.specs.Reading.{read_of};
 ghost use Rattle.gate_ports.specs.Faults.{Rose};
+ghost use Rattle.screen_kit.specs.Screens.{ScreenValue};
+ghost use Rattle.hand_acts.specs.Steps.{StayInStep};
 ghost use Rattle.session_engine.specs.Answers.{reject_text, no_time};
 ghost use Rattle.session_engine.specs.Session.{LimitsValue, asks, is_request};
-ghost use Rattle.session_engine.specs.Taken.{HasSmallCounts, HasFewMessages, CountsGrow};
-ghost use Rattle.session_engine.specs.Taken.{TakesSound, StayInStep, kept_by};
+ghost use Rattle.session_engine.specs.Taken.{HasSmallCounts, TakesSound, kept_by};
 
 use crate::answer::{Sinks, Step, give_written, venue_id};
-use crate::decide::State;
 use crate::note::Note;
+use crate::state::State;
 use fix_fields::{Frame, Id, Writer};
 use fix_orders::{
     Envelope, FieldFault, Kind, Stamp, kind_of, read_envelope, type_text, write_reject_session,
@@ -99,18 +101,15 @@ fn reject_request<C: Sink>(
     requires read { (fields : List FieldValue) → HasFieldsIn bytes.now frame.now fields
         → (read_of fields ≡ Err fault.now) × (asks fields ≡ true) }
     requires sound { IsSoundIn bytes.now frame.now }
-    requires room { vec_len state.old.acts + 2 ≤ vec_capacity state.old.acts }
-    requires counts { HasSmallCounts state.old.trees.items state.old.totals }
-    requires few { HasFewMessages state.old.totals }
-    ensures room { vec_len state.new.acts < vec_capacity state.new.acts }
-    ensures step { StayInStep state.old.acts.items state.new.acts.items
-        state.old.trees.items state.new.trees.items }
-    ensures taken { result ≡ Step.Taken → (limits : LimitsValue) (venue : Option (List ℕ))
-        → TakesSound limits bytes.now frame.now
-        (kept_by state.old client_id.old venue (C.held client.old))
-        (kept_by state.new client_id.new venue (C.held client.new)) }
-    ensures counts { CountsGrow state.old.trees.items state.new.trees.items
-        state.old.totals state.new.totals }
+    requires room { vec_len state.old.told.acts + 2 ≤ vec_capacity state.old.told.acts }
+    requires counts { HasSmallCounts state.old.counts }
+    ensures room { vec_len state.new.told.acts < vec_capacity state.new.told.acts }
+    ensures step { StayInStep state.old.told.acts.items state.new.told.acts.items
+        state.old.told.lasts.items state.new.told.lasts.items }
+    ensures taken { result ≡ Step.Taken → (limits : LimitsValue) (screens : List ScreenValue)
+        (venue : Option (List ℕ)) → TakesSound limits bytes.now frame.now
+        (kept_by screens state.old client_id.old venue (C.held client.old))
+        (kept_by screens state.new client_id.new venue (C.held client.new)) }
     ensures write_fault { result ≡ Step.Fault End.WriteFault
         → Rose (C.faults client.old) (C.faults client.new) }
     ensures kinds { (result ≡ Step.Taken)
@@ -120,17 +119,17 @@ fn reject_request<C: Sink>(
 {
     let envelope = read_envelope(bytes, frame);
     *client_id = envelope.sender.unwrap_or(*client_id);
-    state.acts.push_reserved(Act::Refused {
-        frame: state.totals.frames,
+    state.told.acts.push_reserved(Act::Refused {
+        frame: state.counts.frames,
         code: FAULT_CODE,
         first: fault.tag,
         second: u32::from(fault.reason),
     });
-    state.totals.frames += 1;
-    state.totals.refused += 1;
+    state.counts.frames += 1;
+    state.counts.client += 1;
     let stamp = Stamp {
         target: *client_id,
-        seq: state.totals.refused,
+        seq: state.counts.client,
         time: time_of(&envelope),
     };
     give_reject(
@@ -155,19 +154,17 @@ fn return_report<V: Sink>(
     requires read { (fields : List FieldValue) → HasFieldsIn bytes.now frame.now fields
         → (read_of fields ≡ Err fault.now) × (asks fields ≡ false) }
     requires sound { IsSoundIn bytes.now frame.now }
-    requires room { vec_len state.old.acts + 2 ≤ vec_capacity state.old.acts }
-    requires counts { HasSmallCounts state.old.trees.items state.old.totals }
-    requires few { HasFewMessages state.old.totals }
-    ensures room { vec_len state.new.acts < vec_capacity state.new.acts }
-    ensures step { StayInStep state.old.acts.items state.new.acts.items
-        state.old.trees.items state.new.trees.items }
+    requires room { vec_len state.old.told.acts + 2 ≤ vec_capacity state.old.told.acts }
+    requires counts { HasSmallCounts state.old.counts }
+    ensures room { vec_len state.new.told.acts < vec_capacity state.new.told.acts }
+    ensures step { StayInStep state.old.told.acts.items state.new.told.acts.items
+        state.old.told.lasts.items state.new.told.lasts.items }
     ensures taken { result ≡ Step.Taken
-        → (limits : LimitsValue) (client_id : List ℕ) (client : Option (List ℕ))
+        → (limits : LimitsValue) (screens : List ScreenValue) (client_id : List ℕ)
+        (client : Option (List ℕ))
         → TakesSound limits bytes.now frame.now
-        (kept_by state.old client_id (V.held venue.old) client)
-        (kept_by state.new client_id (V.held venue.new) client) }
-    ensures counts { CountsGrow state.old.trees.items state.new.trees.items
-        state.old.totals state.new.totals }
+        (kept_by screens state.old client_id (V.held venue.old) client)
+        (kept_by screens state.new client_id (V.held venue.new) client) }
     ensures write_fault { result ≡ Step.Fault End.WriteFault
         → Rose (V.faults venue.old) (V.faults venue.new) }
     ensures kinds { (result ≡ Step.Taken)
@@ -176,17 +173,17 @@ fn return_report<V: Sink>(
     ensures name { V.name venue.new ≡ V.name venue.old }
 {
     let envelope = read_envelope(bytes, frame);
-    state.acts.push_reserved(Act::Noted {
-        frame: state.totals.frames,
+    state.told.acts.push_reserved(Act::Noted {
+        frame: state.counts.frames,
         code: Note::FaultyField.code(),
         first: fault.tag,
         second: u32::from(fault.reason),
     });
-    state.totals.frames += 1;
-    state.totals.sent += 1;
+    state.counts.frames += 1;
+    state.counts.venue += 1;
     let stamp = Stamp {
         target: venue_id(),
-        seq: state.totals.sent,
+        seq: state.counts.venue,
         time: time_of(&envelope),
     };
     give_reject(
@@ -211,19 +208,17 @@ pub(crate) fn reject_message<V: Sink, C: Sink>(
     requires read { (fields : List FieldValue) → HasFieldsIn bytes.now frame.now fields
         → read_of fields ≡ Err fault.now }
     requires sound { IsSoundIn bytes.now frame.now }
-    requires room { vec_len state.old.acts + 2 ≤ vec_capacity state.old.acts }
-    requires counts { HasSmallCounts state.old.trees.items state.old.totals }
-    requires few { HasFewMessages state.old.totals }
-    ensures room { vec_len state.new.acts < vec_capacity state.new.acts }
-    ensures step { StayInStep state.old.acts.items state.new.acts.items
-        state.old.trees.items state.new.trees.items }
-    ensures taken { result ≡ Step.Taken → (limits : LimitsValue)
+    requires room { vec_len state.old.told.acts + 2 ≤ vec_capacity state.old.told.acts }
+    requires counts { HasSmallCounts state.old.counts }
+    ensures room { vec_len state.new.told.acts < vec_capacity state.new.told.acts }
+    ensures step { StayInStep state.old.told.acts.items state.new.told.acts.items
+        state.old.told.lasts.items state.new.told.lasts.items }
+    ensures taken { result ≡ Step.Taken → (limits : LimitsValue) (screens : List ScreenValue)
         → TakesSound limits bytes.now frame.now
-        (kept_by state.old sinks.old.client_id (V.held sinks.old.venue) (C.held sinks.old.client))
-        (kept_by state.new sinks.new.client_id (V.held sinks.new.venue)
+        (kept_by screens state.old sinks.old.client_id (V.held sinks.old.venue)
+        (C.held sinks.old.client))
+        (kept_by screens state.new sinks.new.client_id (V.held sinks.new.venue)
         (C.held sinks.new.client)) }
-    ensures counts { CountsGrow state.old.trees.items state.new.trees.items
-        state.old.totals state.new.totals }
     ensures write_fault { result ≡ Step.Fault End.WriteFault
         → Rose (V.faults sinks.old.venue) (V.faults sinks.new.venue)
         ⊎ Rose (C.faults sinks.old.client) (C.faults sinks.new.client) }

@@ -5,8 +5,10 @@ use Rattle.gate_program.proofs.boards.add_lines.Goals as goal
 
 pub loop-tree-preserved : goal.loop-tree-preserved
 loop-tree-preserved g c =
-    one_pushed (whole_of g.F.Fold.join g.F.Fold.UNIT) g.F.Fold.UNIT c.args.board.now _ _ _ c.in-Ok.lines
-    c.lines.result.now c.loop-tree.tree c.loop-tree.invariant c.in-Ok-push.ensures.items c.in-Ok.ensures.items
+    one_pushed (whole_of g.F.Fold.join g.F.Fold.UNIT) g.F.Fold.UNIT c.args.board.now _ _ _
+    c.in-Ok.lines
+    c.lines.result.now c.loop-tree.tree c.loop-tree.invariant c.in-Ok-push.ensures.items
+    c.in-Ok.ensures.items
     c.lines.ensures.lines c.lines.ensures.legal
 
 pub returns-clause-legal : goal.returns-clause-legal

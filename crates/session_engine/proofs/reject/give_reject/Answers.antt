@@ -2,7 +2,7 @@
 use Rattle.std.proofs.Common.{ℕ, List, subst}
 use Rattle.std.specs.Io.KnownBytes.{Appends}
 use Rattle.fix_orders.specs.Writing.{session_reject_fields}
-use Rattle.session_engine.proofs.AnswerLemmas.{reject_is}
+use Rattle.session_engine.proofs.RejectTexts.{reject_is}
 use Rattle.session_engine.proofs.reject.give_reject.Goals as goal
 
 pub returns-clause-taken : goal.returns-clause-taken

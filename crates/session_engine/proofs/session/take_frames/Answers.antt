@@ -1,14 +1,37 @@
 -- Frame by frame, and where the session stops.
-use Rattle.std.proofs.Common.{arith, ◌∙◌}
+use Rattle.std.proofs.Common.{arith, ◌∙◌, map}
 use Rattle.session_engine.specs.Taken.{Kept, kept_by}
-use Rattle.session_engine.proofs.RunLemmas.{runs_next, stops_here}
+use Rattle.session_engine.proofs.RunLemmas.{runs_next, covers_kept, small_counts, trips_kept}
 use Rattle.session_engine.proofs.session.take_frames.Goals as goal
+
+pub take_frame-requires-clause-covers : goal.take_frame-requires-clause-covers
+take_frame-requires-clause-covers g c =
+    covers_kept c.sent_orders_are_covered.ensures c.args.limits.now
+    (map g.K.Screen.meaning c.args.screens.now.items) c.args.bytes.now c.loop-frame.place
+    (g.V.Sink.held c.args.sinks.now.venue)
+    (g.C.Sink.held c.args.sinks.now.client) _ c.loop-frame.invariant.runs
+
+pub take_frame-requires-clause-counts : goal.take_frame-requires-clause-counts
+take_frame-requires-clause-counts g c =
+    small_counts c.args.limits.now (map g.K.Screen.meaning c.args.screens.now.items)
+    c.args.bytes.now c.loop-frame.place
+    (g.V.Sink.held c.args.sinks.now.venue) (g.C.Sink.held c.args.sinks.now.client) _
+    c.loop-frame.invariant.runs c.requires.few
+
+pub take_frame-requires-clause-trips : goal.take_frame-requires-clause-trips
+take_frame-requires-clause-trips g c =
+    trips_kept c.halt_is_tripped_once.ensures c.args.limits.now
+    (map g.K.Screen.meaning c.args.screens.now.items) c.args.bytes.now
+    c.loop-frame.place (g.V.Sink.held c.args.sinks.now.venue)
+    (g.C.Sink.held c.args.sinks.now.client) _ c.loop-frame.invariant.runs c.requires.few
 
 pub loop-frame-preserved : goal.loop-frame-preserved
 loop-frame-preserved g c =
-    let before : Kept = kept_by c.loop-frame.state c.loop-frame.sinks.client_id
+    let before : Kept = kept_by (map g.K.Screen.meaning c.loop-frame.screens.items)
+    c.loop-frame.state c.loop-frame.sinks.client_id
     (g.V.Sink.held c.loop-frame.sinks.venue) (g.C.Sink.held c.loop-frame.sinks.client) in
-    let after : Kept = kept_by c.take_frame.new.state c.take_frame.new.sinks.client_id
+    let after : Kept = kept_by (map g.K.Screen.meaning c.take_frame.new.screens.items)
+    c.take_frame.new.state c.take_frame.new.sinks.client_id
     (g.V.Sink.held c.take_frame.new.sinks.venue) (g.C.Sink.held c.take_frame.new.sinks.client) in
     record {
       step = c.take_frame.ensures.step;
@@ -17,10 +40,11 @@ loop-frame-preserved g c =
       halt_origin = g.met.M.Hand.origin_next _ _ _ c.loop-frame.invariant.halt_origin
           c.take_frame.ensures.halt_origin;
       room = c.take_frame.ensures.room;
-      runs = runs_next c.args.limits.now c.args.bytes.now c.loop-frame.place c.in-Frame.frame
+      runs = runs_next c.args.limits.now (map g.K.Screen.meaning c.args.screens.now.items)
+          c.args.bytes.now c.loop-frame.place c.in-Frame.frame
           (g.V.Sink.held c.args.sinks.now.venue) (g.C.Sink.held c.args.sinks.now.client)
           before after c.frame_is_within.ensures c.loop-frame.invariant.runs c.in-Frame.ensures
-          (c.take_frame.ensures.taken c.in-Taken.is) (c.take_frame.ensures.counts c.in-Taken.is);
+          (c.take_frame.ensures.taken c.in-Taken.is);
       venue_later = omega (
         arith,
         c.loop-frame.invariant.venue_later,
@@ -34,24 +58,3 @@ loop-frame-preserved g c =
       venue_name = c.take_frame.ensures.venue_name ∙ c.loop-frame.invariant.venue_name;
       client_name = c.take_frame.ensures.client_name ∙ c.loop-frame.invariant.client_name;
     }
-
-pub returns-in-NotBuilt-clause-sum_origin : goal.returns-in-NotBuilt-clause-sum_origin
-returns-in-NotBuilt-clause-sum_origin g c =
-    g.met.H.Hand.origin_next _ _ _ c.loop-frame.invariant.sum_origin
-    c.take_frame.ensures.sum_origin
-
-pub returns-in-NotBuilt-clause-halt_origin : goal.returns-in-NotBuilt-clause-halt_origin
-returns-in-NotBuilt-clause-halt_origin g c =
-    g.met.M.Hand.origin_next _ _ _ c.loop-frame.invariant.halt_origin
-    c.take_frame.ensures.halt_origin
-
-pub returns-in-NotBuilt-clause-found : goal.returns-in-NotBuilt-clause-found
-returns-in-NotBuilt-clause-found g c =
-    let before : Kept = kept_by c.loop-frame.state c.loop-frame.sinks.client_id
-    (g.V.Sink.held c.loop-frame.sinks.venue) (g.C.Sink.held c.loop-frame.sinks.client) in
-    let after : Kept = kept_by c.take_frame.new.state c.take_frame.new.sinks.client_id
-    (g.V.Sink.held c.take_frame.new.sinks.venue) (g.C.Sink.held c.take_frame.new.sinks.client) in
-    stops_here c.args.limits.now c.args.bytes.now c.loop-frame.place c.in-Frame.frame
-    (g.V.Sink.held c.args.sinks.now.venue) (g.C.Sink.held c.args.sinks.now.client) before after
-    c.loop-frame.invariant.runs c.in-Frame.ensures
-    (c.take_frame.ensures.not_built c.in-NotBuilt.is) (c.take_frame.ensures.same c.in-NotBuilt.is)

@@ -1,0 +1,110 @@
+-- The journal behind sessions that were closed.
+use Rattle.std.proofs.Common.{◌≡◌, ℕ, List, sym, ap, subst, ◌∙◌, Bool}
+use Rattle.std.proofs.Common.{length}
+use Rattle.std.proofs.Common.{true, false, inl, inr}
+use Rattle.std.specs.Prelude.{Option, Some, None, IfSome, ◌⊎◌}
+use Rattle.gate_ports.specs.Names.{Texts}
+use Rattle.limit_table.specs.declared.limits.Limits.{Limits}
+use Rattle.risk_board.specs.declared.hand.Line.{Line}
+use Rattle.risk_journal.specs.declared.acts.Act.{Act}
+use Rattle.risk_journal.specs.declared.acts.End.{End}
+use Rattle.risk_journal.specs.JournalText.{journal_text}
+use Rattle.gate_program.specs.declared.boards.Boards.{Boards}
+use Rattle.gate_program.specs.Words.{RunWords, venue_name, client_name, journal_name, is_among}
+use Rattle.gate_program.specs.Words.{output_names}
+use Rattle.gate_program.specs.Run.{PortsValue, Holds, WriteRose}
+use Rattle.gate_program.specs.Gate.{HasJournal}
+use Rattle.gate_program.specs.Stages.{Went, ChangesOnly}
+use Rattle.gate_program.specs.Boards.{HasLines}
+use Rattle.gate_program.specs.Objects.{ObjectsValue, EachHolds, ChangesOutputs, HasClosed}
+use Rattle.gate_program.specs.Objects.{AreWritten}
+use Rattle.gate_program.specs.Objects.{HoldsOutputs}
+use Rattle.gate_program.specs.Finish.{HasAnswer, HasStood, HasFinished, IsKept}
+use Rattle.gate_program.proofs.Chains.{rose_from}
+use Rattle.gate_program.proofs.Outputs.{apart_from_all, venue_isnt_journal, client_isnt_journal}
+use Rattle.gate_program.proofs.Folder.{causes_later}
+
+-- the journal was written or refused, and this comes of it
+pub stood : (limits : Limits) (name : List ℕ) (before after : PortsValue) (acts : List (List Act))
+    (ends : List End) (lines : List (List Line)) (text : List ℕ) (n : ℕ) (refused : Bool)
+    → (n ≡ 8) ⊎ HasAnswer limits acts ends lines refused text n
+    → IsKept before after name (journal_text acts lines) refused
+    → ChangesOnly before.texts after.texts name
+    → (n ≡ 8) ⊎ HasStood limits name before after acts ends lines text n
+stood limits name before after acts ends lines text n refused (inl memory) kept others = inl memory
+stood limits name before after acts ends lines text n refused (inr answer) kept others =
+    inr (record { refused = refused; answer = answer; kept = kept; others = others })
+
+journal_of : (run : RunWords) (before closed after : PortsValue) (acts : List (List Act))
+    (lines : List (List Line)) (name : List ℕ) (refused : Bool) → name ≡ journal_name run.out
+    → Went before closed → IsKept closed after name (journal_text acts lines) refused
+    → HasJournal before after run acts lines refused
+journal_of run before closed after acts lines name false is went kept =
+    subst (λ (n : List ℕ). Holds after.texts n (journal_text acts lines)) is kept
+journal_of run before closed after acts lines name true is went kept =
+    subst (λ (n : List ℕ). WriteRose before after n) is (rose_from _ _ _ (went.written name) kept)
+
+holds_behind : (run : RunWords) (mid new : Texts) (session : ℕ) (own : ObjectsValue)
+    → new (venue_name run.out session) ≡ mid (venue_name run.out session)
+    → new (client_name run.out session) ≡ mid (client_name run.out session)
+    → HoldsOutputs run mid session own → HoldsOutputs run new session own
+holds_behind run mid new session own venue client holds = record {
+  to_venue = holds.to_venue;
+  to_client = holds.to_client;
+  venue = venue ∙ holds.venue;
+  client = client ∙ holds.client;
+  venue_told = holds.venue_told;
+  client_told = holds.client_told;
+}
+
+are_written : (run : RunWords) (objects : List ObjectsValue) (t0 t1 t2 : Option Texts)
+    → length objects ≡ length run.sessions → ChangesOutputs run.out (length objects) t0 t1
+    → IfSome t0 (λ old. IfSome t1 (λ new. EachHolds run new objects))
+    → ChangesOnly t1 t2 (journal_name run.out) → AreWritten run t0 t2 objects
+are_written run objects None None t2 many changes holds others =
+    record { tells = λ none. others; holds = tt; others = tt }
+are_written run objects None (Some mid) t2 many changes holds others = absurd cc
+are_written run objects (Some old) None t2 many (now, there, same) holds others = absurd cc
+are_written run objects (Some old) (Some mid) None many changes holds others =
+    record { tells = λ none. absurd cc; holds = tt; others = tt }
+are_written run objects (Some old) (Some mid) (Some new) many (now, there, same) holds others =
+    let mid_is : mid ≡ now = cc in
+    record {
+      tells = λ none. absurd cc;
+      holds = λ session own is. holds_behind run mid new session own
+          (others (venue_name run.out session) (venue_isnt_journal run.out session))
+          (others (client_name run.out session) (client_isnt_journal run.out session))
+          (holds session own is);
+      others = λ name among.
+          let apart = apart_from_all run.out name (length objects)
+          (subst (λ (n : ℕ). is_among name (output_names run.out n) ≡ false) (sym many) among) in
+          others name apart.1 ∙ ap (λ (t : Texts). t name) mid_is ∙ same name apart.0;
+    }
+
+-- the objects were closed, and then the journal stood
+pub finished : (limits : Limits) (run : RunWords) (before closed after : PortsValue)
+    (boards : Boards)
+    (acts : List (List Act)) (ends : List End) (objects : List ObjectsValue)
+    (lines : List (List Line)) (name text : List ℕ) (n : ℕ) (said : List End) → said ≡ ends
+    → name ≡ journal_name run.out → length objects ≡ length run.sessions → HasClosed run before
+    closed objects
+    → HasLines boards lines → Went closed after
+    → (n ≡ 8) ⊎ HasStood limits name closed after acts said lines text n
+    → (n ≡ 8) ⊎ HasFinished limits run before after boards acts ends objects text n
+finished limits run before closed after boards acts ends objects lines name text n said same is many
+    closes has went (inl memory) = inl memory
+finished limits run before closed after boards acts ends objects lines name text n said same is many
+    closes has went (inr stands) = inr (record {
+      lines = lines;
+      refused = stands.refused;
+      has_lines = has;
+      journal = journal_of run before closed after acts lines name stands.refused is closes.went
+          stands.kept;
+      written = are_written run objects before.texts closed.texts after.texts many closes.texts
+          closes.holds
+          (subst (λ (m : List ℕ). ChangesOnly closed.texts after.texts m) is stands.others);
+      causes = λ session own at.
+          causes_later run before closed after session own went (closes.causes session own at);
+      answer = subst (λ (e : List End). HasAnswer limits acts e lines stands.refused text n) same
+          stands.answer;
+    })

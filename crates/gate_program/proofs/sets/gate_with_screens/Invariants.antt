@@ -1,0 +1,6 @@
+-- so many sets are made
+use Rattle.std.proofs.Common.{◌≡◌, length}
+use Rattle.gate_program.proofs.sets.gate_with_screens.Given as goal
+
+abbrev pub invariant-loop : goal.invariant-loop
+invariant-loop g l = length l.sets.items ≡ l.counter

@@ -1,0 +1,69 @@
+-- What stands when the sessions of a run have ended.
+use Rattle.std.specs.Prelude.{◌≡◌, ℕ, ◌<◌, List, Bool, true, false, slice_get, Some}
+use Rattle.std.specs.List.{AllByRecursion}
+use Rattle.limit_table.specs.declared.limits.Limits.{Limits}
+use Rattle.risk_board.specs.declared.hand.Line.{Line}
+use Rattle.risk_journal.specs.declared.acts.Act.{Act}
+use Rattle.risk_journal.specs.declared.acts.End.{End}
+use Rattle.gate_program.specs.declared.boards.Boards.{Boards}
+use Rattle.risk_journal.specs.JournalText.{journal_text}
+use Rattle.screen_kit.specs.Screens.{ScreenValue}
+use Rattle.gate_program.specs.Words.{RunWords}
+use Rattle.gate_program.specs.Run.{PortsValue, Holds, WriteRose, standing_of}
+use Rattle.gate_program.specs.Gate.{HasJournal}
+use Rattle.gate_program.specs.Totals.{totals_of}
+use Rattle.gate_program.specs.Stages.{ChangesOnly}
+use Rattle.gate_program.specs.Boards.{HasLines, HasPlayed}
+use Rattle.gate_program.specs.Objects.{ObjectsValue, HaveDone, AreWritten, EachHasCauses}
+
+-- each line is of one of so many sessions
+abbrev pub AreOfSessions : ℕ → List (List Line) → Type 0
+AreOfSessions sessions lines =
+    (tree : ℕ) (own : List Line) → slice_get lines tree ≡ Some own
+    → AllByRecursion (λ line. line.session < sessions) own
+
+-- the status that stands is by the ends and by whether the journal was refused, and has its text
+pub record HasAnswer (limits : Limits) (acts : List (List Act)) (ends : List End)
+    (lines : List (List Line)) (refused : Bool) (text : List ℕ) (status : ℕ) : Type 0 where
+  pub stands : status ≡ standing_of ends refused
+  pub told : text ≡ totals_of limits acts ends lines status
+
+-- the name has the text, or its write count rose
+abbrev pub IsKept : PortsValue → PortsValue → List ℕ → List ℕ → Bool → Type 0
+IsKept before after name text false = Holds after.texts name text
+IsKept before after name text true = WriteRose before after name
+
+-- The journal was written under its name or refused, and no other text changed.
+pub record HasStood (limits : Limits) (name : List ℕ) (before after : PortsValue)
+    (acts : List (List Act)) (ends : List End) (lines : List (List Line)) (text : List ℕ)
+    (status : ℕ) : Type 0 where
+  pub refused : Bool
+  pub answer : HasAnswer limits acts ends lines refused text status
+  pub kept : IsKept before after name (journal_text acts lines) refused
+  pub others : ChangesOnly before.texts after.texts name
+
+-- The objects were given back and closed before.
+pub record HasFinished (limits : Limits) (run : RunWords) (before after : PortsValue)
+    (boards : Boards)
+    (acts : List (List Act)) (ends : List End) (objects : List ObjectsValue) (text : List ℕ)
+    (status : ℕ) : Type 0 where
+  pub lines : List (List Line)
+  pub refused : Bool
+  pub has_lines : HasLines boards lines
+  pub journal : HasJournal before after run acts lines refused
+  pub written : AreWritten run before.texts after.texts objects
+  pub causes : EachHasCauses run before after objects
+  pub answer : HasAnswer limits acts ends lines refused text status
+
+-- The sessions that were opened ran with their screens on boards of their own, were closed, and
+-- stand in the journal.
+pub record HasEnded (limits : Limits) (sets : List (List ScreenValue)) (run : RunWords)
+    (before after : PortsValue) (objects : List ObjectsValue) (text : List ℕ) (status : ℕ)
+    : Type 0 where
+  pub boards : Boards
+  pub acts : List (List Act)
+  pub ends : List End
+  pub objects_after : List ObjectsValue
+  pub done : HaveDone limits sets objects objects_after acts ends
+  pub played : HasPlayed limits boards acts
+  pub finished : HasFinished limits run before after boards acts ends objects_after text status

@@ -1,0 +1,165 @@
+-- The inputs and outputs of sessions: what is told of them, and what a run does with them.
+use Rattle.std.specs.Prelude.{◌≡◌, ◌≢◌, ℕ, ◌<◌, List, length, Option, Some, None, IfSome}
+use Rattle.std.specs.Prelude.{MatchOption}
+use Rattle.std.specs.Prelude.{slice_get, ◌⊎◌, false}
+use Rattle.std.specs.Str.{bytes_eq}
+use Rattle.gate_ports.specs.Faults.{Rose}
+use Rattle.gate_ports.specs.Names.{Texts, IsOpened, IsEmptySink}
+use Rattle.limit_table.specs.declared.limits.Limits.{Limits}
+use Rattle.risk_journal.specs.declared.acts.Act.{Act}
+use Rattle.risk_journal.specs.declared.acts.End.{End}
+use Rattle.risk_journal.specs.declared.acts.End.TheVariants as ending
+use Rattle.screen_kit.specs.Screens.{ScreenValue}
+use Rattle.session_engine.specs.Follows.{IsByInput, FollowsSource}
+use Rattle.session_engine.specs.Session.{armed_for}
+use Rattle.gate_program.specs.declared.open.Opened.{Opened}
+use Rattle.gate_program.specs.Words.{RunWords, venue_name, client_name, output_names, is_among}
+use Rattle.gate_program.specs.Run.{PortsValue, ReadRose, WriteRose, session_name, set_of}
+use Rattle.gate_program.specs.Stages.{Went, IsOwn}
+
+-- a session's input and outputs: what is left or held, the name, and the count of faults of each
+pub record ObjectsValue : Type 0 where
+  pub left : Option (List ℕ)
+  pub input_name : Option (List ℕ)
+  pub input_faults : ℕ
+  pub venue_held : Option (List ℕ)
+  pub venue_name : Option (List ℕ)
+  pub venue_faults : ℕ
+  pub client_held : Option (List ℕ)
+  pub client_name : Option (List ℕ)
+  pub client_faults : ℕ
+
+-- a session's objects as clauses name them
+abbrev pub objects_of : {S K : Type 0} → (S → Option (List ℕ)) → (S → Option (List ℕ)) → (S → ℕ)
+    → (K → Option (List ℕ)) → (K → Option (List ℕ)) → (K → ℕ) → Opened S K → ObjectsValue
+objects_of left input_name input_faults held output_name output_faults opened = record {
+  left = left opened.input;
+  input_name = input_name opened.input;
+  input_faults = input_faults opened.input;
+  venue_held = held opened.sinks.venue;
+  venue_name = output_name opened.sinks.venue;
+  venue_faults = output_faults opened.sinks.venue;
+  client_held = held opened.sinks.client;
+  client_name = output_name opened.sinks.client;
+  client_faults = output_faults opened.sinks.client;
+}
+
+-- a session's objects may be given back under their names
+pub record AreOwn (run : RunWords) (told : Option Texts) (session : ℕ) (own : ObjectsValue)
+    : Type 0 where
+  pub input : IsOwn told (session_name run session) own.input_name
+  pub venue : IsOwn told (venue_name run.out session) own.venue_name
+  pub client : IsOwn told (client_name run.out session) own.client_name
+
+-- so may those of each session
+abbrev pub EachOwn : RunWords → Option Texts → List ObjectsValue → Type 0
+EachOwn run told objects =
+    (session : ℕ) (own : ObjectsValue) → slice_get objects session ≡ Some own
+    → AreOwn run told session own
+
+-- a session's objects are new: the input has its name's text left, the outputs are empty, and there
+-- was
+-- no fault
+pub record AreNew (run : RunWords) (told : Option Texts) (session : ℕ) (own : ObjectsValue)
+    : Type 0 where
+  pub opened : IsOpened told (session_name run session) own.left
+  pub venue_empty : IsEmptySink told own.venue_held
+  pub client_empty : IsEmptySink told own.client_held
+  pub input_fresh : own.input_faults ≡ 0
+  pub venue_fresh : own.venue_faults ≡ 0
+  pub client_fresh : own.client_faults ≡ 0
+
+-- the name is none of the outputs of the first sessions
+abbrev pub IsApart : List ℕ → ℕ → List ℕ → Type 0
+IsApart out count name =
+    (session : ℕ) → session < count
+    → (bytes_eq name (venue_name out session) ≡ false) × (bytes_eq name (client_name out session) ≡
+    false)
+
+-- each name but the outputs of the first sessions has its text, where the folder tells it
+abbrev pub ChangesOutputs : List ℕ → ℕ → Option Texts → Option Texts → Type 0
+ChangesOutputs out count before after =
+    MatchOption before (after ≡ None)
+    (λ old. (new : Texts) × (after ≡ Some new)
+    × ((name : List ℕ) → IsApart out count name → new name ≡ old name))
+
+-- The objects of the first sessions were opened and made, and no other name has another text.
+pub record HasOpened (run : RunWords) (before after : PortsValue) (objects : List ObjectsValue)
+    : Type 0 where
+  pub went : Went before after
+  pub texts : ChangesOutputs run.out (length objects) before.texts after.texts
+  pub each : (session : ℕ) (own : ObjectsValue) → slice_get objects session ≡ Some own
+      → AreNew run before.texts session own
+  pub own : EachOwn run after.texts objects
+
+-- What a session did with its objects and these screens, by its end.
+pub record HasDone (limits : Limits) (screens : List ScreenValue) (before after : ObjectsValue)
+    (acts : List Act) (end : End) : Type 0 where
+  pub follows : IsByInput end → FollowsSource limits (armed_for limits screens) before.left acts end
+      before.venue_held after.venue_held before.client_held after.client_held
+  -- a fault that ends the session is one of its own objects
+  pub read : end ≡ ending.ReadFault → Rose before.input_faults after.input_faults
+  pub write : end ≡ ending.WriteFault
+      → Rose before.venue_faults after.venue_faults ⊎ Rose before.client_faults after.client_faults
+  -- the objects are those that were opened
+  pub input_name : after.input_name ≡ before.input_name
+  pub venue_name : after.venue_name ≡ before.venue_name
+  pub client_name : after.client_name ≡ before.client_name
+
+-- The sessions did so, each with its own objects and its own set of these screens.
+pub record HaveDone (limits : Limits) (sets : List (List ScreenValue))
+    (before after : List ObjectsValue) (acts : List (List Act)) (ends : List End) : Type 0 where
+  pub act_count : length acts ≡ length before
+  pub end_count : length ends ≡ length before
+  pub object_count : length after ≡ length before
+  pub each : (session : ℕ) (own now : ObjectsValue) (did : List Act) (end : End)
+      → slice_get before session ≡ Some own → slice_get after session ≡ Some now
+      → slice_get acts session ≡ Some did → slice_get ends session ≡ Some end
+      → HasDone limits (set_of sets session) own now did end
+
+-- a session's outputs have what its sinks held
+pub record HoldsOutputs (run : RunWords) (texts : Texts) (session : ℕ) (own : ObjectsValue)
+    : Type 0 where
+  pub to_venue : List ℕ
+  pub to_client : List ℕ
+  pub venue : texts (venue_name run.out session) ≡ Some to_venue
+  pub client : texts (client_name run.out session) ≡ Some to_client
+  pub venue_told : IfSome own.venue_held (λ held. held ≡ to_venue)
+  pub client_told : IfSome own.client_held (λ held. held ≡ to_client)
+
+-- so have those of each session
+abbrev pub EachHolds : RunWords → Texts → List ObjectsValue → Type 0
+EachHolds run texts objects =
+    (session : ℕ) (own : ObjectsValue) → slice_get objects session ≡ Some own
+    → HoldsOutputs run texts session own
+
+-- a fault of a session's objects is one of its names
+pub record HasCauses (run : RunWords) (before after : PortsValue) (session : ℕ) (own : ObjectsValue)
+    : Type 0 where
+  pub input : own.input_faults ≢ 0 → ReadRose before after (session_name run session)
+  pub venue : own.venue_faults ≢ 0 → WriteRose before after (venue_name run.out session)
+  pub client : own.client_faults ≢ 0 → WriteRose before after (client_name run.out session)
+
+-- so is one of each session's
+abbrev pub EachHasCauses : RunWords → PortsValue → PortsValue → List ObjectsValue → Type 0
+EachHasCauses run before after objects =
+    (session : ℕ) (own : ObjectsValue) → slice_get objects session ≡ Some own
+    → HasCauses run before after session own
+
+-- The objects of the first sessions were given back and closed.
+pub record HasClosed (run : RunWords) (before after : PortsValue) (objects : List ObjectsValue)
+    : Type 0 where
+  pub went : Went before after
+  pub texts : ChangesOutputs run.out (length objects) before.texts after.texts
+  pub holds : IfSome before.texts (λ old. IfSome after.texts (λ new. EachHolds run new objects))
+  pub causes : EachHasCauses run before after objects
+
+-- The outputs and the journal are written, and names that are no outputs keep their texts, where
+-- the
+-- folder tells its texts.
+pub record AreWritten (run : RunWords) (before after : Option Texts) (objects : List ObjectsValue)
+    : Type 0 where
+  pub tells : before ≡ None → after ≡ None
+  pub holds : IfSome before (λ old. IfSome after (λ new. EachHolds run new objects))
+  pub others : IfSome before (λ old. IfSome after (λ new. (name : List ℕ)
+      → is_among name (output_names run.out (length run.sessions)) ≡ false → new name ≡ old name))

@@ -1,0 +1,157 @@
+//! The journal of a run, and what comes of the run behind it.
+ghost use Rattle.std.specs.Prelude.{◌≡◌, ◌≤◌, ◌⊎◌, length, map, string_bytes};
+ghost use Rattle.std.specs.Prelude.{OnOk, IsErrOf};
+ghost use Rattle.limit_table.specs.Files.{IsHeldByFile};
+ghost use Rattle.gate_program.specs.Boards.{HasTrees, HasPlayed};
+ghost use Rattle.gate_program.specs.CommandOf.{run_value};
+ghost use Rattle.gate_program.specs.Finish.{HasAnswer, HasStood, HasFinished, AreOfSessions};
+ghost use Rattle.gate_program.specs.Names.{AreNames};
+ghost use Rattle.gate_program.specs.Objects.{objects_of, EachOwn};
+ghost use Rattle.gate_program.specs.Run.{Holds, WriteRose};
+ghost use Rattle.gate_program.specs.Stages.{folder_of, Went, ChangesOnly};
+ghost use Rattle.gate_program.specs.Statuses.{answer_number, answer_text};
+ghost use Rattle.gate_program.specs.Words.{journal_name, session_most};
+
+use crate::boards::lines_of;
+use crate::close::close_sessions;
+use crate::names::Names;
+use crate::play::{Ended, Finished};
+use crate::status::{Answer, Status, standing};
+use crate::totals::totals_text;
+use crate::words::Run;
+use fold_law::Memory;
+use gate_ports::{Folder, PortFault, give_all};
+use limit_table::Limits;
+use risk_journal::{End, Journal, write_journal};
+use std::alloc::Global;
+
+/// Creates a name, gives it these bytes and closes it.
+fn write_file<D: Folder>(name: &str, bytes: &[u8], folder: &mut D) -> Result<(), PortFault>
+    ensures went { Went (folder_of D.texts D.read_faults D.write_faults folder.old)
+        (folder_of D.texts D.read_faults D.write_faults folder.new) }
+    ensures ok { OnOk result (Holds (D.texts folder.new) name.now bytes.now) }
+    ensures others { ChangesOnly (D.texts folder.old) (D.texts folder.new) name.now }
+    ensures cause { IsErrOf result PortFault.Failed
+        → WriteRose (folder_of D.texts D.read_faults D.write_faults folder.old)
+        (folder_of D.texts D.read_faults D.write_faults folder.new) name.now }
+{
+    let mut output = match folder.create(name) {
+        Ok(output) => output,
+        Err(fault) => return Err(fault),
+    };
+    let given = give_all(&mut output, bytes);
+    folder.close(name, output);
+    given
+}
+
+/// What comes of a run whose sessions have ended. `refused` says whether its journal could not be
+/// written.
+fn answer_after(
+    alloc: Global,
+    limits: &Limits,
+    journal: &Journal,
+    ends: &[End],
+    refused: bool,
+) -> Answer
+    requires held { IsHeldByFile limits.now }
+    requires few { length journal.now.acts.items ≤ session_most }
+    requires ends { length ends.now ≡ length journal.now.acts.items }
+    requires sessions { AreOfSessions (length journal.now.acts.items)
+        (map (λ own. own.items) journal.now.lines.items) }
+    ensures { (answer_number result ≡ 8) ⊎ HasAnswer limits.now
+        (map (λ own. own.items) journal.now.acts.items) ends.now
+        (map (λ own. own.items) journal.now.lines.items) refused
+        (answer_text result) (answer_number result) }
+{
+    let status = standing(ends, refused);
+    match status {
+        Status::Memory => Answer::Stopped(status),
+        _ => match totals_text(alloc, limits, journal, ends, status) {
+            Ok(text) => Answer::Ended(status, text),
+            Err(Memory) => Answer::Stopped(Status::Memory),
+        },
+    }
+}
+
+/// Writes the journal of sessions that have ended.
+fn keep_journal<D: Folder>(
+    alloc: Global,
+    limits: &Limits,
+    name: &str,
+    journal: &Journal,
+    ends: &[End],
+    folder: &mut D,
+) -> Answer
+    requires held { IsHeldByFile limits.now }
+    requires few { length journal.now.acts.items ≤ session_most }
+    requires ends { length ends.now ≡ length journal.now.acts.items }
+    requires sessions { AreOfSessions (length journal.now.acts.items)
+        (map (λ own. own.items) journal.now.lines.items) }
+    ensures went { Went (folder_of D.texts D.read_faults D.write_faults folder.old)
+        (folder_of D.texts D.read_faults D.write_faults folder.new) }
+    ensures stood { (answer_number result ≡ 8) ⊎ HasStood limits.now name.now
+        (folder_of D.texts D.read_faults D.write_faults folder.old)
+        (folder_of D.texts D.read_faults D.write_faults folder.new)
+        (map (λ own. own.items) journal.now.acts.items) ends.now
+        (map (λ own. own.items) journal.now.lines.items)
+        (answer_text result) (answer_number result) }
+{
+    let text = match write_journal(alloc, journal) {
+        Ok(text) => text,
+        Err(Memory) => return Answer::Stopped(Status::Memory),
+    };
+    match write_file(name, &text, folder) {
+        Ok(()) => answer_after(alloc, limits, journal, ends, false),
+        Err(PortFault::Failed) => answer_after(alloc, limits, journal, ends, true),
+        Err(PortFault::Memory) => Answer::Stopped(Status::Memory),
+    }
+}
+
+/// Closes sessions that have ended, and writes the journal.
+pub(crate) fn finish<D: Folder>(
+    alloc: Global,
+    run: &Run,
+    limits: &Limits,
+    names: &Names,
+    finished: Finished<D::In, D::Out>,
+    folder: &mut D,
+) -> Answer
+    requires held { IsHeldByFile limits.now }
+    requires most { length run.now.sessions.now ≤ session_most }
+    requires names { AreNames run.now.out.now (length run.now.sessions.now)
+        names.now.sessions.items }
+    requires journal { string_bytes names.now.journal ≡ journal_name run.now.out.now }
+    requires trees { HasTrees finished.boards }
+    requires played { HasPlayed limits.now finished.boards
+        (map (λ own. own.items) finished.ended.acts.items) }
+    requires act_count { length finished.ended.acts.items ≡ length run.now.sessions.now }
+    requires end_count { length finished.ended.ends.items ≡ length run.now.sessions.now }
+    requires object_count { length finished.ended.opened.items ≡ length run.now.sessions.now }
+    requires own { EachOwn (run_value run.now) (D.texts folder.old)
+        (map (objects_of D.In.left D.In.name D.In.faults D.Out.held D.Out.name D.Out.faults)
+        finished.ended.opened.items) }
+    ensures { (answer_number result ≡ 8) ⊎ HasFinished limits.now (run_value run.now)
+        (folder_of D.texts D.read_faults D.write_faults folder.old)
+        (folder_of D.texts D.read_faults D.write_faults folder.new)
+        finished.boards (map (λ own. own.items) finished.ended.acts.items)
+        finished.ended.ends.items
+        (map (objects_of D.In.left D.In.name D.In.faults D.Out.held D.Out.name D.Out.faults)
+        finished.ended.opened.items) (answer_text result) (answer_number result) }
+{
+    let Finished { ended, boards } = finished;
+    let Ended { acts, ends, opened } = ended;
+    close_sessions(run, &names.sessions, opened, folder);
+    let lines = match lines_of(alloc, &boards) {
+        Ok(lines) => lines,
+        Err(Memory) => return Answer::Stopped(Status::Memory),
+    };
+    let journal = Journal { acts, lines };
+    keep_journal(
+        alloc,
+        limits,
+        names.journal.as_str(),
+        &journal,
+        &ends,
+        folder,
+    )
+}

@@ -1,0 +1,266 @@
+//! The totals of a run, as text.
+ghost use Rattle.std.specs.Prelude.{◌≡◌, ◌≤◌, ◌<◌, ◌*◌, length, map, max, IfOk, count_by};
+ghost use Rattle.std.specs.List.{AllByRecursion};
+ghost use Rattle.fold_law.specs.Sum.{sum_of};
+ghost use Rattle.fold_law.specs.Whole.{whole_of};
+ghost use Rattle.limit_table.specs.Files.{IsHeldByFile};
+ghost use Rattle.risk_board.specs.History.{array_after, components_of};
+ghost use Rattle.session_engine.specs.Trees.{halt_tree, fold_of, limit_of};
+ghost use Rattle.gate_program.specs.Finish.{AreOfSessions};
+ghost use Rattle.gate_program.specs.Statuses.{number_of};
+ghost use Rattle.gate_program.specs.Totals.{is_sent, is_refused, is_noted, session_total};
+ghost use Rattle.gate_program.specs.Totals.{session_totals, kind_of, name_of, or_zero, tree_total};
+ghost use Rattle.gate_program.specs.Totals.{tree_totals_from, totals_of};
+ghost use Rattle.gate_program.specs.Words.{session_most};
+
+use crate::status::Status;
+use fold_law::Memory;
+use limit_table::Limits;
+use risk_board::Line;
+use risk_journal::{
+    Act, End, Id64, Journal, SessionTotal, Totals, TreeKind, TreeTotal, write_totals,
+};
+use std::alloc::Global;
+
+/// How many orders were sent.
+fn count_sent(acts: &[Act]) -> u64
+    ensures { result ≡ count_by is_sent acts.now }
+{
+    acts.iter()
+        .filter(|act| matches!(act, Act::Sent { .. }))
+        .count() as u64
+}
+
+/// How many orders were refused.
+fn count_refused(acts: &[Act]) -> u64
+    ensures { result ≡ count_by is_refused acts.now }
+{
+    acts.iter()
+        .filter(|act| matches!(act, Act::Refused { .. }))
+        .count() as u64
+}
+
+/// How many frames were noted.
+fn count_noted(acts: &[Act]) -> u64
+    ensures { result ≡ count_by is_noted acts.now }
+{
+    acts.iter()
+        .filter(|act| matches!(act, Act::Noted { .. }))
+        .count() as u64
+}
+
+/// The total of a session with this end and these acts.
+fn session_total(end: End, acts: &[Act]) -> SessionTotal
+    ensures { result ≡ session_total end acts.now }
+{
+    SessionTotal {
+        end,
+        sent: count_sent(acts),
+        refused: count_refused(acts),
+        noted: count_noted(acts),
+    }
+}
+
+/// The totals of sessions with these ends and acts.
+fn session_totals(
+    alloc: Global,
+    ends: &[End],
+    acts: &[Vec<Act>],
+) -> Result<Vec<SessionTotal>, Memory>
+    requires { length ends.now ≡ length acts.now }
+    ensures { IfOk result (λ all.
+        all.items ≡ session_totals ends.now (map (λ own. own.items) acts.now)) }
+{
+    let mut all = Vec::new(alloc);
+    for session in 0..ends.len() {
+        let total = session_total(ends[session], acts[session].as_slice());
+        let Ok(()) = all.push(total) else {
+            return Err(Memory);
+        };
+    }
+    Ok(all)
+}
+
+/// What the limit file says of a tree.
+#[derive(Drop)]
+struct Row {
+    kind: TreeKind,
+    name: Id64,
+    limit: u64,
+}
+
+/// What the limit file says of the tree of this number.
+fn row_of(limits: &Limits, tree: usize) -> Row
+    requires { IsHeldByFile limits.now }
+    ensures kind { result.kind ≡ kind_of limits.now tree }
+    ensures name { result.name ≡ name_of limits.now tree }
+    ensures limit { result.limit ≡ or_zero (limit_of limits.now tree) }
+{
+    let accounts = limits.accounts.rows();
+    let symbols = limits.symbols.rows();
+    if tree == 0 {
+        Row {
+            kind: TreeKind::Firm,
+            name: Id64::of(b"-"),
+            limit: limits.firm,
+        }
+    } else if tree < 1 + accounts.len() {
+        let row = &accounts[tree - 1];
+        Row {
+            kind: TreeKind::Account,
+            name: Id64::of(row.name.bytes()),
+            limit: row.limit,
+        }
+    } else if tree < 1 + accounts.len() + symbols.len() {
+        let row = &symbols[tree - 1 - accounts.len()];
+        Row {
+            kind: TreeKind::Symbol,
+            name: Id64::of(row.name.bytes()),
+            limit: row.limit,
+        }
+    } else {
+        Row {
+            kind: TreeKind::Halt,
+            name: Id64::of(b"-"),
+            limit: 0,
+        }
+    }
+}
+
+/// The least power of two at or above the number of sessions.
+fn components(sessions: usize) -> usize
+    requires { sessions ≤ session_most }
+    ensures value { result ≡ components_of sessions }
+    ensures least { sessions ≤ result }
+    ensures most { result ≤ 2 * session_most }
+{
+    let mut power = 1;
+    while power < sessions {
+        power *= 2;
+    }
+    power
+}
+
+/// The plain array of so many components behind these lines.
+fn array_of(alloc: Global, components: usize, lines: &[Line]) -> Result<Vec<u64>, Memory>
+    requires { AllByRecursion (λ line. line.session < components) lines.now }
+    ensures array { IfOk result (λ array. array.items ≡ array_after 0 components lines.now) }
+    ensures many { IfOk result (λ array. length array.items ≡ components) }
+{
+    let Ok(mut array) = Vec::from_elem(alloc, 0, components) else {
+        return Err(Memory);
+    };
+    for line in lines {
+        array[line.session as usize] = line.value;
+    }
+    Ok(array)
+}
+
+/// The sum of the values of an array.
+fn sum_up(values: &[u64]) -> u128
+    requires { length values.now ≤ 2 * session_most }
+    ensures { result ≡ whole_of sum_of 0 values.now }
+{
+    let mut sum: u128 = 0;
+    for value in values {
+        sum += *value as u128;
+    }
+    sum
+}
+
+/// The larger of two.
+fn larger(one: u64, other: u64) -> u64
+    ensures { result ≡ max one other }
+{
+    if one < other { other } else { one }
+}
+
+/// The largest of the values, and 0 of none.
+fn largest(values: &[u64]) -> u64
+    ensures { result ≡ whole_of max 0 values.now }
+{
+    let mut most = 0;
+    for value in values {
+        most = larger(most, *value);
+    }
+    most
+}
+
+/// How a tree stands behind its lines.
+fn tree_total(
+    alloc: Global,
+    limits: &Limits,
+    sessions: usize,
+    tree: usize,
+    lines: &[Line],
+) -> Result<TreeTotal, Memory>
+    requires held { IsHeldByFile limits.now }
+    requires few { sessions ≤ session_most }
+    requires sessions { AllByRecursion (λ line. line.session < sessions) lines.now }
+    ensures { IfOk result (λ total. total ≡ tree_total limits.now sessions tree lines.now) }
+{
+    let row = row_of(limits, tree);
+    let array = array_of(alloc, components(sessions), lines)?;
+    let root = if tree == limits.halt_tree() as usize {
+        largest(&array) as u128
+    } else {
+        sum_up(&array)
+    };
+    Ok(TreeTotal {
+        kind: row.kind,
+        name: row.name,
+        posts: lines.len() as u64,
+        root,
+        limit: row.limit,
+    })
+}
+
+/// How the trees stand behind their lines, in the order of their numbers.
+fn tree_totals(
+    alloc: Global,
+    limits: &Limits,
+    sessions: usize,
+    lines: &[Vec<Line>],
+) -> Result<Vec<TreeTotal>, Memory>
+    requires held { IsHeldByFile limits.now }
+    requires few { sessions ≤ session_most }
+    requires sessions { AreOfSessions sessions (map (λ own. own.items) lines.now) }
+    ensures { IfOk result (λ all. all.items
+        ≡ tree_totals_from limits.now sessions 0 (map (λ own. own.items) lines.now)) }
+{
+    let mut all = Vec::new(alloc);
+    for tree in 0..lines.len() {
+        let total = tree_total(alloc, limits, sessions, tree, lines[tree].as_slice())?;
+        let Ok(()) = all.push(total) else {
+            return Err(Memory);
+        };
+    }
+    Ok(all)
+}
+
+/// The text of the totals of a run with this journal, these ends and this status.
+pub(crate) fn totals_text(
+    alloc: Global,
+    limits: &Limits,
+    journal: &Journal,
+    ends: &[End],
+    status: Status,
+) -> Result<Vec<u8>, Memory>
+    requires held { IsHeldByFile limits.now }
+    requires few { length journal.now.acts.items ≤ session_most }
+    requires ends { length ends.now ≡ length journal.now.acts.items }
+    requires sessions { AreOfSessions (length journal.now.acts.items)
+        (map (λ own. own.items) journal.now.lines.items) }
+    ensures { IfOk result (λ text. text.items ≡ totals_of limits.now
+        (map (λ own. own.items) journal.now.acts.items) ends.now
+        (map (λ own. own.items) journal.now.lines.items) (number_of status)) }
+{
+    let sessions = session_totals(alloc, ends, &journal.acts)?;
+    let trees = tree_totals(alloc, limits, journal.acts.len(), &journal.lines)?;
+    let totals = Totals {
+        sessions,
+        trees,
+        status: status.number(),
+    };
+    write_totals(alloc, &totals)
+}

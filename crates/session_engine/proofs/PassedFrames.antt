@@ -1,0 +1,120 @@
+-- A frame that is only noted or counted.
+use Rattle.std.proofs.Common.{◌≡◌, ℕ, List, [], ◌∷◌, ◌++◌, refl, sym, ap, ◌∙◌, true, false, arith}
+use Rattle.std.specs.Prelude.{Option, Some, None, Ok}
+use Rattle.std.proofs.lemmas.Bool.{false≢true}
+use Rattle.fix_fields.specs.Fields.{FieldValue}
+use Rattle.fix_fields.specs.declared.frame.Frame.{Frame}
+use Rattle.fix_orders.specs.declared.message.Message.TheVariants as message
+use Rattle.fix_orders.specs.Reading.{read_of}
+use Rattle.order_desk.specs.Values.{roomless}
+use Rattle.risk_journal.specs.declared.acts.Act.{Act}
+use Rattle.session_engine.specs.declared.counts.Counts.{Counts}
+use Rattle.session_engine.specs.declared.note.Note.{Note}
+use Rattle.session_engine.specs.declared.note.Note.TheVariants as note
+use Rattle.session_engine.specs.Session.{LimitsValue, SessionValue, asks}
+use Rattle.session_engine.specs.Reaches.{with_reads, Steps}
+use Rattle.session_engine.specs.Taken.{Kept, StandsAs, IsFrameOf, Takes, TakesFrom, TakesSound}
+use Rattle.session_engine.specs.Taken.{counted, noted_act}
+use Rattle.session_engine.proofs.QuietActs.{reads_of-quiet}
+use Rattle.session_engine.proofs.TakenLemmas.{frame_by, steps_quiet, next_by, takes_next}
+use Rattle.session_engine.proofs.TakenLemmas.{appends_nothing}
+
+-- what is kept after such a frame
+pub record Passes (before after : Kept) : Type 0 where
+  pub book : roomless after.book ≡ roomless before.book
+  pub screens : after.screens ≡ before.screens
+  pub counts : after.counts ≡ counted before.counts
+  pub client_id : after.client_id ≡ before.client_id
+  pub venue : after.venue ≡ before.venue
+  pub client : after.client ≡ before.client
+
+module _ (limits : LimitsValue) (fields : Option (List FieldValue)) (session : SessionValue)
+    (before after : Kept) (own : StandsAs before session) (passes : Passes before after) where
+  -- the session with these acts, and as before
+  takes_passed : (acts : List Act) → acts ≡ after.acts
+      → Steps limits fields session
+      (next_by acts session.book session.screens session.client_id None None None session)
+      → (next : SessionValue) × Takes limits fields session next before after
+  takes_passed acts acts_are steps =
+      takes_next limits fields session before after acts session.book session.screens
+      session.client_id None None None own acts_are (own.stands.book_is ∙ sym passes.book)
+      (own.screens_are ∙ sym passes.screens) (own.client_is ∙ sym passes.client_id)
+      (record {
+        frames = ap (λ (c : Counts). c.frames) passes.counts;
+        venue = omega (arith, ap (λ (c : Counts). c.venue) passes.counts);
+        client = omega (arith, ap (λ (c : Counts). c.client) passes.counts);
+        firms = ap (λ (c : Counts). c.firms) passes.counts;
+      }) (appends_nothing before.venue after.venue passes.venue)
+      (appends_nothing before.client after.client passes.client) steps
+
+  noted_are : (what : Note)
+      → after.acts ≡ before.acts ++ noted_act what before.counts.frames ∷ []
+      → session.acts ++ noted_act what session.frames ∷ [] ≡ after.acts
+  noted_are what acts =
+      ap (λ l. l ++ noted_act what session.frames ∷ []) own.stands.acts_are
+      ∙ ap (λ n. before.acts ++ noted_act what n ∷ []) (sym own.stands.frames) ∙ sym acts
+
+-- a frame that isn't sound
+takes_unsound : (limits : LimitsValue) (session : SessionValue) (before after : Kept)
+    → StandsAs before session → Passes before after
+    → after.acts ≡ before.acts ++ noted_act note.NotSound before.counts.frames ∷ []
+    → (next : SessionValue) × Takes limits None session next before after
+takes_unsound limits session before after own passes acts =
+    let noted = session.acts ++ noted_act note.NotSound session.frames ∷ [] in
+    takes_passed limits None session before after own passes noted
+    (noted_are limits None session before after own passes note.NotSound acts)
+    (steps_quiet limits None session
+    (next_by noted session.book session.screens session.client_id None None None session)
+    (reads_of-quiet session.acts (noted_act note.NotSound session.frames ∷ []) refl)
+    (λ more. refl))
+
+-- a message of another type
+pub takes_other : (limits : LimitsValue) (fields : List FieldValue) (session : SessionValue)
+    (before after : Kept) → asks fields ≡ false → read_of fields ≡ Ok message.Other
+    → StandsAs before session → Passes before after
+    → after.acts ≡ before.acts ++ noted_act note.OtherType before.counts.frames ∷ []
+    → (next : SessionValue) × Takes limits (Some fields) session next before after
+takes_other limits fields session before after asks_are read own passes acts =
+    let noted = session.acts ++ noted_act note.OtherType session.frames ∷ [] in
+    takes_passed limits (Some fields) session before after own passes noted
+    (noted_are limits (Some fields) session before after own passes note.OtherType acts)
+    (steps_quiet limits (Some fields) session
+    (next_by noted session.book session.screens session.client_id None None None session)
+    (reads_of-quiet session.acts (noted_act note.OtherType session.frames ∷ []) refl)
+    (λ more. frame_by limits fields false (Ok message.Other) (with_reads more session) asks_are
+    read))
+
+-- a message of the session
+pub takes_admin : (limits : LimitsValue) (fields : List FieldValue) (session : SessionValue)
+    (before after : Kept) → asks fields ≡ false → read_of fields ≡ Ok message.Admin
+    → StandsAs before session → Passes before after → after.acts ≡ before.acts
+    → (next : SessionValue) × Takes limits (Some fields) session next before after
+takes_admin limits fields session before after asks_are read own passes acts =
+    takes_passed limits (Some fields) session before after own passes session.acts
+    (own.stands.acts_are ∙ sym acts)
+    (steps_quiet limits (Some fields) session
+    (next_by session.acts session.book session.screens session.client_id None None None session)
+    refl
+    (λ more. frame_by limits fields false (Ok message.Admin) (with_reads more session) asks_are
+    read))
+
+-- a sound frame is taken whatever its fields are
+pub sound_takes : (limits : LimitsValue) (bytes : List ℕ) (frame : Frame) (before after : Kept)
+    (fields : Option (List FieldValue)) → TakesSound limits bytes frame before after
+    → frame.sound ≡ true → IsFrameOf bytes frame fields → TakesFrom limits fields before after
+sound_takes limits bytes frame before after None takes sound (from, stands, is) =
+    absurd (false≢true (sym is ∙ sound))
+sound_takes limits bytes frame before after (Some listed) takes sound (from, stands, is) =
+    takes listed (from, stands)
+
+-- a frame that isn't sound is noted
+pub unsound_takes : (limits : LimitsValue) (bytes : List ℕ) (frame : Frame) (before after : Kept)
+    (fields : Option (List FieldValue)) (session : SessionValue) → frame.sound ≡ false
+    → IsFrameOf bytes frame fields → StandsAs before session → Passes before after
+    → after.acts ≡ before.acts ++ noted_act note.NotSound before.counts.frames ∷ []
+    → (next : SessionValue) × Takes limits fields session next before after
+unsound_takes limits bytes frame before after None session sound frame_is own passes acts =
+    takes_unsound limits session before after own passes acts
+unsound_takes limits bytes frame before after (Some listed) session sound (from, stands, is) own
+    passes acts =
+    absurd (false≢true (sym sound ∙ is))

@@ -1,0 +1,102 @@
+//! Screens that tests make: a firm's own, one that gets no room, and one that counts its drops.
+ghost use Rattle.std.specs.Prelude.{◌+◌, [], ◌∷◌, codes, nat_lt, slice_index, if◌then◌else◌};
+
+use screen_kit::{Memory, Order, Screen, Terms};
+use std::alloc::Global;
+use std::sync::Arc;
+use std::sync::atomic::{AtomicU64, Ordering};
+
+/// `first_two`: refuses with 100 every order after the first two that it judged.
+#[derive(Drop)]
+pub(crate) struct FirstTwo {
+    pub passed: u32,
+}
+
+impl Screen for FirstTwo {
+    ghost meaning = { λ screen. record {
+      name = codes "first_two";
+      kept = screen.passed ∷ [];
+      opening = λ _. 0 ∷ [];
+      code = λ kept _. (if nat_lt (slice_index kept 0) 2 then 0 else 100);
+      next = λ kept _. (if nat_lt (slice_index kept 0) 2 then slice_index kept 0 + 1
+          else slice_index kept 0) ∷ [];
+    } };
+
+    fn name(&self) -> &str {
+        "first_two"
+    }
+
+    fn arm(&mut self, _terms: &Terms) -> Result<(), Memory> {
+        self.passed = 0;
+        Ok(())
+    }
+
+    fn judge(&mut self, _order: &Order) -> u16 {
+        if self.passed < 2 {
+            self.passed += 1;
+            0
+        } else {
+            100
+        }
+    }
+}
+
+/// `no_room`: can't be armed.
+#[derive(Drop)]
+pub(crate) struct NoRoom;
+
+impl Screen for NoRoom {
+    ghost meaning = { λ _. record {
+      name = codes "no_room";
+      kept = [];
+      opening = λ _. [];
+      code = λ _ _. 0;
+      next = λ kept _. kept;
+    } };
+
+    fn name(&self) -> &str {
+        "no_room"
+    }
+
+    fn arm(&mut self, _terms: &Terms) -> Result<(), Memory> {
+        Err(Memory)
+    }
+
+    fn judge(&mut self, _order: &Order) -> u16 {
+        0
+    }
+}
+
+/// `counted`: lets every order pass, and counts its drop.
+pub(crate) struct Counted {
+    pub drops: Arc<AtomicU64, Global>,
+}
+
+impl Drop for Counted {
+    fn drop(self) {
+        let Counted { drops } = self;
+        drops.fetch_add(1, Ordering::SeqCst);
+    }
+}
+
+impl Screen for Counted {
+    ghost meaning = { λ _. record {
+      name = codes "counted";
+      kept = [];
+      opening = λ _. [];
+      code = λ _ _. 0;
+      next = λ kept _. kept;
+    } };
+
+    fn name(&self) -> &str {
+        "counted"
+    }
+
+    fn arm(&mut self, _terms: &Terms) -> Result<(), Memory> {
+        Ok(())
+    }
+
+    fn judge(&mut self, _order: &Order) -> u16 {
+        0
+    }
+}
