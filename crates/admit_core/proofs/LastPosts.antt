@@ -13,9 +13,7 @@ use Rattle.admit_core.specs.declared.ask.Ask.{Ask}
 use Rattle.admit_core.specs.Asks.{last_post, latest, leg_at, legs_of, IsLegOf, AreApart, Stands}
 use Rattle.admit_core.specs.Admission.{asking_calls, retracting_calls}
 use Rattle.admit_core.specs.Calls.{posts_of, reads_of, with_calls}
-
-same_from_test : (a b : ℕ) → (a == b) ≡ true → a ≡ b
-same_from_test a b test = grind (arith, nat_tests)
+use Rattle.std.proofs.lemmas.Bool.{eqb-true}
 
 apart_from_test : (a b : ℕ) → (a == b) ≡ false → a ≢ b
 apart_from_test a b test = grind (arith, nat_tests)
@@ -39,9 +37,9 @@ module _ (tree before : ℕ) (trees values : List ℕ) where
       → before ≡ value)
       → after_posts ≡ value
   chosen value first second third none =
-      by_test (slice_index trees 2 == tree) _ _ value (λ e. third (same_from_test _ _ e))
-      (λ last. by_test (slice_index trees 1 == tree) _ _ value (λ e. second (same_from_test _ _ e))
-      (λ middle. by_test (slice_index trees 0 == tree) _ _ value (λ e. first (same_from_test _ _ e))
+      by_test (slice_index trees 2 == tree) _ _ value (λ e. third (eqb-true _ _ e))
+      (λ last. by_test (slice_index trees 1 == tree) _ _ value (λ e. second (eqb-true _ _ e))
+      (λ middle. by_test (slice_index trees 0 == tree) _ _ value (λ e. first (eqb-true _ _ e))
       (λ start. none (apart_from_test _ _ start) (apart_from_test _ _ middle)
       (apart_from_test _ _ last))))
 

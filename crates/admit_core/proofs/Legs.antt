@@ -3,7 +3,7 @@ use Rattle.std.proofs.Common.{◌≡◌, ◌≢◌, ℕ, ◌+◌, ◌≤◌, ◌
 use Rattle.std.proofs.Common.{arith, Bool, true, false, cond, ◌||◌, lit<, lit≤, subst}
 use Rattle.std.specs.Prelude.{All, AllPairs, nat_lt, slice_index}
 use Rattle.std.proofs.lemmas.List.Sums.{sum_by-append}
-use Rattle.std.proofs.lemmas.Bool.{ne_eqb}
+use Rattle.std.proofs.lemmas.Bool.{ne_eqb, ltb-false}
 use Rattle.std.proofs.lemmas.Bool.Decides.{nat_tests}
 use Rattle.risk_board.specs.declared.hand.Call.{Call}
 use Rattle.risk_board.specs.declared.hand.Call.TheVariants.{Post}
@@ -17,13 +17,10 @@ use Rattle.admit_core.specs.Calls.{with_calls, posts_of, reads_of}
 use Rattle.admit_core.specs.Posting.{CanPostAll, AreInRange}
 
 -- no test of three holds
-none_of_three : (a b c : Bool) → a || (b || (c || false)) ≡ false
+pub none_of_three : (a b c : Bool) → a || (b || (c || false)) ≡ false
     → (a ≡ false) × (b ≡ false) × (c ≡ false)
 none_of_three false b c none = grind arith
 none_of_three true b c none = grind arith
-
-not_below : (a b : ℕ) → nat_lt a b ≡ false → b ≤ a
-not_below a b fails = grind (arith, nat_tests)
 
 -- a test counts at most one
 at_most_one : (b : Bool) → cond b 1 0 ≤ 1
@@ -103,13 +100,13 @@ module _ (hand : HandValue) (ask : Ask) (legs : All (IsLegOf hand) (legs_of ask)
 
     -- two posts are left in each tree
     left_at_firm : post_count (tree 0) hand.calls + 2 ≤ hand.quota
-    left_at_firm = not_below _ _ left.0
+    left_at_firm = ltb-false _ _ left.0
 
     left_at_account : post_count (tree 1) hand.calls + 2 ≤ hand.quota
-    left_at_account = not_below _ _ left.1
+    left_at_account = ltb-false _ _ left.1
 
     left_at_symbol : post_count (tree 2) hand.calls + 2 ≤ hand.quota
-    left_at_symbol = not_below _ _ left.2
+    left_at_symbol = ltb-false _ _ left.2
 
     -- the new values can be posted
     pub can_post_new : CanPostAll hand ask.trees ask.new

@@ -17,7 +17,7 @@ use Rattle.exposure_book.specs.Reports.{outcome_of_reject, order_after, without_
 use Rattle.exposure_book.proofs.Sums.{part-le-sum, sum-set, part_by}
 use Rattle.exposure_book.proofs.Lowering.{order_after_lowers, lowers_without_request}
 
-units_up-le : (m n : ℕ) → m ≤ n → units_up m ≤ units_up n
+pub units_up-le : (m n : ℕ) → m ≤ n → units_up m ≤ units_up n
 units_up-le m n h = omega arith
 
 set_lowers : (f : Order → ℕ) (xs : List Order) (i : ℕ) (x y : Order) → slice_get xs i ≡ Some x

@@ -14,6 +14,7 @@ use Rattle.exposure_book.specs.Orders.{Lowers, open_total, leaves_of, reserve_of
 use Rattle.exposure_book.specs.Reports.{ended_order, without_pending, without_request}
 use Rattle.exposure_book.specs.Reports.{rejected_order, replaced_by, traded_order, is_covered}
 use Rattle.exposure_book.specs.Reports.{order_after}
+use Rattle.std.proofs.lemmas.Bool.{and_parts}
 
 pub lowers_itself : (o : Order) → Lowers o o
 lowers_itself o = record { account = refl; symbol = refl; exposure = omega arith }
@@ -92,11 +93,6 @@ lowers_rejected o id = by (is_same_id id o.current)
     by true = lowers_ended o
     by false = lowers_without_request o id
 
-both_true : (a b : Bool) → (a && b) ≡ true → (a ≡ true) × (b ≡ true)
-both_true true true h = (refl, refl)
-both_true true false h = cc
-both_true false b h = cc
-
 -- a fill takes its quantity from the leaves
 leaves_by-fill : (ended : Bool) (total filled quantity : ℕ)
     → quantity ≤ leaves_by ended total filled
@@ -130,7 +126,7 @@ lowers_if_covered : (o : Order) (quantity price : ℕ) (covered : Bool)
     → is_covered quantity price o ≡ covered
     → IfSome (if covered then Some (traded_order quantity price o) else None) (Lowers o)
 lowers_if_covered o quantity price true is =
-    let both = both_true (leb quantity (leaves_of o)) (leb price (reserve_of o)) is in
+    let both = and_parts (leb quantity (leaves_of o)) (leb price (reserve_of o)) is in
     lowers_traded o quantity price (leb-true _ _ both.0) (leb-true _ _ both.1)
 lowers_if_covered o quantity price false is = tt
 

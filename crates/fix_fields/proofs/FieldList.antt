@@ -12,9 +12,7 @@ use Rattle.std.specs.Char.{is_ascii_digit}
 use Rattle.std.specs.Str.Parse.{digits_value}
 use Rattle.fix_fields.specs.Fields.{soh, FieldValue, field, field_text, fields_text, is_value_byte}
 use Rattle.fix_fields.specs.Fields.{IsField, AreFields}
-
-and_both : (a b : Bool) → (a && b) ≡ true → (a ≡ true) × (b ≡ true)
-and_both a b h = grind arith
+use Rattle.std.proofs.lemmas.Bool.{and_parts}
 
 -- what passes the test before a byte that fails it is cut in one way
 pub one_split : (p : ℕ → Bool) (c : ℕ) → p c ≡ false → (d e x y : List ℕ)
@@ -22,15 +20,15 @@ pub one_split : (p : ℕ → Bool) (c : ℕ) → p c ≡ false → (d e x y : Li
 one_split p c fails [] [] x y h k same = (refl, cc)
 one_split p c fails [] (b ∷ e) x y h k same =
     let first : c ≡ b = cc in
-    let yes = (and_both (p b) (list_all p e) k).0 in
+    let yes = (and_parts (p b) (list_all p e) k).0 in
     let bad : false ≡ true = sym fails ∙ ap p first ∙ yes in absurd cc
 one_split p c fails (a ∷ d) [] x y h k same =
     let first : c ≡ a = cc in
-    let yes = (and_both (p a) (list_all p d) h).0 in
+    let yes = (and_parts (p a) (list_all p d) h).0 in
     let bad : false ≡ true = sym fails ∙ ap p first ∙ yes in absurd cc
 one_split p c fails (a ∷ d) (b ∷ e) x y h k same =
-    let rest = one_split p c fails d e x y (and_both (p a) (list_all p d) h).1
-    (and_both (p b) (list_all p e) k).1 cc in
+    let rest = one_split p c fails d e x y (and_parts (p a) (list_all p d) h).1
+    (and_parts (p b) (list_all p e) k).1 cc in
     (let first : a ≡ b = cc in cc, rest.1)
 
 in_range : (c : ℕ) → is_ascii_digit c ≡ true → IsInRange 48 57 c
@@ -45,7 +43,7 @@ and_true a b h k = grind arith
 tells_digits : IsDigitsTest (λ ds. list_all is_ascii_digit ds ≡ true)
 tells_digits = record {
   empty = refl;
-  parts = λ c cs e. let k = and_both (is_ascii_digit c) (list_all is_ascii_digit cs) e in
+  parts = λ c cs e. let k = and_parts (is_ascii_digit c) (list_all is_ascii_digit cs) e in
       (in_range c k.0, k.1);
   more = λ c cs k e. and_true (is_ascii_digit c) (list_all is_ascii_digit cs) (in_order c k) e;
 }

@@ -12,6 +12,7 @@ use Rattle.fix_fields.specs.Parts.{CutsDigits, IsNoLength, IsNoHead}
 use Rattle.fix_fields.specs.declared.cut.NoFrame.{NoFrame}
 use Rattle.fix_fields.specs.declared.cut.NoFrame.TheVariants.{Cut, TooLong, Broken}
 use Rattle.fix_fields.proofs.OneFrame.{digits_then_soh, same_length}
+use Rattle.std.proofs.lemmas.Bool.{and_parts}
 
 regroup_head : (a d m : List ℕ) (c : ℕ) → (a ++ d ++ c ∷ []) ++ m ≡ a ++ (d ++ c ∷ m)
 regroup_head a d m c = simp append_assoc
@@ -169,14 +170,11 @@ in_length rest (x ∷ after) begun are = (
   },
 )
 
-and_both : (a b : Bool) → (a && b) ≡ true → (a ≡ true) × (b ≡ true)
-and_both a b h = grind arith
-
 front_passes : (a k : List ℕ) → list_all is_ascii_digit (a ++ k) ≡ true
     → list_all is_ascii_digit a ≡ true
 front_passes [] k h = refl
 front_passes (x ∷ a) k h =
-    let both = and_both (is_ascii_digit x) (list_all is_ascii_digit (a ++ k)) h in
+    let both = and_parts (is_ascii_digit x) (list_all is_ascii_digit (a ++ k)) h in
     rw both.0 (front_passes a k both.1)
 
 -- and the other way round

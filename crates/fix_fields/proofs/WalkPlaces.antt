@@ -26,16 +26,14 @@ use Rattle.fix_fields.proofs.Cuts.{prefix_is}
 use Rattle.fix_fields.proofs.FieldList.{decimal_digits, fields_text-cons}
 use Rattle.fix_fields.proofs.FieldLists.{first_of, stands_in_front, front_place, list_step, no_list}
 use Rattle.fix_fields.proofs.FrontField.{value_then_soh, count_is, tag_of_field}
-
-and_both : (a b : Bool) → (a && b) ≡ true → (a ≡ true) × (b ≡ true)
-and_both a b h = grind arith
+use Rattle.std.proofs.lemmas.Bool.{and_parts}
 
 -- a value and then SOH: so many bytes of a value stand in front
 value_prefix : (value more : List ℕ) → list_all is_value_byte value ≡ true
     → prefix_len is_value_byte (value ++ soh ∷ more) ≡ length value
 value_prefix [] more h = refl
 value_prefix (x ∷ value) more h =
-    let both = and_both (is_value_byte x) (list_all is_value_byte value) h in
+    let both = and_parts (is_value_byte x) (list_all is_value_byte value) h in
     rw both.0 (omega (arith, value_prefix value more both.1))
 
 -- the bytes between two places

@@ -19,7 +19,7 @@ use Rattle.fix_orders.proofs.OrderValues.{order_was_read}
 use Rattle.fix_orders.proofs.ReadLemmas.{each_none, one_text}
 
 -- an id that was read is its text
-id_text : (c d : Bool) (text : List ℕ)
+pub id_text : (c d : Bool) (text : List ℕ)
     → spelling_reason (if not c then Err Form else (if d then Err Range else Ok text)) ≡ None
     → result_ok (if not c then Err Form else (if d then Err Range else Ok text)) ≡ Some text
 id_text true false text e = refl

@@ -12,12 +12,10 @@ use Rattle.gate_program.specs.Words.{venue_name, client_name, journal_name, sess
 use Rattle.gate_program.specs.Words.{is_among, output_names}
 use Rattle.gate_program.specs.CommandOf.{files_of, file_names}
 use Rattle.gate_program.specs.Objects.{IsApart}
+use Rattle.std.proofs.lemmas.Bool.{eqb-true, or_parts}
 
 is_itself : (x : ℕ) → (x == x) ≡ true
 is_itself x = grind (arith, nat_tests)
-
-is_equal : (a b : ℕ) → (a == b) ≡ true → a ≡ b
-is_equal a b test = grind (arith, nat_tests)
 
 -- two texts with one front are equal where the rests are
 pub bytes_eq-cancel : (front a b : List ℕ) → bytes_eq (front ++ a) (front ++ b) ≡ bytes_eq a b
@@ -41,8 +39,8 @@ never false u = refl
 digits_differ : (i j : ℕ) → i ≢ j → (48 + i / 10 == 48 + j / 10) ≡ true
     → (48 + i % 10 == 48 + j % 10) ≡ true → ⊥
 digits_differ i j apart tens units =
-    let same_tens : 48 + i / 10 ≡ 48 + j / 10 = is_equal _ _ tens in
-    let same_units : 48 + i % 10 ≡ 48 + j % 10 = is_equal _ _ units in
+    let same_tens : 48 + i / 10 ≡ 48 + j / 10 = eqb-true _ _ tens in
+    let same_units : 48 + i % 10 ≡ 48 + j % 10 = eqb-true _ _ units in
     apart (omega arith)
 
 pub venues_apart : (out : List ℕ) (i j : ℕ) → i ≢ j
@@ -173,15 +171,11 @@ pub is_output-outside : (out name : List ℕ) (count : ℕ) → ((rest : List �
 is_output-outside out name count outside =
     ap (is_among name) (names_within out count) ∙ among_none out name (file_names count) outside
 
-neither : (b c : Bool) → (b || c) ≡ false → (b ≡ false) × (c ≡ false)
-neither false c is = (refl, is)
-neither true c is = absurd cc
-
 among_append : (rest : List ℕ) (xs ys : List (List ℕ)) → is_among rest xs ≡ false
     → is_among rest (xs ++ ys) ≡ is_among rest ys
 among_append rest [] ys none = refl
 among_append rest (x ∷ xs) ys none =
-    let both = neither (bytes_eq rest x) (is_among rest xs) none in
+    let both = or_parts (bytes_eq rest x) (is_among rest xs) none in
     ap (λ (b : Bool). b || is_among rest (xs ++ ys)) both.0 ∙ among_append rest xs ys both.1
 
 -- a search among the files goes on behind a session's that aren't it

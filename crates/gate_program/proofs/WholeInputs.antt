@@ -37,6 +37,7 @@ use Rattle.gate_program.specs.Gate.{HasUnserved, IsRefused, RunWent, Tells}
 use Rattle.gate_program.specs.WholeInputs.{IsWholeInput, AreWholeTexts, HasNoFault}
 use Rattle.gate_program.specs.WholeInputs.{HasWholeInputs}
 use Rattle.gate_program.proofs.Lists.{map_at, mapped_at, there_is}
+use Rattle.std.proofs.lemmas.Bool.{or_parts}
 
 -- a frame that stands there is found there
 frame_is_found : (bytes : List ℕ) (from : ℕ) (frame : FrameValue) (a b : ℕ)
@@ -173,19 +174,15 @@ none_of_whole p (end ∷ ends) isnt each =
     let first : p end ≡ false = ap p (each 0 end refl) ∙ isnt in
     rw first (none_of_whole p ends isnt (λ place other is. each (suc place) other is))
 
-either_false : (b c : Bool) → (b || c) ≡ false → (b ≡ false) × (c ≡ false)
-either_false false c is = (refl, is)
-either_false true c is = absurd cc
-
 -- what is so of none of the ends isn't so of any
 isnt_any : (p : End → Bool) (ends : List End) (place : ℕ) (end : End) → list_any p ends ≡ false
     → slice_get ends place ≡ Some end → p end ≡ false
 isnt_any p [] place end none is = absurd cc
 isnt_any p (first ∷ ends) zero end none is =
     let same : first ≡ end = cc in
-    sym (ap p same) ∙ (either_false (p first) (list_any p ends) none).0
+    sym (ap p same) ∙ (or_parts (p first) (list_any p ends) none).0
 isnt_any p (first ∷ ends) (suc place) end none is =
-    isnt_any p ends place end (either_false (p first) (list_any p ends) none).1 is
+    isnt_any p ends place end (or_parts (p first) (list_any p ends) none).1 is
 
 -- ends that are all whole, with a journal, stand at 0
 stands_done : (ends : List End)

@@ -3,7 +3,7 @@ use Rattle.std.proofs.Common.{◌≡◌, ◌≢◌, ℕ, ◌+◌, ◌≤◌, ◌
 use Rattle.std.proofs.Common.{refl, sym, ap, ◌∙◌, subst, arith, Bool, true, false, ◌||◌}
 use Rattle.std.specs.Prelude.{nat_lt, All, IsTrue, ◌↔◌, slice_index}
 use Rattle.std.proofs.lemmas.List.Elements.{All-cons, All-nil}
-use Rattle.std.proofs.lemmas.Bool.{false_from_ne_true}
+use Rattle.std.proofs.lemmas.Bool.{false_from_ne_true, ltb-false}
 use Rattle.std.proofs.lemmas.Bool.Decides.{nat_tests}
 use Rattle.fold_law.specs.declared.limits.TheConstants.{LEAF}
 use Rattle.risk_board.specs.Calls.{post_count}
@@ -25,17 +25,7 @@ use Rattle.hand_acts.proofs.CallLemmas.{post_count-below, last_post-below}
 use Rattle.hand_acts.proofs.TreeTests.{AreRows, TreeTests, tree_tests}
 use Rattle.hand_acts.proofs.AskedActs.{counted}
 use Rattle.hand_acts.proofs.AskedActs.{asks_quota}
-
--- no test of three holds
-none_of_three : (a b c : Bool) → a || (b || (c || false)) ≡ false
-    → (a ≡ false) × (b ≡ false) × (c ≡ false)
-none_of_three false false false none = (refl, refl, refl)
-none_of_three true b c none = absurd cc
-none_of_three false true c none = absurd cc
-none_of_three false false true none = absurd cc
-
-not_above : (a b : ℕ) → nat_lt a b ≡ false → b ≤ a
-not_above a b fails = grind (arith, nat_tests)
+use Rattle.admit_core.proofs.Legs.{none_of_three}
 
 -- the three values can be posted
 pub record AreCapped (values : List ℕ) : Type 0 where
@@ -130,9 +120,9 @@ module _ (limits : LimitsValue) (rows : OrderRows) (acts : List Act) (lasts valu
       (nat_lt limits.quota (posts_in account acts + 2))
       (nat_lt limits.quota (posts_in symbol acts + 2)) enough in
       record {
-        at_firm = not_above _ _ three.0;
-        at_account = not_above _ _ three.1;
-        at_symbol = not_above _ _ three.2;
+        at_firm = ltb-false _ _ three.0;
+        at_account = ltb-false _ _ three.1;
+        at_symbol = ltb-false _ _ three.2;
       }
 
   made_is : (tree : ℕ) → tree < halt_tree limits → posts_in tree acts + 2 ≤ limits.quota

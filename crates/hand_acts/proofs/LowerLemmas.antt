@@ -5,7 +5,7 @@ use Rattle.std.proofs.Common.{inl, inr}
 use Rattle.std.specs.Prelude.{nat_lt, nat_le, not, IsTrue, IsFalse, ◌↔◌, ◌⊎◌, slice_index}
 use Rattle.std.specs.Prelude.{slice_index_or, slice_set}
 use Rattle.std.proofs.lemmas.List.{append-nil, length-set}
-use Rattle.std.proofs.lemmas.Bool.{true≢false, false_from_ne_true, ne_eqb, eq-eqb}
+use Rattle.std.proofs.lemmas.Bool.{true≢false, false_from_ne_true, ne_eqb, eq-eqb, and_parts, lt-ltb}
 use Rattle.std.proofs.lemmas.Bool.Decides.{nat_tests}
 use Rattle.fold_law.specs.declared.limits.TheConstants.{LEAF}
 use Rattle.risk_board.specs.Calls.{post_count}
@@ -29,16 +29,8 @@ use Rattle.hand_acts.proofs.CallLemmas.{calls_below-append, calls_at-append, pos
 use Rattle.hand_acts.proofs.KeptLasts.{cond_within, set_at}
 use Rattle.hand_acts.proofs.TreeTests.{AreRows, TreeTests, tree_tests}
 
-is_below : (a b : ℕ) → a < b → nat_lt a b ≡ true
-is_below a b inside = grind (arith, nat_tests)
-
 still_left : (quota made : ℕ) → nat_le quota made ≡ false → made < quota
 still_left quota made fails = grind (arith, nat_tests)
-
-both_true : (a b : Bool) → a && b ≡ true → (a ≡ true) × (b ≡ true)
-both_true true true is = (refl, refl)
-both_true true false is = absurd cc
-both_true false b is = absurd cc
 
 not_is_true : (a : Bool) → not a ≡ true → a ≡ false
 not_is_true false is = refl
@@ -64,7 +56,7 @@ module _ (limits : LimitsValue) (sum halt : HandValue) (acts : List Act) (lasts 
       → record { done = done; acts = acts } ≡ lowered_to limits tree value acts
   stays (inl (is, same)) = rw (is, same_test, eq-eqb value old same) refl
   stays (inr is) =
-      let stuck = both_true (not (value == old)) (is_used_up sum tree) (exactly.0 is) in
+      let stuck = and_parts (not (value == old)) (is_used_up sum tree) (exactly.0 is) in
       rw (is, same_test, not_is_true (value == old) stuck.0, sym used_same ∙ stuck.1) refl
 
   -- the value is posted where it falls and a post is left
@@ -124,7 +116,7 @@ module _ (limits : LimitsValue) (sum halt : HandValue) (acts : List Act) (lasts 
               ∙ ap (λ calls. calls ++ call.Post tree value ∷ []) step.sum_calls
               ∙ ap (λ b. calls_below (halt_tree limits) acts
               ++ cond b (call.Post tree value ∷ []) [])
-              (sym (is_below tree (halt_tree limits) inside))
+              (sym (lt-ltb tree (halt_tree limits) inside))
               ∙ sym (calls_below-append (halt_tree limits) acts (act ∷ []));
           halt_calls =
               step.halt_calls ∙ sym (append-nil (calls_at (halt_tree limits) acts))

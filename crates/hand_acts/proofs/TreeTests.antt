@@ -1,7 +1,7 @@
 -- The three trees of an order's rows are different trees of sums.
 use Rattle.std.proofs.Common.{◌≡◌, ℕ, ◌<◌, ◌==◌, length, arith, true, false, refl}
 use Rattle.std.specs.Prelude.{nat_lt}
-use Rattle.std.proofs.lemmas.Bool.{ne_eqb, eq-eqb}
+use Rattle.std.proofs.lemmas.Bool.{ne_eqb, eq-eqb, lt-ltb}
 use Rattle.std.proofs.lemmas.Bool.Decides.{nat_tests}
 use Rattle.hand_acts.specs.declared.rows.OrderRows.{OrderRows}
 use Rattle.hand_acts.specs.Trees.{LimitsValue, halt_tree, account_tree, symbol_tree}
@@ -42,9 +42,6 @@ apart : (a b : ℕ) → a < b → ((a == b) ≡ false) × ((b == a) ≡ false)
 apart a b less =
     (ne_eqb a b (λ e. absurd (omega (arith, e))), ne_eqb b a (λ e. absurd (omega (arith, e))))
 
-below : (a b : ℕ) → a < b → nat_lt a b ≡ true
-below a b less = grind (arith, nat_tests)
-
 not_below : (a : ℕ) → nat_lt a a ≡ false
 not_below a = grind (arith, nat_tests)
 
@@ -76,8 +73,8 @@ tree_tests limits rows are =
       halt_firm = fh.1;
       halt_account = ah.1;
       halt_symbol = sh.1;
-      firm_below = below 0 halt (omega arith);
-      account_below = below account halt (omega (arith, are.account));
-      symbol_below = below symbol halt (omega (arith, are.symbol));
+      firm_below = lt-ltb 0 halt (omega arith);
+      account_below = lt-ltb account halt (omega (arith, are.account));
+      symbol_below = lt-ltb symbol halt (omega (arith, are.symbol));
       halt_above = not_below halt;
     }

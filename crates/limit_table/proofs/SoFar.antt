@@ -31,7 +31,7 @@ pub record IsSoFar (text : List ℕ) (reader : Bytes) (entries : List Entry) : T
   pub set : entries ≡ entries_of rows
   pub count : length entries ≡ length rows
 
-no_place : {A : Type 0} (k : ℕ) → k < 0 → A
+pub no_place : {A : Type 0} (k : ℕ) → k < 0 → A
 no_place k h = absurd (omega arith)
 
 -- before the first row

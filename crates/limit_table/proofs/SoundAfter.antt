@@ -23,6 +23,7 @@ use Rattle.limit_table.proofs.Few.{count_cons, same_kind_is}
 use Rattle.limit_table.proofs.Sound.{Row, some_entry, after_ok, entries_more, sound_more, no_fault}
 use Rattle.limit_table.proofs.OneAnswer.{here_is}
 use Rattle.limit_table.proofs.InRange.{read_in_range, written_sets}
+use Rattle.limit_table.proofs.SoFar.{no_place}
 
 -- the rows of a kind
 abbrev pub of_kind : Kind → List Entry → List Entry
@@ -197,9 +198,6 @@ write_more done (e ∷ es) w s r =
     } in
     subst AreWritten (append_assoc done (e ∷ []) es)
     (write_more (done ++ e ∷ []) es more s.1 (All-tail IsInRange e es r))
-
-no_place : {A : Type 0} (k : ℕ) → k < 0 → A
-no_place k h = absurd (omega arith)
 
 pub write_rows : (es : List Entry) → SoundAfter [] es → All IsInRange es → AreWritten es
 write_rows es s r =

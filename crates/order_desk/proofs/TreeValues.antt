@@ -13,6 +13,7 @@ use Rattle.exposure_book.specs.Books.{symbol_part}
 use Rattle.exposure_book.proofs.Sums.{part-le-sum, sum-set}
 use Rattle.hand_acts.specs.Trees.{LimitsValue, account_tree, symbol_tree}
 use Rattle.order_desk.specs.Values.{exposure_in, row_exposure, value_in}
+use Rattle.exposure_book.proofs.Lowered.{units_up-le}
 
 -- what an order counts for in a tree
 abbrev pub part_in : LimitsValue → ℕ → Order → ℕ
@@ -148,9 +149,6 @@ part_in-le limits tree old new lowers =
     by_tests false true false account = omega arith
     by_tests false false symbol true = lowers.exposure
     by_tests false false symbol false = omega arith
-
-units_up-le : (m n : ℕ) → m ≤ n → units_up m ≤ units_up n
-units_up-le m n less = omega (arith, less)
 
 -- one order more is worth no less
 pub value_in-push_le : (limits : LimitsValue) (tree : ℕ) (orders : List Order) (order : Order)

@@ -118,7 +118,7 @@ other_post whole unit components lines session own last other legal = record {
   stamps = legal.stamps;
 }
 
-length-own_lines : (session index : ℕ) (values : List ℕ)
+pub length-own_lines : (session index : ℕ) (values : List ℕ)
     → length (own_lines session index values) ≡ length values
 length-own_lines session index [] = refl
 length-own_lines session index (x ∷ values) =

@@ -31,7 +31,7 @@ length-array array (l ∷ lines) =
     length-array (slice_set array l.session l.value) lines
     ∙ length-set array l.session l.value
 
-length-array_after : (unit components : ℕ) (lines : List Line)
+pub length-array_after : (unit components : ℕ) (lines : List Line)
     → length (array_after unit components lines) ≡ components
 length-array_after unit components lines =
     length-array (replicate components unit) lines ∙ length-replicate components unit

@@ -69,35 +69,29 @@ fn add_act(text: &mut Vec<u8>, session: u64, act: &Act) -> Result<(), Memory>
             stamp,
             place,
             value,
-        } => add_row(
-            text,
-            b"read",
-            session,
-            (some(tree), some(stamp), some(place), Some(value)),
-        ),
+        } => {
+            let cells = (some(tree), some(stamp), some(place), Some(value));
+            add_row(text, b"read", session, cells)
+        }
         Act::Sent { frame } => add_row(text, b"sent", session, (some(frame), None, None, None)),
         Act::Refused {
             frame,
             code,
             first,
             second,
-        } => add_row(
-            text,
-            b"refused",
-            session,
-            answer_cells(frame, code, first, second),
-        ),
+        } => {
+            let cells = answer_cells(frame, code, first, second);
+            add_row(text, b"refused", session, cells)
+        }
         Act::Noted {
             frame,
             code,
             first,
             second,
-        } => add_row(
-            text,
-            b"noted",
-            session,
-            answer_cells(frame, code, first, second),
-        ),
+        } => {
+            let cells = answer_cells(frame, code, first, second);
+            add_row(text, b"noted", session, cells)
+        }
         Act::Ended { end } => add_row(text, b"ended", session, end_cells(end)),
     }
 }

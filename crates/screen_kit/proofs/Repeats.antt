@@ -1,7 +1,7 @@
 -- What the screen for repeats tells of the orders that it judged.
 use Rattle.std.proofs.Common.{◌≡◌, ℕ, ◌-◌, ◌==◌, Bool, true, false, ◌&&◌, List, [], Any, ap, refl, sym, ◌∙◌, ◌⊎◌, inl, inr, arith, fold, if◌then◌else◌}
 use Rattle.std.specs.List.{list_any}
-use Rattle.std.proofs.lemmas.Bool.{eqb-true}
+use Rattle.std.proofs.lemmas.Bool.{eqb-true, and_from}
 use Rattle.std.proofs.lemmas.List.Folds.{Any-from_list_any, list_any-from_Any}
 use Rattle.std.proofs.Math.Seq.{drop-nil}
 use Rattle.circular_buffer.specs.Buffer.{keep_last}
@@ -26,10 +26,6 @@ both : (x y : Bool) → (x && y) ≡ true → (x ≡ true) × (y ≡ true)
 both true y held = (refl, held)
 both false y held = absurd (cc)
 
-and_both : (x y : Bool) → x ≡ true → y ≡ true → (x && y) ≡ true
-and_both true y first second = second
-and_both false y first second = first
-
 equal_passes : (a b : ℕ) → a ≡ b → (a == b) ≡ true
 equal_passes a b same = grind arith
 
@@ -53,9 +49,9 @@ same_from_test a b held =
 
 pub test_from_same : (a b : Order) → SameOrder a b → is_same a b ≡ true
 test_from_same a b same =
-    and_both _ (a.price == b.price) (and_both _ (a.quantity == b.quantity)
-    (and_both _ (kind_number a.kind == kind_number b.kind) (and_both _ (a.side == b.side)
-    (and_both (a.account == b.account) (a.symbol == b.symbol)
+    and_from _ (a.price == b.price) (and_from _ (a.quantity == b.quantity)
+    (and_from _ (kind_number a.kind == kind_number b.kind) (and_from _ (a.side == b.side)
+    (and_from (a.account == b.account) (a.symbol == b.symbol)
     (equal_passes a.account b.account same.account) (equal_passes a.symbol b.symbol same.symbol))
     (equal_passes a.side b.side same.side))
     (equal_passes (kind_number a.kind) (kind_number b.kind) (ap kind_number same.kind)))

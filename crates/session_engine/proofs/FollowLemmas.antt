@@ -1,7 +1,7 @@
 -- A session that stopped follows its input.
 use Rattle.std.proofs.Common.{◌≡◌, ℕ, ◌+◌, ◌≤◌, ◌<◌, List, [], ◌∷◌, ◌++◌, length, take, refl, sym}
 use Rattle.std.proofs.Common.{ap, ◌∙◌, subst, Bool, true, false, arith, inl, inr, ◌-◌}
-use Rattle.std.proofs.lemmas.Bool.{cases_lt, false≢true}
+use Rattle.std.proofs.lemmas.Bool.{cases_lt, false≢true, lt-ltb}
 use Rattle.std.proofs.lemmas.Bool.Decides.{nat_tests}
 use Rattle.std.specs.Prelude.{Option, Some, None, IfSome, nat_lt, ◌⊎◌}
 use Rattle.std.specs.List.{concat}
@@ -204,9 +204,6 @@ settled_after_memory goes_on (found.TooLong p) end e by_input = tt
 settled_after_memory goes_on (found.Cut p) end e by_input = subst IsByInput e by_input
 settled_after_memory goes_on found.End end e by_input = subst IsByInput e by_input
 
-lt_true : (a b : ℕ) → a < b → nat_lt a b ≡ true
-lt_true a b h = grind (arith, nat_tests)
-
 -- the input is the first bytes fetched, and perhaps more
 more_of : (n : ℕ) (got rest : List ℕ) → n ≤ length got → take n (got ++ rest) ≡ take n got ++ []
 more_of n got rest few = take-append-le n got rest few ∙ sym (append-nil (take n got))
@@ -234,9 +231,9 @@ whole_input : (n : ℕ) (got rest : List ℕ) (ended : Type 0) → (length got �
     × (nat_lt n (length (got ++ rest)) ≡ nat_lt n (length got))
 whole_input n got rest ended (inl most) =
     let all : length (got ++ rest) ≡ length got + length rest = length-append got rest in
-    let first : nat_lt n (length (got ++ rest)) ≡ true = lt_true n (length (got ++ rest))
+    let first : nat_lt n (length (got ++ rest)) ≡ true = lt-ltb n (length (got ++ rest))
     (omega arith) in
-    let second : nat_lt n (length got) ≡ true = lt_true n (length got) (omega arith) in
+    let second : nat_lt n (length got) ≡ true = lt-ltb n (length got) (omega arith) in
     (take-append-le n got rest (omega arith), first ∙ sym second)
 whole_input n got rest ended (inr done) =
     let same : got ++ rest ≡ got = ap (λ r. got ++ r) done.1 ∙ append-nil got in
@@ -305,5 +302,5 @@ module _ (stays : FramesStay) (settles : FoundStays) (law : CoversAll) (limits :
 pub ended_at_whole : (n : ℕ) (got : List ℕ) (ended X : Type 0) → (length got ≡ n + 1) ⊎ (ended × X)
     → nat_lt n (length got) ≡ false → ended
 ended_at_whole n got ended X (inl most) within =
-    absurd (false≢true (sym within ∙ lt_true n (length got) (omega arith)))
+    absurd (false≢true (sym within ∙ lt-ltb n (length got) (omega arith)))
 ended_at_whole n got ended X (inr done) within = done.0

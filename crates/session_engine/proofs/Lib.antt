@@ -5,7 +5,6 @@ pub mod MessageFacts
 pub mod MovedDecisions
 pub mod MovedSessions
 pub mod MovedTapes
-pub mod OpenedBooks
 pub mod PassedFrames
 pub mod PlacedFollows
 pub mod QuietActs

@@ -33,6 +33,7 @@ use Rattle.session_engine.specs.declared.venue_report.VenueReport.TheVariants as
 use Rattle.session_engine.specs.Requests.{request_message, request_head}
 use Rattle.session_engine.specs.Session.{is_request, asks}
 use Rattle.session_engine.specs.VenueReports.{report_message, report_head}
+use Rattle.fix_orders.proofs.OrderHeads.{id_text}
 
 -- a message that was read has no fault, and is that of its kind
 message_read : (fields : List FieldValue) (whole : Message) → read_of fields ≡ Ok whole
@@ -71,14 +72,6 @@ pub other_is_no_request : (fields : List FieldValue) → read_of fields ≡ Ok m
     → asks fields ≡ false
 other_is_no_request fields read =
     other_asks (kind_of (value_of 35 fields)) fields (message_read fields message.Other read).1
-
--- an id that was read is its text; the first id of the table says how one is read
-id_text : (c d : Bool) (text : List ℕ)
-    → spelling_reason (if not c then Err Form else (if d then Err Range else Ok text)) ≡ None
-    → result_ok (if not c then Err Form else (if d then Err Range else Ok text)) ≡ Some text
-id_text true false text e = refl
-id_text true true text e = absurd cc
-id_text false d text e = absurd cc
 
 one_id : (values : List (List ℕ)) → values_reason true (row_at 1).read_as values ≡ None
     → id_in values ≡ Some (first_value values)

@@ -26,6 +26,7 @@ use Rattle.session_engine.specs.Trees.{LimitsValue, halt_tree}
 use Rattle.session_engine.specs.Trips.{trips_by}
 use Rattle.session_engine.proofs.ReachLemmas.{reaches_next, reaches_opening}
 use Rattle.session_engine.proofs.TakenLemmas.{one_of, length-with}
+use Rattle.session_engine.specs.Follows.{input_most}
 
 pub appends_next : (held middle after : Option (List ℕ)) (one two both : List ℕ)
     → Appends held middle one → Appends middle after two → both ≡ one ++ two
@@ -77,7 +78,7 @@ covers_kept law limits screens bytes place venue client kept runs =
 pub small_counts : (limits : LimitsValue) (screens : List ScreenValue) (bytes : List ℕ) (place : ℕ)
     (venue client : Option (List ℕ)) (kept : Kept)
     → RunsTo limits screens bytes place venue client kept
-    → length bytes ≤ 33554432 → HasSmallCounts kept.counts
+    → length bytes ≤ input_most → HasSmallCounts kept.counts
 small_counts limits screens bytes place venue client kept runs few =
     let stands = runs.stands.stands in
     let counts = runs.counts in
@@ -97,7 +98,7 @@ TripsAll = (limits : LimitsValue) (screens : List ScreenValue) (reads : List See
 pub trips_kept : TripsAll → (limits : LimitsValue) (screens : List ScreenValue)
     (bytes : List ℕ) (place : ℕ) (venue client : Option (List ℕ)) (kept : Kept)
     → RunsTo limits screens bytes place venue client kept
-    → length bytes ≤ 33554432 → CountsTrips limits kept.acts kept.counts
+    → length bytes ≤ input_most → CountsTrips limits kept.acts kept.counts
 trips_kept law limits screens bytes place venue client kept runs few =
     let session = runs.session in
     let stands = runs.stands.stands in

@@ -1,6 +1,6 @@
 //! How a session ends.
 ghost use Rattle.std.specs.Prelude.{◌≡◌, take};
-ghost use Rattle.session_engine.specs.Follows.{EndsBy};
+ghost use Rattle.session_engine.specs.Follows.{EndsBy, input_most};
 ghost use Rattle.session_engine.specs.Runs.{EndsOpen, EndsAfter, IsNoFrame};
 
 use fix_fields::Found;
@@ -12,7 +12,7 @@ pub(crate) const INPUT_MOST: usize = 33_554_432;
 
 /// The bytes that a session reads of those that were fetched.
 pub(crate) fn input_of(bytes: &[u8]) -> &[u8]
-    ensures { result.now ≡ take 33554432 bytes.now }
+    ensures { result.now ≡ take input_most bytes.now }
 {
     if bytes.len() > INPUT_MOST {
         &bytes[..INPUT_MOST]

@@ -7,6 +7,7 @@ ghost use Rattle.hand_acts.specs.Hands.{IsSumHand, IsHaltHand};
 ghost use Rattle.hand_acts.specs.Steps.{InStep};
 ghost use Rattle.risk_journal.specs.ActLists.{calls_below, calls_at};
 ghost use Rattle.session_engine.specs.Follows.{IsByInput, FollowsSource, FetchesInput, EndsAs};
+ghost use Rattle.session_engine.specs.Follows.{input_most};
 ghost use Rattle.session_engine.specs.Opens.{IsOpened};
 ghost use Rattle.session_engine.specs.Runs.{RunsTo, StopsBy};
 ghost use Rattle.session_engine.specs.Session.{armed_for, unnamed_client};
@@ -50,7 +51,7 @@ fn take_frames<H: Hand, M: Hand, K: Screen, V: Sink, C: Sink>(
     requires step { InStep limits.now (H.meaning hands.old.sum) (M.meaning hands.old.halt)
         state.old.told.acts.items state.old.told.lasts.items }
     requires room { vec_len state.old.told.acts < vec_capacity state.old.told.acts }
-    requires few { length bytes.now ≤ 33554432 }
+    requires few { length bytes.now ≤ input_most }
     requires runs { RunsTo limits.now (map K.meaning screens.old.items) bytes.now 0
         (V.held sinks.old.venue) (C.held sinks.old.client)
         (kept_by (map K.meaning screens.old.items) state.old sinks.old.client_id

@@ -52,11 +52,6 @@ component-after array (l ∷ lines) session within =
     component-after next lines session (omega (arith, length-set array l.session l.value))
     ∙ set_by_case array session l lines (l.session == session) refl within
 
-pub length-array_after : (unit components : ℕ) (lines : List Line)
-    → length (array_after unit components lines) ≡ components
-length-array_after unit components lines =
-    length-after (replicate components unit) lines ∙ length-replicate components unit
-
 -- a component has the value of the last line of its session
 pub component-array_after : (unit components : ℕ) (lines : List Line) (session : ℕ)
     → session < components

@@ -9,7 +9,8 @@ use Rattle.risk_board.specs.declared.hand.Line.{Line}
 use Rattle.risk_board.specs.History.{own_lines, lines_of}
 use Rattle.trail_replay.specs.Blocks.{lines_between, block_from, lines_to, place_at}
 use Rattle.trail_replay.proofs.OwnLines.{lines_of-append, lines_of-own, lines_of-other}
-use Rattle.trail_replay.proofs.OwnLines.{own_lines-between, length-own_lines}
+use Rattle.trail_replay.proofs.OwnLines.{own_lines-between}
+use Rattle.risk_board.proofs.Legal.{length-own_lines}
 
 -- a block has no line of a session before its first
 lines_of-earlier : (before upto : ℕ → ℕ) (session first : ℕ) (posts : List (List ℕ))

@@ -4,7 +4,7 @@ use Rattle.std.proofs.Common.{take, drop, refl, ap, sym, ◌∙◌, subst, arith
 use Rattle.std.proofs.Common.{length-append, length-take, length-drop}
 use Rattle.std.specs.Prelude.{Some, slice_get}
 use Rattle.trail_replay.specs.Blocks.{lines_between, block_from, lines_to}
-use Rattle.trail_replay.proofs.OwnLines.{length-own_lines}
+use Rattle.risk_board.proofs.Legal.{length-own_lines}
 use Rattle.trail_replay.proofs.BlockLaws.{AreFronts, front_within}
 
 -- how many posts a front covers, of the sessions from this one on

@@ -25,7 +25,8 @@ use Rattle.trail_replay.specs.Fronts.{front_of, view_of}
 use Rattle.trail_replay.specs.Histories.{posts_of_tree}
 use Rattle.trail_replay.proofs.StampFronts.{are_fronts, reached_root}
 use Rattle.trail_replay.proofs.BlockLaws.{AreFronts, all_sessions, lines_of-to, front_within}
-use Rattle.trail_replay.proofs.Arrays.{last_value, post_at, length-array_after}
+use Rattle.trail_replay.proofs.Arrays.{last_value, post_at}
+use Rattle.risk_board.proofs.TreeCalls.{length-array_after}
 use Rattle.trail_replay.proofs.Arrays.{component-array_after, last_value-own}
 use Rattle.trail_replay.proofs.Folds.{leaf_values, length-leaf_values, get-leaf_values}
 use Rattle.trail_replay.proofs.Folds.{whole-leaf_values}

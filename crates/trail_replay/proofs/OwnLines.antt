@@ -40,12 +40,6 @@ lines_of-other session other index (x ∷ values) apart =
     (ne_eqb other session apart)
     ∙ lines_of-other session other (index + 1) values apart
 
-pub length-own_lines : (session index : ℕ) (values : List ℕ)
-    → length (own_lines session index values) ≡ length values
-length-own_lines session index [] = refl
-length-own_lines session index (x ∷ values) =
-    ap (λ n. suc n) (length-own_lines session (index + 1) values)
-
 pub own_lines-append : (session index : ℕ) (xs ys : List ℕ)
     → own_lines session index (xs ++ ys)
     ≡ own_lines session index xs ++ own_lines session (index + length xs) ys

@@ -13,7 +13,7 @@ use Rattle.fold_law.specs.Whole.{whole_of}
 use Rattle.risk_board.specs.declared.hand.Line.{Line}
 use Rattle.risk_board.specs.History.{array_after}
 use Rattle.trail_replay.specs.Arrays.{AreLines, after_lines, whole_at, IsWholeAt}
-use Rattle.trail_replay.proofs.Arrays.{length-array_after}
+use Rattle.risk_board.proofs.TreeCalls.{length-array_after}
 use Rattle.trail_replay.proofs.Folds.{whole_under, fold-append}
 
 -- what holds of each element holds of those of a part

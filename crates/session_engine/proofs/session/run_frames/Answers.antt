@@ -14,6 +14,7 @@ use Rattle.session_engine.proofs.FollowLemmas.{whole_is_whole, ended_at_whole}
 use Rattle.session_engine.specs.Runs.{StopsBefore, EndsAfter}
 use Rattle.session_engine.specs.Taken.{Kept, kept_by}
 use Rattle.session_engine.proofs.session.run_frames.Goals as goal
+use Rattle.session_engine.specs.Follows.{input_most}
 
 -- what holds where something was done
 ok_holds : (done : Result (Unit {0}) Memory) (P : Type 0) → is_err done ≡ false → OnOk done P → P
@@ -22,7 +23,7 @@ ok_holds (Err why) P fine own = absurd cc
 
 pub take_frames-requires-clause-few : goal.take_frames-requires-clause-few
 take_frames-requires-clause-few g c =
-    rw c.input_of.ensures (omega (arith, length-take 33554432 c.deref.result.now))
+    rw c.input_of.ensures (omega (arith, length-take input_most c.deref.result.now))
 
 pub take_frames-requires-clause-step : goal.take_frames-requires-clause-step
 take_frames-requires-clause-step g c =
@@ -58,15 +59,15 @@ returns-clause-follows g c = λ by_input.
     c.in-Found.next c.take_frames.new.state.told.acts.items
     (g.V.Sink.held c.args.sinks.now.venue) (g.V.Sink.held c.take_frames.new.sinks.venue)
     (g.C.Sink.held c.args.sinks.now.client) (g.C.Sink.held c.take_frames.new.sinks.client) in
-    let input : c.input_of.result.now ≡ take 33554432 got = c.input_of.ensures
-    ∙ ap (take 33554432) c.deref.ensures.value in
-    let end_is : EndsAfter c.fetch_up_to-fetched.result.end (nat_lt 33554432 (length got))
+    let input : c.input_of.result.now ≡ take input_most got = c.input_of.ensures
+    ∙ ap (take input_most) c.deref.ensures.value in
+    let end_is : EndsAfter c.fetch_up_to-fetched.result.end (nat_lt input_most (length got))
     c.in-Found.next c.end_after.result = search rules in
     follows_source c.frame_stays.ensures c.found_stays.ensures c.sent_orders_are_covered.ensures
     c.args.limits.now armed c.in-Found.place c.in-Found.next c.take_frames.new.state.told.acts.items
     c.end_after.result (g.V.Sink.held c.args.sinks.now.venue)
     (g.V.Sink.held c.take_frames.new.sinks.venue) (g.C.Sink.held c.args.sinks.now.client)
-    (g.C.Sink.held c.take_frames.new.sinks.client) (nat_lt 33554432 (length got))
+    (g.C.Sink.held c.take_frames.new.sinks.client) (nat_lt input_most (length got))
     (g.S.Source.left c.args.source.now) (g.S.Source.left c.fetch_up_to-fetched.new.source)
     got (g.S.Source.is_ended c.fetch_up_to-fetched.new.source ≡ true)
     c.fetch_up_to-fetched.result.end c.fetch_up_to-fetched.ensures.bytes
@@ -88,11 +89,11 @@ returns-clause-write_fault g c = λ is.
 pub returns-clause-whole : goal.returns-clause-whole
 returns-clause-whole g c = λ is.
     let got = c.fetch_up_to-fetched.result.bytes.items in
-    let E = EndsAfter c.fetch_up_to-fetched.result.end (nat_lt 33554432 (length got))
+    let E = EndsAfter c.fetch_up_to-fetched.result.end (nat_lt input_most (length got))
     c.in-Found.next in
-    let end_is : EndsAfter c.fetch_up_to-fetched.result.end (nat_lt 33554432 (length got))
+    let end_is : EndsAfter c.fetch_up_to-fetched.result.end (nat_lt input_most (length got))
     c.in-Found.next c.end_after.result = search rules in
     let w = whole_is_whole c.fetch_up_to-fetched.result.end
-    (nat_lt 33554432 (length got)) c.in-Found.next (subst E is end_is) in
-    ended_at_whole 33554432 got (g.S.Source.is_ended c.fetch_up_to-fetched.new.source ≡ true) _
+    (nat_lt input_most (length got)) c.in-Found.next (subst E is end_is) in
+    ended_at_whole input_most got (g.S.Source.is_ended c.fetch_up_to-fetched.new.source ≡ true) _
     (c.fetch_up_to-fetched.ensures.whole w.0) w.1

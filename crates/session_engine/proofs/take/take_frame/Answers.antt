@@ -4,7 +4,7 @@ use Rattle.exposure_book.specs.Books.{BookValue}
 use Rattle.order_desk.specs.Values.{roomless}
 use Rattle.risk_journal.specs.declared.acts.Act.{Act}
 use Rattle.session_engine.specs.Taken.{Kept, kept_by, TakesFrom}
-use Rattle.session_engine.proofs.OpenedBooks.{same_roomless}
+use Rattle.order_desk.proofs.Deciding.{same_roomless}
 use Rattle.session_engine.proofs.PassedFrames.{sound_takes, unsound_takes}
 use Rattle.hand_acts.proofs.InStepLemmas.{in_step_reserved, stay_after_noted}
 use Rattle.session_engine.proofs.take.take_frame.Goals as goal

@@ -8,7 +8,8 @@ use Rattle.trail_replay.specs.Blocks.{places_to}
 use Rattle.trail_replay.specs.Fronts.{front_of, last_stamp, IsLawful}
 use Rattle.trail_replay.specs.Histories.{posts_of_tree, lines_of_tree, history_of, places_of}
 use Rattle.trail_replay.specs.Histories.{AreLegalIn}
-use Rattle.trail_replay.proofs.BlockSteps.{root_stamp, if_ok_both, if_ok_with}
+use Rattle.trail_replay.proofs.BlockSteps.{root_stamp, if_ok_both}
+use Rattle.node_rule.proofs.Closing.{if_ok}
 use Rattle.trail_replay.proofs.LegalHistories.{legal_lines}
 use Rattle.trail_replay.proofs.Places.{length-places_to}
 use Rattle.trail_replay.proofs.PreparedTables.{map-twice, all-long}
@@ -49,7 +50,7 @@ returns-clause-lines g c =
     (subst (λ (r : Record). tree < r.shape.trees) (sym is) c.requires.tree)
     c.index-root.result.now c.root.result c.stamp_of-last.result c.stamp_of-last.ensures.stamp
     c.index-root.ensures c.root.ensures in
-    if_ok_with _ _ c.history_to.result
+    if_ok _ _ c.history_to.result
     (λ h lines. lines
     ∙ (ap (lines_of_tree taken tree) last ∙ ap (λ (r : Record). history_of r tree) is))
     c.history_to.ensures.lines
@@ -67,7 +68,7 @@ returns-clause-places g c =
     c.index-root.ensures c.root.ensures in
     let front = front_of taken.shape.levels taken.passes.items tree in
     let posts = posts_of_tree tree taken.passes.items in
-    if_ok_with _ _ c.history_to.result
+    if_ok _ _ c.history_to.result
     (λ h places. places
     ∙ (ap (places_to front posts) last ∙ ap (λ (r : Record). places_of r tree) is))
     c.history_to.ensures.places
@@ -109,7 +110,7 @@ returns-clause-stamps g c =
     let long = length-places_to (front_of taken.shape.levels taken.passes.items tree)
     (posts_of_tree tree taken.passes.items) c.stamp_of-last.result in
     let end = ap (λ (r : Record). last_stamp r tree) is in
-    if_ok_with _ _ c.history_to.result
+    if_ok _ _ c.history_to.result
     (λ h places. let same = ap (λ (s : List ℕ). length s) places in
     omega (arith, same, long, last, end))
     c.history_to.ensures.places
@@ -121,5 +122,5 @@ returns-clause-walkable g c =
     (sym c.prepared.view_is) c.requires.lawful in
     let can = walkable g.F.Fold.UNIT g.F.Fold.CAP g.F.Fold.join taken c.args.tree
     c.stamp_of-last.result lawful in
-    if_ok_with _ _ c.history_to.result
+    if_ok _ _ c.history_to.result
     (λ h lines. subst (AreLines g.F.Fold.CAP) (sym lines) can) c.history_to.ensures.lines
