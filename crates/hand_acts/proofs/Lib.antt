@@ -11,6 +11,10 @@ pub mod LegLimits
 pub mod LowerLemmas
 pub mod LoweredTrees
 pub mod Noted
+pub mod OwnPlaces
+pub mod OwnReads
+pub mod OwnStandings
+pub mod OwnSteps
 pub mod Standings
 pub mod TreeTests
 pub mod Tripped

@@ -1,6 +1,7 @@
 -- Admitted exposure: what a session has posted, as far as a read within the limit has covered it.
 use Rattle.std.specs.Prelude.{◌≡◌, ℕ, ◌+◌, ◌≤◌, ◌==◌, List, [], ◌∷◌, ◌++◌, take, fold, min, replicate}
-use Rattle.std.specs.Prelude.{sum_by, if◌then◌else◌, nat_le, IfSome}
+use Rattle.std.specs.Prelude.{sum_by, if◌then◌else◌, nat_le, IfSome, Some, slice_get, length, map}
+use Rattle.std.specs.Prelude.{filter}
 use Rattle.std.specs.List.{slice_index_or, slice_set, enumerate_from, flat_map}
 use Rattle.risk_board.specs.declared.hand.Line.{Line}
 use Rattle.risk_board.specs.History.{Event}
@@ -69,11 +70,16 @@ moments_from place (line ∷ lines) numbered =
 abbrev pub moments : List Line → List (List Event) → List Moment
 moments lines events = moments_from 0 lines (enumerate_from 0 events)
 
+-- how each of so many sessions stands after these steps
+abbrev pub standings_after : ℕ → ℕ → List Moment → List Standing
+standings_after limit sessions passed =
+    fold (after_moment limit) (replicate sessions nothing) passed
+
 -- what is admitted over all of so many sessions after these steps
 abbrev pub admitted_sum : ℕ → ℕ → List Moment → ℕ
 admitted_sum limit sessions passed =
     sum_by (λ (standing : Standing). standing.admitted)
-    (fold (after_moment limit) (replicate sessions nothing) passed)
+    (standings_after limit sessions passed)
 
 -- after every line and every read, what is admitted is within the limit
 abbrev pub StaysWithin : ℕ → ℕ → List Line → List (List Event) → Type 0
@@ -88,6 +94,40 @@ after_event limit standing (Saw stamp place value) = after_read limit value stan
 -- what a session has admitted in a tree, by its own posts and reads there
 abbrev pub own_admitted : ℕ → List Event → ℕ
 own_admitted limit events = (fold (after_event limit) nothing events).admitted
+
+-- whose step it is
+abbrev pub session_of : Moment → ℕ
+session_of (Posts session value) = session
+session_of (Reads session value) = session
+
+-- the steps of a session among others, in order
+abbrev pub steps_of : ℕ → List Moment → List Moment
+steps_of session passed = filter (λ moment. session_of moment == session) passed
+
+-- a session's own event as a step of a tree's history
+abbrev pub step_of : ℕ → Event → Moment
+step_of session (Posted value) = Posts session value
+step_of session (Saw stamp place value) = Reads session value
+
+-- What a tree's history admits of each session is what the session's own posts and reads admit.
+pub record AdmitsOwn (limit : ℕ) (lines : List Line) (events : List (List Event)) : Type 0 where
+  -- a session's steps are its own posts and reads, each once and in its order
+  pub steps : (session : ℕ) (own : List Event) → slice_get events session ≡ Some own
+      → steps_of session (moments lines events) ≡ map (step_of session) own
+  -- after each step a session stands as a front of its own posts and reads leaves it
+  pub front : (session : ℕ) (own : List Event) (count : ℕ)
+      → slice_get events session ≡ Some own
+      → (made : ℕ)
+      × (standing_at session
+      (standings_after limit (length events) (take count (moments lines events)))
+      ≡ fold (after_event limit) nothing (take made own))
+  -- and at the end as all of them do
+  pub whole : (session : ℕ) (own : List Event) → slice_get events session ≡ Some own
+      → standing_at session (standings_after limit (length events) (moments lines events))
+      ≡ fold (after_event limit) nothing own
+  -- so what is admitted at the end is the sum of what the sessions' own events admit
+  pub total : admitted_sum limit (length events) (moments lines events)
+      ≡ sum_by (own_admitted limit) events
 
 -- in each tree with a limit what a session has admitted is its last post
 abbrev pub AdmitsLast : LimitsValue → List Act → Type 0

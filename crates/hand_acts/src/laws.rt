@@ -6,7 +6,7 @@ ghost use Rattle.risk_board.specs.History.{Event, IsLegal};
 ghost use Rattle.risk_board.specs.declared.hand.Line.{Line as LineValue};
 ghost use Rattle.risk_journal.specs.declared.acts.Act.{Act as ActValue};
 ghost use Rattle.hand_acts.specs.declared.rows.OrderRows.{OrderRows as RowsValue};
-ghost use Rattle.hand_acts.specs.Admitted.{AdmitsLast, StaysWithin};
+ghost use Rattle.hand_acts.specs.Admitted.{AdmitsLast, AdmitsOwn, StaysWithin};
 ghost use Rattle.hand_acts.specs.Asking.{asking, is_short};
 ghost use Rattle.hand_acts.specs.Legs.{legs_of};
 ghost use Rattle.hand_acts.specs.Lowering.{lowering};
@@ -18,6 +18,15 @@ pub fn admitted_stays_within()
     ensures { (limit components : ℕ) (lines : List LineValue) (events : List (List Event))
         → IsLegal (whole_of sum_of 0) 0 components lines events
         → StaysWithin limit (length events) lines events }
+{}
+
+/// In a legal history the steps of a session are its own posts and reads. So it stands at each
+/// place as a front of them leaves it, and at the end as all of them do; what is admitted there is
+/// the sum of what the sessions' own events admit.
+pub fn a_history_admits_what_sessions_do()
+    ensures { (whole : List ℕ → ℕ) (unit limit components : ℕ) (lines : List LineValue)
+        (events : List (List Event)) → IsLegal whole unit components lines events
+        → AdmitsOwn limit lines events }
 {}
 
 /// Where each last post is admitted, it is so after the trees were asked about values none of which

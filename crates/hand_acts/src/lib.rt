@@ -18,7 +18,9 @@ mod tripping;
 
 pub use asking::{ask, is_above_last};
 pub use hands::Hands;
-pub use laws::{admitted_stays_within, asking_admits, lowering_admits};
+pub use laws::{
+    a_history_admits_what_sessions_do, admitted_stays_within, asking_admits, lowering_admits,
+};
 pub use lowering::lower_all;
 pub use rows::OrderRows;
 pub use told::{Told, first_lasts, reserve_frame};
