@@ -18,7 +18,7 @@ use Rattle.risk_journal.specs.declared.acts.Act.{Act}
 use Rattle.risk_journal.specs.ActLists.{events_of}
 use Rattle.session_engine.specs.Trees.{fold_of, limit_of, halt_tree, tree_limits, account_limits}
 use Rattle.session_engine.specs.Trees.{symbol_limits}
-use Rattle.session_engine.specs.Admitted.{StaysWithin}
+use Rattle.session_engine.specs.Admitted.{AdmitsOwn, StaysWithin}
 use Rattle.gate_program.specs.declared.boards.Boards.{Boards}
 use Rattle.gate_program.specs.Boards.{HasLines, HasPlayed}
 use Rattle.gate_program.specs.Finish.{AreOfSessions}
@@ -89,20 +89,30 @@ IsBehind boards tree own =
     (later : ℕ) × (tree ≡ length boards.sums.lines + later)
     × (slice_get boards.halt.lines later ≡ Some own)
 
--- what is admitted in a legal history of sums stays within any limit
-abbrev pub AdmittedStays : Type 0
-AdmittedStays =
-    (limit components : ℕ) (lines : List Line) (events : List (List Event))
-    → IsLegal (whole_of sum_of 0) 0 components lines events
-    → StaysWithin limit (length events) lines events
+-- What is admitted in a legal history of sums stays within any limit. In any legal history it is
+-- what the sessions' own events admit.
+pub record AdmissionLaws : Type 0 where
+  pub stays : (limit components : ℕ) (lines : List Line) (events : List (List Event))
+      → IsLegal (whole_of sum_of 0) 0 components lines events
+      → StaysWithin limit (length events) lines events
+  pub own : (whole : List ℕ → ℕ) (unit limit components : ℕ) (lines : List Line)
+      (events : List (List Event)) → IsLegal whole unit components lines events
+      → AdmitsOwn limit lines events
 
-within_any : AdmittedStays → (limit : Option ℕ) (count : ℕ) (own : List Line)
+within_any : AdmissionLaws → (limit : Option ℕ) (count : ℕ) (own : List Line)
     (events : List (List Event)) → length events ≡ count
     → IsLegal (whole_of sum_of 0) 0 (components_of (length events)) own events
     → IfSome limit (λ l. StaysWithin l count own events)
-within_any stays None count own events many legal = tt
-within_any stays (Some limit) count own events many legal =
-    subst (λ (n : ℕ). StaysWithin limit n own events) many (stays limit _ own events legal)
+within_any laws None count own events many legal = tt
+within_any laws (Some limit) count own events many legal =
+    subst (λ (n : ℕ). StaysWithin limit n own events) many (laws.stays limit _ own events legal)
+
+own_any : AdmissionLaws → (whole : List ℕ → ℕ) (limit : Option ℕ) (components : ℕ)
+    (own : List Line) (events : List (List Event)) → IsLegal whole 0 components own events
+    → IfSome limit (λ l. AdmitsOwn l own events)
+own_any laws whole None components own events legal = tt
+own_any laws whole (Some limit) components own events legal =
+    laws.own whole 0 limit components own events legal
 
 module _ (limits : Limits) (boards : Boards) (acts : List (List Act)) (lines : List (List Line))
     (played : HasPlayed limits boards acts) (has : HasLines boards lines) where
@@ -181,20 +191,27 @@ module _ (limits : Limits) (boards : Boards) (acts : List (List Act)) (lines : L
       (λ l. StaysWithin l (length acts) own (map (events_of tree) acts)))
       (sym (ap (limit_of limits) (is_halt tree own there) ∙ no_halt_limit limits)) tt
 
+  legal : (tree : ℕ) (own : List Line) → slice_get lines tree ≡ Some own
+      → IsLegal (fold_of limits tree) 0 (components_of (length acts)) own
+      (map (events_of tree) acts)
+  legal tree own is = elim (place_of tree own is) [
+    | inl here ↦ below_legal tree own here
+    | inr there ↦ halt_legal tree own there
+  ]
+
   -- the history of the boards is that of the acts
-  pub is_history : AdmittedStays → IsHistory limits acts lines
-  is_history stays = record {
+  pub is_history : AdmissionLaws → IsHistory limits acts lines
+  is_history laws = record {
     trees = ap length has.lines_are ∙ length-append boards.sums.lines boards.halt.lines
         ∙ omega (arith, played.trees, played.halt_trees);
-    legal = λ tree own is. elim (place_of tree own is) [
-      | inl here ↦ below_legal tree own here
-      | inr there ↦ halt_legal tree own there
-    ];
+    legal = legal;
     within = λ tree own is. elim (place_of tree own is) [
-      | inl here ↦ within_any stays (limit_of limits tree) (length acts) own
+      | inl here ↦ within_any laws (limit_of limits tree) (length acts) own
           (map (events_of tree) acts) (many tree) (below tree own here)
       | inr there ↦ halt_within tree own there
     ];
+    admits = λ tree own is. own_any laws (fold_of limits tree) (limit_of limits tree)
+        (components_of (length acts)) own (map (events_of tree) acts) (legal tree own is);
   }
 
   -- each line is of a session that has acts

@@ -28,7 +28,7 @@ use Rattle.gate_program.specs.Objects.{ObjectsValue, AreNew, ChangesOutputs, Has
 use Rattle.gate_program.specs.Objects.{HoldsOutputs}
 use Rattle.gate_program.specs.Finish.{HasEnded}
 use Rattle.gate_program.proofs.Chains.{rose_from, rose_is_some}
-use Rattle.gate_program.proofs.Histories.{is_history, AdmittedStays}
+use Rattle.gate_program.proofs.Histories.{is_history, AdmissionLaws}
 use Rattle.gate_program.proofs.Lists.{mapped_at, there_is}
 use Rattle.gate_program.proofs.Outputs.{apart_from_all}
 
@@ -240,10 +240,10 @@ module _ (run : RunWords) (limits : Limits) (sets : List (List ScreenValue)) (t0
         holds_one (Some x) (Some y) holds = holds session now is_now
 
   -- what the run did
-  pub has_run : HasLimits t0 run.limits limits → AdmittedStays → list_any is_memory ended.ends ≡
+  pub has_run : HasLimits t0 run.limits limits → AdmissionLaws → list_any is_memory ended.ends ≡
       false
       → HasRun run sets (shown t0 r0 w0 []) (shown t2 r2 w2 text) status
-  has_run limits_are stays remembered = record {
+  has_run limits_are laws remembered = record {
     limits = limits;
     inputs = map (λ (own : ObjectsValue). told_bytes own.left) objects;
     acts = ended.acts;
@@ -266,7 +266,7 @@ module _ (run : RunWords) (limits : Limits) (sets : List (List ScreenValue)) (t0
         (session_holds session own.0 now.0 did end own.1 now.1
         (ended.done.each session own.0 now.0 did end own.1 now.1 is_did is_end));
     history = is_history limits ended.boards ended.acts ended.finished.lines ended.played
-        ended.finished.has_lines stays;
+        ended.finished.has_lines laws;
     journal = journal_from run t0 t1 t2 r0 w0 r1 w1 r2 w2 text ended.acts ended.finished.lines
         ended.finished.refused opened.went.written ended.finished.journal;
     others = keeps_others run (length objects) t0 t1 t2 many opened.texts

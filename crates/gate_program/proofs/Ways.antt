@@ -24,7 +24,7 @@ use Rattle.gate_program.specs.Objects.{ObjectsValue, HasOpened}
 use Rattle.gate_program.specs.Finish.{HasEnded}
 use Rattle.gate_program.specs.Statuses.{number_of, told_text}
 use Rattle.gate_program.proofs.Chains.{rose_from, zero_stands}
-use Rattle.gate_program.proofs.Histories.{AdmittedStays}
+use Rattle.gate_program.proofs.Histories.{AdmissionLaws}
 use Rattle.gate_program.proofs.Ran.{silent, shown, has_run}
 
 -- there are no limits
@@ -185,19 +185,19 @@ pub ended_went : (run : RunWords) (limits : Limits) (sets : List (List ScreenVal
     (t1 : Option Texts) (r1 w1 : List ℕ → ℕ) (t2 : Option Texts) (r2 w2 : List ℕ → ℕ)
     (objects : List ObjectsValue) (text : List ℕ) (n : ℕ)
     → HasOpened run (silent t0 r0 w0) (silent t1 r1 w1) objects
-    → length objects ≡ length run.sessions → HasLimits t0 run.limits limits → AdmittedStays
+    → length objects ≡ length run.sessions → HasLimits t0 run.limits limits → AdmissionLaws
     → (n ≡ 8) ⊎ HasEnded limits sets run (silent t1 r1 w1) (silent t2 r2 w2) objects text n
     → (n ≡ 8) ⊎ SessionsWent run sets (shown t0 r0 w0 []) (shown t2 r2 w2 text) n
-ended_went run limits sets t0 r0 w0 t1 r1 w1 t2 r2 w2 objects text n opened many limits_are stays
+ended_went run limits sets t0 r0 w0 t1 r1 w1 t2 r2 w2 objects text n opened many limits_are laws
     (inl memory) = inl memory
-ended_went run limits sets t0 r0 w0 t1 r1 w1 t2 r2 w2 objects text n opened many limits_are stays
+ended_went run limits sets t0 r0 w0 t1 r1 w1 t2 r2 w2 objects text n opened many limits_are laws
     (inr ended) =
     memory_or_run ended.ends ended.finished.refused n (list_any is_memory ended.ends) refl
     ended.finished.answer.stands
     (λ remembered. inr (inr (has_run run limits sets t0 r0 w0 t1 r1 w1 t2 r2 w2 objects text n
     opened
     many
-    ended limits_are stays remembered)))
+    ended limits_are laws remembered)))
 
 -- a folder beside a standard output
 abbrev pub beside : Option Texts → (List ℕ → ℕ) → (List ℕ → ℕ) → Option (List ℕ) → ℕ → PortsValue

@@ -13,7 +13,7 @@ use Rattle.risk_journal.specs.declared.acts.End.TheVariants as ending
 use Rattle.limit_table.specs.declared.limits.Limits.{Limits}
 use Rattle.session_engine.specs.Trees.{tree_count, fold_of, limit_of}
 use Rattle.risk_journal.specs.ActLists.{events_of}
-use Rattle.session_engine.specs.Admitted.{StaysWithin}
+use Rattle.session_engine.specs.Admitted.{AdmitsOwn, StaysWithin}
 use Rattle.gate_program.specs.Words.{RunWords, venue_name, client_name}
 use Rattle.screen_kit.specs.Screens.{ScreenValue}
 use Rattle.session_engine.specs.Follows.{FollowsInput}
@@ -79,7 +79,8 @@ EndHolds limits screens before after run session bytes acts (ending.Broken place
 EndHolds limits screens before after run session bytes acts (ending.TooLong place) =
     FollowsText limits screens after run session bytes acts (ending.TooLong place)
 
--- each tree has one legal history, and what is admitted in it stays within its limit
+-- Each tree has one legal history. What is admitted in it stays within its limit, and is what the
+-- sessions' own acts admit.
 pub record IsHistory (limits : Limits) (acts : List (List Act)) (lines : List (List Line))
     : Type 0 where
   pub trees : length lines ≡ tree_count limits
@@ -89,6 +90,9 @@ pub record IsHistory (limits : Limits) (acts : List (List Act)) (lines : List (L
   pub within : (tree : ℕ) (own : List Line) → slice_get lines tree ≡ Some own
       → IfSome (limit_of limits tree)
       (λ limit. StaysWithin limit (length acts) own (map (events_of tree) acts))
+  pub admits : (tree : ℕ) (own : List Line) → slice_get lines tree ≡ Some own
+      → IfSome (limit_of limits tree)
+      (λ limit. AdmitsOwn limit own (map (events_of tree) acts))
 
 abbrev pub is_memory : End → Bool
 is_memory ending.Memory = true

@@ -24,7 +24,7 @@ use fold_law::Memory;
 use gate_ports::{Folder, Sink};
 use limit_table::Limits;
 use screen_kit::Screen;
-use session_engine::admitted_stays_within;
+use session_engine::{a_history_admits_what_sessions_do, admitted_stays_within};
 use std::alloc::Global;
 
 /// What a run has by it before its sessions are opened: names, and room for what they do.
@@ -115,6 +115,7 @@ fn run_limited<D: Folder>(
         (answer_number result) }
 {
     admitted_stays_within();
+    a_history_admits_what_sessions_do();
     let ready = match ready_for(alloc, run.out, run.sessions.len()) {
         Ok(ready) => ready,
         Err(Memory) => return Answer::Stopped(Status::Memory),

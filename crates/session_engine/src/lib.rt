@@ -23,7 +23,7 @@ mod telling;
 mod tripping;
 mod venue_report;
 
-pub use hand_acts::{Hands, admitted_stays_within};
+pub use hand_acts::{Hands, a_history_admits_what_sessions_do, admitted_stays_within};
 pub use order_desk::Refusal;
 pub use session::{SessionDone, run_session};
 pub use session_law::{halt_is_tripped_once, places_are_free, sent_orders_are_covered};

@@ -14,7 +14,12 @@ returns-in-Ok-open_sessions g c =
     g.D.Out.Sink.name g.D.Out.Sink.faults)
     ∙ c.in-Ok-open_sessions.ensures.many ∙ sym (length-map c.args.run.now.sessions.now
     string_bytes))
-    c.requires.limits c.admitted_stays_within.ensures c.run_opened.ensures
+    c.requires.limits
+    record {
+      stays = c.admitted_stays_within.ensures;
+      own = c.a_history_admits_what_sessions_do.ensures;
+    }
+    c.run_opened.ensures
 
 pub returns-in-Err-open_sessions : goal.returns-in-Err-open_sessions
 returns-in-Err-open_sessions g c =
