@@ -1,7 +1,7 @@
 pub mod Posts
 pub mod Legal
 pub mod PlainSteps
-pub mod Components
+pub mod Doublings
 pub mod Events
 pub mod TreeCalls
 pub mod Room

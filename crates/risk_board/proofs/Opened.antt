@@ -13,7 +13,7 @@ use Rattle.risk_board.specs.Calls.{post_count}
 use Rattle.risk_board.specs.History.{components_of}
 use Rattle.risk_board.specs.Tree.{TreeValue, contents, empty_tree}
 use Rattle.risk_board.specs.Kept.{IsSound, TellsCalls}
-use Rattle.risk_board.proofs.Components.{sessions_have_components}
+use Rattle.risk_board.proofs.Doublings.{sessions_have_components}
 use Rattle.risk_board.proofs.Events.{events}
 use Rattle.risk_board.proofs.PlainSteps.{plain_of_none}
 

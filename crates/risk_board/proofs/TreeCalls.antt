@@ -17,7 +17,7 @@ use Rattle.risk_board.specs.History.{array_after, components_of}
 use Rattle.risk_board.specs.Plain.{plain_events}
 use Rattle.risk_board.specs.Tree.{TreeValue, with_post, next_line}
 use Rattle.risk_board.specs.Kept.{TellsCalls}
-use Rattle.risk_board.proofs.Components.{sessions_have_components, components_are_few}
+use Rattle.risk_board.proofs.Doublings.{sessions_have_components, components_are_few}
 use Rattle.risk_board.proofs.Events.{events, events-post, events-read, post_count-post}
 use Rattle.risk_board.proofs.Events.{post_count-read, post_count_of_events}
 use Rattle.risk_board.proofs.Posts.{line}

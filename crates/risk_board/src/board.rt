@@ -1,9 +1,9 @@
 //! A board of plain arrays, which keeps the calls on it and its own history.
-ghost use Rattle.std.specs.Prelude.{◌≡◌, ◌≤◌, ◌<◌, [], length, replicate, Some, slice_get};
-ghost use Rattle.std.specs.Prelude.{map, IfOk};
+ghost use Rattle.std.specs.Prelude.{◌≡◌, ◌^◌, ◌≤◌, ◌<◌, [], length, replicate, Some, slice_get};
+ghost use Rattle.std.specs.Prelude.{map, All, IfOk};
 ghost use Rattle.fold_law.specs.Whole.{whole_of};
 ghost use Rattle.fold_law.specs.declared.limits.TheConstants.{SESSIONS, QUOTA};
-ghost use Rattle.risk_board.specs.History.{components_of};
+ghost use Rattle.risk_board.specs.History.{array_after, components_of};
 ghost use Rattle.risk_board.specs.Plain.{empty_board, IsLegalTree};
 
 use crate::hand::{Call, Line};
@@ -61,11 +61,15 @@ impl<F: Fold> PlainBoard<F> {
     }
 
     /// The lines of a tree, in order. With the calls of all sessions they are one legal history, a
-    /// read's place being its stamp.
+    /// read's place being its stamp. A `u32` counts them, and the array behind them has leaf values
+    /// alone.
     pub fn lines(&self, tree: u32) -> &[Line]
         requires tree { tree < length self.now.lines }
         ensures lines { slice_get self.now.lines tree ≡ Some result.now }
         ensures legal { IsLegalTree (whole_of F.join F.UNIT) F.UNIT self.now tree result.now }
+        ensures few { length result.now < 2 ^ 32 }
+        ensures leaves { All (F.under 1)
+            (array_after F.UNIT (components_of (length self.now.calls)) result.now) }
     {
         self.kept.trees[tree as usize].lines.as_slice()
     }
@@ -79,10 +83,12 @@ impl<F: Fold> PlainBoard<F> {
     }
 }
 
-/// The least power of two at or above the number of sessions.
-fn components(sessions: u32) -> u32
+/// How many components the arrays of so many sessions have: the least power of two that is enough.
+pub fn components(sessions: u32) -> u32
     requires { sessions ≤ SESSIONS }
-    ensures { result ≡ components_of sessions }
+    ensures value { result ≡ components_of sessions }
+    ensures least { sessions ≤ result }
+    ensures most { result ≤ SESSIONS }
 {
     let mut power = 1;
     while power < sessions {

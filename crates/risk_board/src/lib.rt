@@ -11,7 +11,7 @@ mod kept;
 mod plain_hand;
 mod tree;
 
-pub use board::PlainBoard;
+pub use board::{PlainBoard, components};
 pub use hand::{Call, Hand, Line, Seen};
 pub use plain_hand::PlainHand;
 

@@ -8,7 +8,6 @@ use crate::acts::End;
 use crate::csv_rows::{add, add_number};
 use crate::id64::Id64;
 use fold_law::Memory;
-use itoa::Buffer;
 use std::alloc::Global;
 
 /// What a tree sums up.
@@ -28,20 +27,19 @@ pub enum TreeKind {
 #[derive(Clone, Copy, Debug)]
 pub struct SessionTotal {
     pub end: End,
-    pub sent: u64,
-    pub refused: u64,
-    pub noted: u64,
+    pub sent: u32,
+    pub refused: u32,
+    pub noted: u32,
 }
 
 /// A tree after the run: its posts, its root at the end, and its limit. Values are in whole currency
-/// units; a root is wide enough for the sum of any leaves. Only an account's and a symbol's name is
-/// shown.
+/// units. Only an account's and a symbol's name is shown.
 #[derive(Clone, Copy, Debug)]
 pub struct TreeTotal {
     pub kind: TreeKind,
     pub name: Id64,
-    pub posts: u64,
-    pub root: u128,
+    pub posts: u32,
+    pub root: u64,
     pub limit: u64,
 }
 
@@ -86,9 +84,9 @@ fn add_session_line(text: &mut Vec<u8>, number: u64, total: &SessionTotal) -> Re
     add(text, b"session")?;
     add_spaced_number(text, number)?;
     add_end(text, total.end)?;
-    add_count(text, b"sent", total.sent)?;
-    add_count(text, b"refused", total.refused)?;
-    add_count(text, b"noted", total.noted)?;
+    add_count(text, b"sent", u64::from(total.sent))?;
+    add_count(text, b"refused", u64::from(total.refused))?;
+    add_count(text, b"noted", u64::from(total.noted))?;
     add(text, b"\n")
 }
 
@@ -136,8 +134,8 @@ fn add_tree_line(text: &mut Vec<u8>, number: u64, total: &TreeTotal) -> Result<(
     add_spaced_number(text, number)?;
     add_kind(text, total.kind)?;
     add_name(text, total.kind, &total.name)?;
-    add_count(text, b"posts", total.posts)?;
-    add_wide_count(text, b"root", total.root)?;
+    add_count(text, b"posts", u64::from(total.posts))?;
+    add_count(text, b"root", total.root)?;
     add_count(text, b"limit", total.limit)?;
     add(text, b"\n")
 }
@@ -179,16 +177,6 @@ fn add_count(text: &mut Vec<u8>, word: &[u8], count: u64) -> Result<(), Memory>
 {
     add_spaced(text, word)?;
     add_spaced_number(text, count)
-}
-
-/// Writes a word and a wide number, each behind a space.
-fn add_wide_count(text: &mut Vec<u8>, word: &[u8], count: u128) -> Result<(), Memory>
-    ensures { OnOk result (text.new.items ≡ text.old.items ++ count_text word.now count) }
-{
-    add_spaced(text, word)?;
-    add(text, b" ")?;
-    let mut buffer = Buffer::new();
-    add(text, buffer.format(count).as_bytes())
 }
 
 /// Writes a space and a word.
