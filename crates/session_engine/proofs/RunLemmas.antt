@@ -112,6 +112,18 @@ trips_kept law limits screens bytes place venue client kept runs few =
       firms = omega (arith, runs.within, few, counts.frames, counts.firms, stands.firms);
     }
 
+-- a frame that is found ends further on, within the bytes
+pub ends_within : (bytes : List ℕ) (place : ℕ) (frame : Frame)
+    → ((bytes : List ℕ) (from : ℕ) (frame : FrameValue) (body_from body_to : ℕ)
+    → IsFrameAt bytes from frame body_from body_to
+    → (from ≤ frame.place) × (frame.place < frame.end) × (frame.end ≤ length bytes))
+    → Finds bytes place (found.Frame frame)
+    → (place < frame.end) × (frame.end ≤ length bytes)
+ends_within bytes place frame within finds =
+    let fields = finds.0 in
+    let w = within bytes place (frame_value frame fields) frame.body_from frame.body_to finds.1 in
+    (omega (arith, w.0, w.1), w.2)
+
 -- one frame more
 pub runs_next : (limits : LimitsValue) (screens : List ScreenValue) (bytes : List ℕ) (place : ℕ)
     (frame : Frame)

@@ -8,6 +8,7 @@ use Rattle.session_engine.specs.Counted.{no_counts}
 -- nothing is told, posted, held or counted, and there is room for one act
 pub record IsOpened (limits : LimitsValue) (state : State) : Type 0 where
   pub acts : state.told.acts.items ≡ []
+  pub empty : vec_len state.told.acts ≡ 0
   pub room : vec_len state.told.acts < vec_capacity state.told.acts
   pub lasts : state.told.lasts.items ≡ replicate (halt_tree limits) 0
   pub book : roomless state.book ≡ first_book limits

@@ -104,6 +104,7 @@ fn reject_request<C: Sink>(
     requires room { vec_len state.old.told.acts + 2 ≤ vec_capacity state.old.told.acts }
     requires counts { HasSmallCounts state.old.counts }
     ensures room { vec_len state.new.told.acts < vec_capacity state.new.told.acts }
+    ensures few { vec_len state.new.told.acts ≤ vec_len state.old.told.acts + 1 }
     ensures step { StayInStep state.old.told.acts.items state.new.told.acts.items
         state.old.told.lasts.items state.new.told.lasts.items }
     ensures taken { result ≡ Step.Taken → (limits : LimitsValue) (screens : List ScreenValue)
@@ -157,6 +158,7 @@ fn return_report<V: Sink>(
     requires room { vec_len state.old.told.acts + 2 ≤ vec_capacity state.old.told.acts }
     requires counts { HasSmallCounts state.old.counts }
     ensures room { vec_len state.new.told.acts < vec_capacity state.new.told.acts }
+    ensures few { vec_len state.new.told.acts ≤ vec_len state.old.told.acts + 1 }
     ensures step { StayInStep state.old.told.acts.items state.new.told.acts.items
         state.old.told.lasts.items state.new.told.lasts.items }
     ensures taken { result ≡ Step.Taken
@@ -211,6 +213,7 @@ pub(crate) fn reject_message<V: Sink, C: Sink>(
     requires room { vec_len state.old.told.acts + 2 ≤ vec_capacity state.old.told.acts }
     requires counts { HasSmallCounts state.old.counts }
     ensures room { vec_len state.new.told.acts < vec_capacity state.new.told.acts }
+    ensures few { vec_len state.new.told.acts ≤ vec_len state.old.told.acts + 1 }
     ensures step { StayInStep state.old.told.acts.items state.new.told.acts.items
         state.old.told.lasts.items state.new.told.lasts.items }
     ensures taken { result ≡ Step.Taken → (limits : LimitsValue) (screens : List ScreenValue)

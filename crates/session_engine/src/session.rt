@@ -1,6 +1,6 @@
 //! A session: its input is fetched, its frames are taken one after another, and it ends.
-ghost use Rattle.std.specs.Prelude.{◌≡◌, ◌≤◌, ◌<◌, [], ◌∷◌, ◌++◌, ◌⊎◌, IsTrue, length, map};
-ghost use Rattle.std.specs.Prelude.{vec_len, vec_capacity};
+ghost use Rattle.std.specs.Prelude.{◌≡◌, ◌+◌, ◌*◌, ◌^◌, ◌≤◌, ◌<◌, [], ◌∷◌, ◌++◌, ◌⊎◌, IsTrue};
+ghost use Rattle.std.specs.Prelude.{length, map, vec_len, vec_capacity};
 ghost use Rattle.limit_table.specs.Files.{IsHeldByFile};
 ghost use Rattle.gate_ports.specs.Faults.{Rose};
 ghost use Rattle.hand_acts.specs.Hands.{IsSumHand, IsHaltHand};
@@ -61,6 +61,8 @@ fn take_frames<H: Hand, M: Hand, K: Screen, V: Sink, C: Sink>(
     ensures sum_origin { H.SameOrigin hands.old.sum hands.new.sum }
     ensures halt_origin { M.SameOrigin hands.old.halt hands.new.halt }
     ensures room { vec_len state.new.told.acts < vec_capacity state.new.told.acts }
+    ensures few { vec_len state.new.told.acts
+        ≤ vec_len state.old.told.acts + 12 * length bytes.now }
     ensures found { StopsBy limits.now (map K.meaning screens.old.items) bytes.now result
         state.new.told.acts.items (V.held sinks.old.venue) (V.held sinks.new.venue)
         (C.held sinks.old.client) (C.held sinks.new.client) }
@@ -135,6 +137,7 @@ fn run_frames<H: Hand, M: Hand, K: Screen, S: Source, V: Sink, C: Sink>(
     ensures sum_origin { H.SameOrigin hands.old.sum hands.new.sum }
     ensures halt_origin { M.SameOrigin hands.old.halt hands.new.halt }
     ensures room { vec_len state.new.told.acts < vec_capacity state.new.told.acts }
+    ensures few { vec_len state.new.told.acts ≤ 12 * 33554432 }
     ensures follows { IsByInput result → FollowsSource limits.now
         (armed_for limits.now (map K.meaning screens.old.items)) (S.left source.old)
         (state.new.told.acts.items ++ Act.Ended result ∷ []) result
@@ -220,6 +223,7 @@ pub fn run_session<H: Hand, M: Hand, S: Source, V: Sink, C: Sink>(
     ensures client_name { C.name result.client ≡ C.name client }
     ensures whole { result.end ≡ End.Whole → IsTrue (S.is_ended result.source) }
     ensures ends { EndsAs result.acts.items result.end }
+    ensures few { length result.acts.items < 2 ^ 32 }
 {
     let mut state = match State::open(alloc, limits) {
         Ok(state) => state,

@@ -58,6 +58,7 @@ fn take_request<H: Hand, M: Hand, K: Screen, V: Sink, C: Sink>(
     ensures sum_origin { H.SameOrigin hands.old.sum hands.new.sum }
     ensures halt_origin { M.SameOrigin hands.old.halt hands.new.halt }
     ensures room { vec_len state.new.told.acts < vec_capacity state.new.told.acts }
+    ensures few { vec_len state.new.told.acts ≤ vec_len state.old.told.acts + 12 }
     ensures taken { result ≡ Step.Taken → TakesSound limits.now bytes.now frame.now
         (kept_by (map K.meaning screens.old.items) state.old sinks.old.client_id
         (V.held sinks.old.venue) (C.held sinks.old.client))
@@ -114,6 +115,7 @@ fn take_report<H: Hand, M: Hand, V: Sink, C: Sink>(
     ensures sum_origin { H.SameOrigin hands.old.sum hands.new.sum }
     ensures halt_origin { M.SameOrigin hands.old.halt hands.new.halt }
     ensures room { vec_len state.new.told.acts < vec_capacity state.new.told.acts }
+    ensures few { vec_len state.new.told.acts ≤ vec_len state.old.told.acts + 4 }
     ensures taken { result ≡ Step.Taken → (screens : List ScreenValue)
         → TakesSound limits.now bytes.now frame.now
         (kept_by screens state.old sinks.old.client_id
@@ -167,6 +169,7 @@ fn take_sound<H: Hand, M: Hand, K: Screen, V: Sink, C: Sink>(
     ensures sum_origin { H.SameOrigin hands.old.sum hands.new.sum }
     ensures halt_origin { M.SameOrigin hands.old.halt hands.new.halt }
     ensures room { vec_len state.new.told.acts < vec_capacity state.new.told.acts }
+    ensures few { vec_len state.new.told.acts ≤ vec_len state.old.told.acts + 12 }
     ensures taken { result ≡ Step.Taken → TakesSound limits.now bytes.now frame.now
         (kept_by (map K.meaning screens.old.items) state.old sinks.old.client_id
         (V.held sinks.old.venue) (C.held sinks.old.client))
@@ -238,6 +241,7 @@ pub(crate) fn take_frame<H: Hand, M: Hand, K: Screen, V: Sink, C: Sink>(
     ensures sum_origin { H.SameOrigin hands.old.sum hands.new.sum }
     ensures halt_origin { M.SameOrigin hands.old.halt hands.new.halt }
     ensures room { vec_len state.new.told.acts < vec_capacity state.new.told.acts }
+    ensures few { vec_len state.new.told.acts ≤ vec_len state.old.told.acts + 12 }
     ensures taken { result ≡ Step.Taken → TakesAny limits.now bytes.now frame.now
         (kept_by (map K.meaning screens.old.items) state.old sinks.old.client_id
         (V.held sinks.old.venue) (C.held sinks.old.client))

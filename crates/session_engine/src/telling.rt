@@ -1,5 +1,5 @@
 //! What is told of a frame, and how it is counted.
-ghost use Rattle.std.specs.Prelude.{◌≡◌, ◌+◌, ◌<◌, ◌++◌, [], ◌∷◌, vec_len, vec_capacity};
+ghost use Rattle.std.specs.Prelude.{◌≡◌, ◌+◌, ◌≤◌, ◌<◌, ◌++◌, [], ◌∷◌, vec_len, vec_capacity};
 ghost use Rattle.session_engine.specs.Taken.{HasSmallCounts, counted, counted_client};
 ghost use Rattle.session_engine.specs.Taken.{noted_act, note_by, note_acts};
 ghost use Rattle.session_engine.specs.Taken.{answer_act, counts_answered, answer_number};
@@ -28,6 +28,7 @@ pub(crate) fn note_frame(acts: &mut Vec<Act>, counts: &mut Counts, note: Note)
     requires counts { HasSmallCounts counts.old }
     ensures acts { acts.new.items ≡ acts.old.items ++ noted_act note counts.old.frames ∷ [] }
     ensures room { vec_capacity acts.new ≡ vec_capacity acts.old }
+    ensures few { vec_len acts.new ≡ vec_len acts.old + 1 }
     ensures counts { counts.new ≡ counted counts.old }
 {
     acts.push_reserved(note_of(counts.frames, note));
@@ -92,6 +93,7 @@ pub(crate) fn tell_effect(acts: &mut Vec<Act>, counts: &mut Counts, effect: Effe
     requires counts { HasSmallCounts counts.old }
     ensures acts { acts.new.items ≡ acts.old.items ++ note_acts counts.old.frames (note_by effect) }
     ensures room { vec_capacity acts.new ≡ vec_capacity acts.old }
+    ensures few { vec_len acts.new ≤ vec_len acts.old + 1 }
     ensures counts { counts.new ≡ counted_client counts.old }
 {
     if let Some(note) = note_by(effect) {

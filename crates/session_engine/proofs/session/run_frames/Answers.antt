@@ -1,6 +1,6 @@
 -- The input, and what the session over it is.
 use Rattle.std.proofs.Common.{arith, rules, ℕ, List, ◌≡◌, subst, true, nat_lt, refl, length}
-use Rattle.std.proofs.Common.{ap, sym, ◌∙◌, take, map, false}
+use Rattle.std.proofs.Common.{◌≤◌, ap, sym, ◌∙◌, take, map, false}
 use Rattle.std.specs.Prelude.{Result, Ok, Err, OnOk}
 use Rattle.std.specs.Result.{is_err}
 use Rattle.fold_law.specs.declared.fold.Memory.{Memory}
@@ -97,3 +97,16 @@ returns-clause-whole g c = λ is.
     (nat_lt input_most (length got)) c.in-Found.next (subst E is end_is) in
     ended_at_whole input_most got (g.S.Source.is_ended c.fetch_up_to-fetched.new.source ≡ true) _
     (c.fetch_up_to-fetched.ensures.whole w.0) w.1
+
+-- there are at most twelve acts for each byte of the input
+pub returns-in-Fault-clause-few : goal.returns-in-Fault-clause-few
+returns-in-Fault-clause-few g c =
+    let fits : length c.input_of.result.now ≤ 33554432 =
+    rw c.input_of.ensures (omega (arith, length-take 33554432 c.deref.result.now)) in
+    omega (arith, fits, c.take_frames.ensures.few, c.requires.opened.empty)
+
+pub returns-clause-few : goal.returns-clause-few
+returns-clause-few g c =
+    let fits : length c.input_of.result.now ≤ 33554432 =
+    rw c.input_of.ensures (omega (arith, length-take 33554432 c.deref.result.now)) in
+    omega (arith, fits, c.take_frames.ensures.few, c.requires.opened.empty)

@@ -1,5 +1,5 @@
 -- The last act is no call.
-use Rattle.std.proofs.Common.{sym, ◌∙◌, ◌∷◌, []}
+use Rattle.std.proofs.Common.{sym, ◌∙◌, ◌∷◌, [], arith}
 use Rattle.std.proofs.lemmas.List.{append-nil}
 use Rattle.hand_acts.proofs.CallLemmas.{calls_below-append, calls_at-append}
 use Rattle.risk_journal.specs.ActLists.{calls_below, calls_at}
@@ -22,3 +22,11 @@ returns-clause-halt_calls g c =
     rw c.push_reserved.ensures.items
     (c.run_frames-end.ensures.halt_calls ∙ sym (append-nil (calls_at halt acts))
     ∙ sym (calls_at-append halt acts (Ended c.run_frames-end.result ∷ [])))
+
+pub returns-clause-few : goal.returns-clause-few
+returns-clause-few g c = omega (
+  arith,
+  c.push_reserved.new.self.ok.0,
+  c.push_reserved.ensures.len,
+  c.run_frames-end.ensures.few,
+)

@@ -1,7 +1,7 @@
 -- Frame by frame, and where the session stops.
 use Rattle.std.proofs.Common.{arith, ◌∙◌, map}
 use Rattle.session_engine.specs.Taken.{Kept, kept_by}
-use Rattle.session_engine.proofs.RunLemmas.{runs_next, covers_kept, small_counts, trips_kept}
+use Rattle.session_engine.proofs.RunLemmas.{runs_next, ends_within, covers_kept, small_counts, trips_kept}
 use Rattle.session_engine.proofs.session.take_frames.Goals as goal
 
 pub take_frame-requires-clause-covers : goal.take_frame-requires-clause-covers
@@ -33,6 +33,8 @@ loop-frame-preserved g c =
     let after : Kept = kept_by (map g.K.Screen.meaning c.take_frame.new.screens.items)
     c.take_frame.new.state c.take_frame.new.sinks.client_id
     (g.V.Sink.held c.take_frame.new.sinks.venue) (g.C.Sink.held c.take_frame.new.sinks.client) in
+    let ends = ends_within c.args.bytes.now c.loop-frame.place c.in-Frame.frame
+    c.frame_is_within.ensures c.in-Frame.ensures in
     record {
       step = c.take_frame.ensures.step;
       sum_origin = g.met.H.Hand.origin_next _ _ _ c.loop-frame.invariant.sum_origin
@@ -40,6 +42,7 @@ loop-frame-preserved g c =
       halt_origin = g.met.M.Hand.origin_next _ _ _ c.loop-frame.invariant.halt_origin
           c.take_frame.ensures.halt_origin;
       room = c.take_frame.ensures.room;
+      few = omega (arith, ends.0, c.loop-frame.invariant.few, c.take_frame.ensures.few);
       runs = runs_next c.args.limits.now (map g.K.Screen.meaning c.args.screens.now.items)
           c.args.bytes.now c.loop-frame.place c.in-Frame.frame
           (g.V.Sink.held c.args.sinks.now.venue) (g.C.Sink.held c.args.sinks.now.client)

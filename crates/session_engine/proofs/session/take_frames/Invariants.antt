@@ -1,5 +1,5 @@
 -- What holds between two frames.
-use Rattle.std.proofs.Common.{◌≡◌, ◌≤◌, ◌<◌, ◌-◌, length, map, vec_len, vec_capacity}
+use Rattle.std.proofs.Common.{◌≡◌, ◌+◌, ◌*◌, ◌≤◌, ◌<◌, ◌-◌, length, map, vec_len, vec_capacity}
 use Rattle.hand_acts.specs.Steps.{InStep}
 use Rattle.session_engine.specs.Runs.{RunsTo}
 use Rattle.session_engine.specs.Taken.{kept_by}
@@ -12,6 +12,7 @@ invariant-loop-frame g l = record {
   sum_origin : g.H.Hand.SameOrigin l.initial.hands.sum l.hands.sum;
   halt_origin : g.M.Hand.SameOrigin l.initial.hands.halt l.hands.halt;
   room : vec_len l.state.told.acts < vec_capacity l.state.told.acts;
+  few : vec_len l.state.told.acts ≤ vec_len l.initial.state.told.acts + 12 * l.place;
   runs : RunsTo l.limits (map g.K.Screen.meaning l.initial.screens.items) l.bytes l.place
       (g.V.Sink.held l.initial.sinks.venue) (g.C.Sink.held l.initial.sinks.client)
       (kept_by (map g.K.Screen.meaning l.screens.items) l.state l.sinks.client_id

@@ -37,6 +37,14 @@ returns-clause-room g c = omega (
   c.requires.room,
 )
 
+pub returns-clause-few : goal.returns-clause-few
+returns-clause-few g c = omega (
+  arith,
+  c.tell_answer-number.ensures.few,
+  c.count_refusal.ensures.few,
+  c.decide-refusal.ensures.few,
+)
+
 pub returns-clause-sum_origin : goal.returns-clause-sum_origin
 returns-clause-sum_origin g c =
     g.met.H.Hand.origin_next _ _ _ c.decide-refusal.ensures.sum_origin
