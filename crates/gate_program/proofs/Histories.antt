@@ -1,18 +1,23 @@
 -- The lines of two boards and the acts of the sessions on them are one legal history in each tree.
-use Rattle.std.proofs.Common.{◌≡◌, ℕ, zero, suc, ◌+◌, ◌<◌, ◌==◌, List, [], ◌∷◌, ◌++◌, length, map}
-use Rattle.std.proofs.Common.{max}
+use Rattle.std.proofs.Common.{◌≡◌, ℕ, zero, suc, ◌+◌, ◌<◌, ◌≤◌, ◌==◌, List, [], ◌∷◌, ◌++◌}
+use Rattle.std.proofs.Common.{length, map, max}
 use Rattle.std.proofs.Common.{Bool, true, false, cond}
 use Rattle.std.proofs.lemmas.Bool.Decides.{nat_tests}
 use Rattle.std.proofs.Common.{sym, ap, subst, ◌∙◌, inl, inr, arith, length-append}
 use Rattle.std.proofs.lemmas.Option.{slice_get_within, slice_get_past}
 use Rattle.std.proofs.lemmas.List.{length-map}
 use Rattle.std.specs.Prelude.{Option, Some, None, IfSome, slice_get, ◌⊎◌}
+use Rattle.std.proofs.lemmas.List.Elements.{All-weaker}
+use Rattle.std.specs.Prelude.{All}
 use Rattle.std.specs.List.{AllByRecursion}
-use Rattle.fold_law.specs.Sum.{sum_of}
+use Rattle.fold_law.specs.declared.limits.TheConstants.{LEAF}
+use Rattle.fold_law.specs.Max.{IsMaxOf}
+use Rattle.fold_law.specs.Sum.{sum_of, IsSumOf}
 use Rattle.fold_law.specs.Whole.{whole_of}
 use Rattle.limit_table.specs.declared.limits.Limits.{Limits}
 use Rattle.risk_board.specs.declared.hand.Line.{Line}
-use Rattle.risk_board.specs.History.{IsLegal, Event, events_of_calls, components_of}
+use Rattle.risk_board.specs.History.{IsLegal, Event, events_of_calls, array_after}
+use Rattle.risk_board.specs.History.{components_of}
 use Rattle.risk_board.specs.Plain.{BoardValue, IsLegalTree, plain_events}
 use Rattle.risk_journal.specs.declared.acts.Act.{Act}
 use Rattle.risk_journal.specs.ActLists.{events_of}
@@ -20,8 +25,8 @@ use Rattle.session_engine.specs.Trees.{fold_of, limit_of, halt_tree, tree_limits
 use Rattle.session_engine.specs.Trees.{symbol_limits}
 use Rattle.session_engine.specs.Admitted.{AdmitsOwn, StaysWithin}
 use Rattle.gate_program.specs.declared.boards.Boards.{Boards}
-use Rattle.gate_program.specs.Boards.{HasLines, HasPlayed}
-use Rattle.gate_program.specs.Finish.{AreOfSessions}
+use Rattle.gate_program.specs.Boards.{IsSoundTree, HasLines, HasPlayed}
+use Rattle.gate_program.specs.Finish.{HasTotal, HaveTotals}
 use Rattle.gate_program.specs.Run.{IsHistory}
 
 -- what stands at a place of two lists stands in the first, or at a later place in the second
@@ -52,6 +57,18 @@ legal_of whole board tree own events are legal =
     (subst (λ (all : List (List Event)). IsLegal whole 0 (components_of (length board.calls)) own
     all)
     are legal)
+
+-- sound lines, each of one of the sessions, have a total
+total_of : (whole : List ℕ → ℕ) (IsLeaf : ℕ → Type 0) (board : BoardValue) (tree : ℕ)
+    (own : List Line) (sessions : ℕ) → length board.calls ≡ sessions
+    → ((x : ℕ) → IsLeaf x → x ≤ LEAF) → IsSoundTree whole 0 IsLeaf board tree own
+    → AllByRecursion (λ line. line.session < sessions) own → HasTotal sessions own
+total_of whole IsLeaf board tree own sessions many capped sound each = record {
+  sessions = each;
+  few = sound.few;
+  leaves = subst (λ (n : ℕ). All (λ x. x ≤ LEAF) (array_after 0 (components_of n) own)) many
+      (All-weaker IsLeaf (λ x. x ≤ LEAF) capped _ sound.leaves);
+}
 
 isnt_halt : (limits : Limits) (tree : ℕ) → tree < halt_tree limits
     → (tree == halt_tree limits) ≡ false
@@ -134,7 +151,7 @@ module _ (limits : Limits) (boards : Boards) (acts : List (List Act)) (lines : L
       (map (events_of tree) acts)
   below tree own here = legal_of (whole_of sum_of 0) boards.sums tree own
       (map (events_of tree) acts)
-      (played.sums tree (is_below tree own here)) (has.sums tree own here)
+      (played.sums tree (is_below tree own here)) (has.sums tree own here).legal
 
   at_first : (tree : ℕ) (own : List Line) → (there : IsBehind boards tree own) → there.0 ≡ 0
   at_first tree own there =
@@ -158,7 +175,7 @@ module _ (limits : Limits) (boards : Boards) (acts : List (List Act)) (lines : L
       (map (events_of n) acts)) (sym (is_halt tree own there))
       (legal_of (whole_of max 0) boards.halt 0 own (map (events_of (halt_tree limits)) acts)
       played.halt
-      (has.halt 0 own (is_first tree own there)))
+      (has.halt 0 own (is_first tree own there)).legal)
 
   below_legal : (tree : ℕ) (own : List Line) → slice_get boards.sums.lines tree ≡ Some own
       → IsLegal (fold_of limits tree) 0 (components_of (length acts)) own
@@ -214,11 +231,21 @@ module _ (limits : Limits) (boards : Boards) (acts : List (List Act)) (lines : L
         (components_of (length acts)) own (map (events_of tree) acts) (legal tree own is);
   }
 
-  -- each line is of a session that has acts
-  pub of_sessions : AreOfSessions (length acts) lines
-  of_sessions tree own is = elim (place_of tree own is) [
-    | inl here ↦ subst (λ (n : ℕ). AllByRecursion (λ line. line.session < n) own) (many tree)
-        (below tree own here).sessions
-    | inr there ↦ subst (λ (n : ℕ). AllByRecursion (λ line. line.session < n) own) (many tree)
-        (halted tree own there).sessions
+  of_sessions : (tree : ℕ) (own : List Line)
+      → AllByRecursion (λ line. line.session < length (map (events_of tree) acts)) own
+      → AllByRecursion (λ line. line.session < length acts) own
+  of_sessions tree own =
+      subst (λ (n : ℕ). AllByRecursion (λ line. line.session < n) own) (many tree)
+
+  -- the lines of each tree have a total for as many sessions as have acts
+  pub have_totals : HaveTotals (length acts) lines
+  have_totals tree own is = elim (place_of tree own is) [
+    | inl here ↦ total_of (whole_of sum_of 0) (IsSumOf 1) boards.sums tree own (length acts)
+        (session_count tree boards.sums _ (played.sums tree (is_below tree own here)) ∙ many tree)
+        (λ x leaf. omega (arith, leaf)) (has.sums tree own here)
+        (of_sessions tree own (below tree own here).sessions)
+    | inr there ↦ total_of (whole_of max 0) (IsMaxOf 1) boards.halt 0 own (length acts)
+        (session_count 0 boards.halt _ played.halt ∙ many (halt_tree limits))
+        (λ x leaf. omega (arith, leaf)) (has.halt 0 own (is_first tree own there))
+        (of_sessions tree own (halted tree own there).sessions)
   ]

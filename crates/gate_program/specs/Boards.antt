@@ -1,12 +1,14 @@
 -- The boards of a run: one of sums, for the firm, the accounts and the symbols, and one of the halt
 -- tree.
-use Rattle.std.specs.Prelude.{◌≡◌, ℕ, ◌<◌, List, [], ◌++◌, length, map}
+use Rattle.std.specs.Prelude.{◌≡◌, ℕ, ◌^◌, ◌<◌, List, [], ◌++◌, length, map, All}
 use Rattle.std.specs.Prelude.{slice_get, slice_set, Some, max}
-use Rattle.fold_law.specs.Sum.{sum_of}
+use Rattle.fold_law.specs.Max.{IsMaxOf}
+use Rattle.fold_law.specs.Sum.{sum_of, IsSumOf}
 use Rattle.fold_law.specs.Whole.{whole_of}
 use Rattle.limit_table.specs.declared.limits.Limits.{Limits}
 use Rattle.risk_board.specs.declared.hand.Call.{Call}
 use Rattle.risk_board.specs.declared.hand.Line.{Line}
+use Rattle.risk_board.specs.History.{array_after, components_of}
 use Rattle.risk_board.specs.Plain.{BoardValue, IsLegalTree, empty_board, plain_events}
 use Rattle.risk_journal.specs.declared.acts.Act.{Act}
 use Rattle.risk_journal.specs.ActLists.{calls_at, calls_below, events_of, placed}
@@ -24,18 +26,25 @@ pub record HasTrees (boards : Boards) : Type 0 where
   pub sums : length boards.sums.lines ≡ boards.trees
   pub halt : length boards.halt.lines ≡ 1
 
--- the lines of each tree of a board are with its calls one legal history
-abbrev pub IsLegalBoard : (List ℕ → ℕ) → ℕ → BoardValue → Type 0
-IsLegalBoard whole unit board =
-    (tree : ℕ) (own : List Line) → slice_get board.lines tree ≡ Some own
-    → IsLegalTree whole unit board tree own
+-- the lines of a tree are with the board's calls one legal history, a `u32` counts them, and each
+-- component of the array behind them is a leaf
+pub record IsSoundTree (whole : List ℕ → ℕ) (unit : ℕ) (IsLeaf : ℕ → Type 0) (board : BoardValue)
+    (tree : ℕ) (own : List Line) : Type 0 where
+  pub legal : IsLegalTree whole unit board tree own
+  pub few : length own < 2 ^ 32
+  pub leaves : All IsLeaf (array_after unit (components_of (length board.calls)) own)
 
--- these lines are the boards', the halt tree's last, and with the calls one legal history in each
--- tree
+-- so are those of each tree of a board
+abbrev pub IsSoundBoard : (List ℕ → ℕ) → ℕ → (ℕ → Type 0) → BoardValue → Type 0
+IsSoundBoard whole unit IsLeaf board =
+    (tree : ℕ) (own : List Line) → slice_get board.lines tree ≡ Some own
+    → IsSoundTree whole unit IsLeaf board tree own
+
+-- these lines are the boards', the halt tree's last, and sound in each tree
 pub record HasLines (boards : Boards) (lines : List (List Line)) : Type 0 where
   pub lines_are : lines ≡ boards.sums.lines ++ boards.halt.lines
-  pub sums : IsLegalBoard (whole_of sum_of 0) 0 boards.sums
-  pub halt : IsLegalBoard (whole_of max 0) 0 boards.halt
+  pub sums : IsSoundBoard (whole_of sum_of 0) 0 (IsSumOf 1) boards.sums
+  pub halt : IsSoundBoard (whole_of max 0) 0 (IsMaxOf 1) boards.halt
 
 -- a session on these boards may begin: they have the trees and the quota of the limits, and no call
 -- of

@@ -1,8 +1,11 @@
 -- What stands when the sessions of a run have ended.
-use Rattle.std.specs.Prelude.{◌≡◌, ℕ, ◌<◌, List, Bool, true, false, slice_get, Some}
+use Rattle.std.specs.Prelude.{◌≡◌, ℕ, ◌^◌, ◌<◌, ◌≤◌, List, length, All, Bool, true, false}
+use Rattle.std.specs.Prelude.{slice_get, Some}
 use Rattle.std.specs.List.{AllByRecursion}
+use Rattle.fold_law.specs.declared.limits.TheConstants.{LEAF}
 use Rattle.limit_table.specs.declared.limits.Limits.{Limits}
 use Rattle.risk_board.specs.declared.hand.Line.{Line}
+use Rattle.risk_board.specs.History.{array_after, components_of}
 use Rattle.risk_journal.specs.declared.acts.Act.{Act}
 use Rattle.risk_journal.specs.declared.acts.End.{End}
 use Rattle.gate_program.specs.declared.boards.Boards.{Boards}
@@ -16,11 +19,17 @@ use Rattle.gate_program.specs.Stages.{ChangesOnly}
 use Rattle.gate_program.specs.Boards.{HasLines, HasPlayed}
 use Rattle.gate_program.specs.Objects.{ObjectsValue, HaveDone, AreWritten, EachHasCauses}
 
--- each line is of one of so many sessions
-abbrev pub AreOfSessions : ℕ → List (List Line) → Type 0
-AreOfSessions sessions lines =
-    (tree : ℕ) (own : List Line) → slice_get lines tree ≡ Some own
-    → AllByRecursion (λ line. line.session < sessions) own
+-- the lines of a tree have a total: each is of one of so many sessions, a `u32` counts them, and
+-- the array behind them has leaf values alone
+pub record HasTotal (many : ℕ) (own : List Line) : Type 0 where
+  pub sessions : AllByRecursion (λ line. line.session < many) own
+  pub few : length own < 2 ^ 32
+  pub leaves : All (λ value. value ≤ LEAF) (array_after 0 (components_of many) own)
+
+-- so have those of each tree
+abbrev pub HaveTotals : ℕ → List (List Line) → Type 0
+HaveTotals sessions lines =
+    (tree : ℕ) (own : List Line) → slice_get lines tree ≡ Some own → HasTotal sessions own
 
 -- the status that stands is by the ends and by whether the journal was refused, and has its text
 pub record HasAnswer (limits : Limits) (acts : List (List Act)) (ends : List End)

@@ -3,7 +3,7 @@ ghost use Rattle.std.specs.Prelude.{◌≡◌, ◌≤◌, ◌++◌, length, map,
 ghost use Rattle.fold_law.specs.Whole.{whole_of};
 ghost use Rattle.limit_table.specs.Files.{IsHeldByFile};
 ghost use Rattle.gate_program.specs.Words.{session_most};
-ghost use Rattle.gate_program.specs.Boards.{AreOpened, HasTrees, HasLines, IsLegalBoard};
+ghost use Rattle.gate_program.specs.Boards.{AreOpened, HasTrees, HasLines, IsSoundBoard};
 
 use fold_law::{Fold, Max, Memory, Sum};
 use limit_table::Limits;
@@ -53,7 +53,8 @@ fn add_lines<F: Fold>(
     requires { length board.now.lines ≡ trees }
     ensures added { OnOk result (map (λ own. own.items) all.new.items
         ≡ map (λ own. own.items) all.old.items ++ board.now.lines) }
-    ensures legal { OnOk result (IsLegalBoard (whole_of F.join F.UNIT) F.UNIT board.now) }
+    ensures sound { OnOk result
+        (IsSoundBoard (whole_of F.join F.UNIT) F.UNIT (F.under 1) board.now) }
 {
     for tree in 0..trees {
         let Ok(lines) = Vec::from_slice(alloc, board.lines(tree)) else {

@@ -1,10 +1,10 @@
 //! The journal of a run, and what comes of the run behind it.
-ghost use Rattle.std.specs.Prelude.{◌≡◌, ◌≤◌, ◌⊎◌, length, map, string_bytes};
+ghost use Rattle.std.specs.Prelude.{◌≡◌, ◌^◌, ◌<◌, ◌≤◌, ◌⊎◌, length, map, All, string_bytes};
 ghost use Rattle.std.specs.Prelude.{OnOk, IsErrOf};
 ghost use Rattle.limit_table.specs.Files.{IsHeldByFile};
 ghost use Rattle.gate_program.specs.Boards.{HasTrees, HasPlayed};
 ghost use Rattle.gate_program.specs.CommandOf.{run_value};
-ghost use Rattle.gate_program.specs.Finish.{HasAnswer, HasStood, HasFinished, AreOfSessions};
+ghost use Rattle.gate_program.specs.Finish.{HasAnswer, HasStood, HasFinished, HaveTotals};
 ghost use Rattle.gate_program.specs.Names.{AreNames};
 ghost use Rattle.gate_program.specs.Objects.{objects_of, EachOwn};
 ghost use Rattle.gate_program.specs.Run.{Holds, WriteRose};
@@ -56,7 +56,8 @@ fn answer_after(
     requires held { IsHeldByFile limits.now }
     requires few { length journal.now.acts.items ≤ session_most }
     requires ends { length ends.now ≡ length journal.now.acts.items }
-    requires sessions { AreOfSessions (length journal.now.acts.items)
+    requires acts { All (λ own. length own.items < 2 ^ 32) journal.now.acts.items }
+    requires lines { HaveTotals (length journal.now.acts.items)
         (map (λ own. own.items) journal.now.lines.items) }
     ensures { (answer_number result ≡ 8) ⊎ HasAnswer limits.now
         (map (λ own. own.items) journal.now.acts.items) ends.now
@@ -85,7 +86,8 @@ fn keep_journal<D: Folder>(
     requires held { IsHeldByFile limits.now }
     requires few { length journal.now.acts.items ≤ session_most }
     requires ends { length ends.now ≡ length journal.now.acts.items }
-    requires sessions { AreOfSessions (length journal.now.acts.items)
+    requires acts { All (λ own. length own.items < 2 ^ 32) journal.now.acts.items }
+    requires lines { HaveTotals (length journal.now.acts.items)
         (map (λ own. own.items) journal.now.lines.items) }
     ensures went { Went (folder_of D.texts D.read_faults D.write_faults folder.old)
         (folder_of D.texts D.read_faults D.write_faults folder.new) }
@@ -124,6 +126,7 @@ pub(crate) fn finish<D: Folder>(
     requires trees { HasTrees finished.boards }
     requires played { HasPlayed limits.now finished.boards
         (map (λ own. own.items) finished.ended.acts.items) }
+    requires acts { All (λ own. length own.items < 2 ^ 32) finished.ended.acts.items }
     requires act_count { length finished.ended.acts.items ≡ length run.now.sessions.now }
     requires end_count { length finished.ended.ends.items ≡ length run.now.sessions.now }
     requires object_count { length finished.ended.opened.items ≡ length run.now.sessions.now }

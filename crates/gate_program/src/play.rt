@@ -1,5 +1,5 @@
 //! The sessions of a run, one after another over the same two plain boards.
-ghost use Rattle.std.specs.Prelude.{◌≡◌, ◌≤◌, [], length, map, IfOk};
+ghost use Rattle.std.specs.Prelude.{◌≡◌, ◌^◌, ◌<◌, ◌≤◌, [], length, map, All, IfOk};
 ghost use Rattle.limit_table.specs.Files.{IsHeldByFile};
 ghost use Rattle.risk_journal.specs.ActLists.{placed};
 ghost use Rattle.gate_program.specs.Boards.{AreOpened, IsReady, HasRunOn, HasPlayed, HasTrees};
@@ -48,6 +48,7 @@ fn play<S: Source, K: Sink>(
     requires held { IsHeldByFile limits.now }
     requires ready { IsReady limits.now session boards }
     ensures ran { HasRunOn limits.now session boards result.boards result.acts.items }
+    ensures few { length result.acts.items < 2 ^ 32 }
     ensures done { HasDone limits.now (map (λ b. (Screen-box b).meaning b.value) screens.items)
         (objects_of S.left S.name S.faults K.held K.name K.faults opened)
         (objects_of S.left S.name S.faults K.held K.name K.faults result.opened)
@@ -137,6 +138,7 @@ pub(crate) fn play_all<S: Source, K: Sink>(
     ensures played { HasPlayed limits.now result.boards
         (map (λ own. own.items) result.ended.acts.items) }
     ensures trees { HasTrees result.boards }
+    ensures few { All (λ own. length own.items < 2 ^ 32) result.ended.acts.items }
     ensures done { HaveDone limits.now
         (map (λ set. map (λ b. (Screen-box b).meaning b.value) set.items) screens.items)
         (map (objects_of S.left S.name S.faults K.held K.name K.faults) opened.items)

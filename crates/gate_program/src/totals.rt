@@ -1,12 +1,10 @@
 //! The totals of a run, as text.
-ghost use Rattle.std.specs.Prelude.{◌≡◌, ◌≤◌, ◌<◌, ◌*◌, length, map, max, IfOk, count_by};
+ghost use Rattle.std.specs.Prelude.{◌≡◌, ◌^◌, ◌≤◌, ◌<◌, length, map, All, IfOk, count_by};
 ghost use Rattle.std.specs.List.{AllByRecursion};
-ghost use Rattle.fold_law.specs.Sum.{sum_of};
-ghost use Rattle.fold_law.specs.Whole.{whole_of};
 ghost use Rattle.limit_table.specs.Files.{IsHeldByFile};
-ghost use Rattle.risk_board.specs.History.{array_after, components_of};
+ghost use Rattle.risk_board.specs.History.{array_after};
 ghost use Rattle.session_engine.specs.Trees.{halt_tree, fold_of, limit_of};
-ghost use Rattle.gate_program.specs.Finish.{AreOfSessions};
+ghost use Rattle.gate_program.specs.Finish.{HasTotal, HaveTotals};
 ghost use Rattle.gate_program.specs.Statuses.{number_of};
 ghost use Rattle.gate_program.specs.Totals.{is_sent, is_refused, is_noted, session_total};
 ghost use Rattle.gate_program.specs.Totals.{session_totals, kind_of, name_of, or_zero, tree_total};
@@ -14,43 +12,47 @@ ghost use Rattle.gate_program.specs.Totals.{tree_totals_from, totals_of};
 ghost use Rattle.gate_program.specs.Words.{session_most};
 
 use crate::status::Status;
-use fold_law::Memory;
+use fold_law::{Max, Memory, Sum, whole};
 use limit_table::Limits;
-use risk_board::Line;
+use risk_board::{Line, components};
 use risk_journal::{
     Act, End, Id64, Journal, SessionTotal, Totals, TreeKind, TreeTotal, write_totals,
 };
 use std::alloc::Global;
 
 /// How many orders were sent.
-fn count_sent(acts: &[Act]) -> u64
+fn count_sent(acts: &[Act]) -> u32
+    requires { length acts.now < 2 ^ 32 }
     ensures { result ≡ count_by is_sent acts.now }
 {
     acts.iter()
         .filter(|act| matches!(act, Act::Sent { .. }))
-        .count() as u64
+        .count() as u32
 }
 
 /// How many orders were refused.
-fn count_refused(acts: &[Act]) -> u64
+fn count_refused(acts: &[Act]) -> u32
+    requires { length acts.now < 2 ^ 32 }
     ensures { result ≡ count_by is_refused acts.now }
 {
     acts.iter()
         .filter(|act| matches!(act, Act::Refused { .. }))
-        .count() as u64
+        .count() as u32
 }
 
 /// How many frames were noted.
-fn count_noted(acts: &[Act]) -> u64
+fn count_noted(acts: &[Act]) -> u32
+    requires { length acts.now < 2 ^ 32 }
     ensures { result ≡ count_by is_noted acts.now }
 {
     acts.iter()
         .filter(|act| matches!(act, Act::Noted { .. }))
-        .count() as u64
+        .count() as u32
 }
 
 /// The total of a session with this end and these acts.
 fn session_total(end: End, acts: &[Act]) -> SessionTotal
+    requires { length acts.now < 2 ^ 32 }
     ensures { result ≡ session_total end acts.now }
 {
     SessionTotal {
@@ -67,7 +69,8 @@ fn session_totals(
     ends: &[End],
     acts: &[Vec<Act>],
 ) -> Result<Vec<SessionTotal>, Memory>
-    requires { length ends.now ≡ length acts.now }
+    requires ends { length ends.now ≡ length acts.now }
+    requires acts { All (λ own. length own.items < 2 ^ 32) acts.now }
     ensures { IfOk result (λ all.
         all.items ≡ session_totals ends.now (map (λ own. own.items) acts.now)) }
 {
@@ -127,20 +130,6 @@ fn row_of(limits: &Limits, tree: usize) -> Row
     }
 }
 
-/// The least power of two at or above the number of sessions.
-fn components(sessions: usize) -> usize
-    requires { sessions ≤ session_most }
-    ensures value { result ≡ components_of sessions }
-    ensures least { sessions ≤ result }
-    ensures most { result ≤ 2 * session_most }
-{
-    let mut power = 1;
-    while power < sessions {
-        power *= 2;
-    }
-    power
-}
-
 /// The plain array of so many components behind these lines.
 fn array_of(alloc: Global, components: usize, lines: &[Line]) -> Result<Vec<u64>, Memory>
     requires { AllByRecursion (λ line. line.session < components) lines.now }
@@ -156,36 +145,6 @@ fn array_of(alloc: Global, components: usize, lines: &[Line]) -> Result<Vec<u64>
     Ok(array)
 }
 
-/// The sum of the values of an array.
-fn sum_up(values: &[u64]) -> u128
-    requires { length values.now ≤ 2 * session_most }
-    ensures { result ≡ whole_of sum_of 0 values.now }
-{
-    let mut sum: u128 = 0;
-    for value in values {
-        sum += *value as u128;
-    }
-    sum
-}
-
-/// The larger of two.
-fn larger(one: u64, other: u64) -> u64
-    ensures { result ≡ max one other }
-{
-    if one < other { other } else { one }
-}
-
-/// The largest of the values, and 0 of none.
-fn largest(values: &[u64]) -> u64
-    ensures { result ≡ whole_of max 0 values.now }
-{
-    let mut most = 0;
-    for value in values {
-        most = larger(most, *value);
-    }
-    most
-}
-
 /// How a tree stands behind its lines.
 fn tree_total(
     alloc: Global,
@@ -196,20 +155,20 @@ fn tree_total(
 ) -> Result<TreeTotal, Memory>
     requires held { IsHeldByFile limits.now }
     requires few { sessions ≤ session_most }
-    requires sessions { AllByRecursion (λ line. line.session < sessions) lines.now }
+    requires lines { HasTotal sessions lines.now }
     ensures { IfOk result (λ total. total ≡ tree_total limits.now sessions tree lines.now) }
 {
     let row = row_of(limits, tree);
-    let array = array_of(alloc, components(sessions), lines)?;
+    let array = array_of(alloc, components(sessions as u32) as usize, lines)?;
     let root = if tree == limits.halt_tree() as usize {
-        largest(&array) as u128
+        whole::<Max>(&array)
     } else {
-        sum_up(&array)
+        whole::<Sum>(&array)
     };
     Ok(TreeTotal {
         kind: row.kind,
         name: row.name,
-        posts: lines.len() as u64,
+        posts: lines.len() as u32,
         root,
         limit: row.limit,
     })
@@ -224,7 +183,7 @@ fn tree_totals(
 ) -> Result<Vec<TreeTotal>, Memory>
     requires held { IsHeldByFile limits.now }
     requires few { sessions ≤ session_most }
-    requires sessions { AreOfSessions sessions (map (λ own. own.items) lines.now) }
+    requires lines { HaveTotals sessions (map (λ own. own.items) lines.now) }
     ensures { IfOk result (λ all. all.items
         ≡ tree_totals_from limits.now sessions 0 (map (λ own. own.items) lines.now)) }
 {
@@ -249,7 +208,8 @@ pub(crate) fn totals_text(
     requires held { IsHeldByFile limits.now }
     requires few { length journal.now.acts.items ≤ session_most }
     requires ends { length ends.now ≡ length journal.now.acts.items }
-    requires sessions { AreOfSessions (length journal.now.acts.items)
+    requires acts { All (λ own. length own.items < 2 ^ 32) journal.now.acts.items }
+    requires lines { HaveTotals (length journal.now.acts.items)
         (map (λ own. own.items) journal.now.lines.items) }
     ensures { IfOk result (λ text. text.items ≡ totals_of limits.now
         (map (λ own. own.items) journal.now.acts.items) ends.now

@@ -1,17 +1,17 @@
 use Rattle.std.proofs.Common.{ℕ, ◌∙◌, map, sym, subst, string_bytes}
 use Rattle.std.proofs.lemmas.List.{length-map}
 use Rattle.gate_program.specs.CommandOf.{run_value}
-use Rattle.gate_program.specs.Finish.{AreOfSessions}
+use Rattle.gate_program.specs.Finish.{HaveTotals}
 use Rattle.gate_program.specs.Objects.{objects_of}
 use Rattle.gate_program.proofs.Finished.{finished}
-use Rattle.gate_program.proofs.Histories.{of_sessions}
+use Rattle.gate_program.proofs.Histories.{have_totals}
 use Rattle.gate_program.proofs.finish.finish.Goals as goal
 
-pub keep_journal-requires-clause-sessions : goal.keep_journal-requires-clause-sessions
-keep_journal-requires-clause-sessions g c κs within =
-    subst (λ (n : ℕ). AreOfSessions n (map (λ own. own.items) c.in-Ok.lines.items))
+pub keep_journal-requires-clause-lines : goal.keep_journal-requires-clause-lines
+keep_journal-requires-clause-lines g c κs within =
+    subst (λ (n : ℕ). HaveTotals n (map (λ own. own.items) c.in-Ok.lines.items))
     (length-map c.args.finished.ended.acts.items (λ own. own.items))
-    (of_sessions c.args.limits.now c.args.finished.boards _ _ c.requires.played c.in-Ok.ensures)
+    (have_totals c.args.limits.now c.args.finished.boards _ _ c.requires.played c.in-Ok.ensures)
 
 pub returns : goal.returns
 returns g c =

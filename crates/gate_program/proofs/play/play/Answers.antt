@@ -1,7 +1,8 @@
 -- The hands came back with the session's calls.
-use Rattle.std.proofs.Common.{ap, refl}
+use Rattle.std.proofs.Common.{ap, arith, length, refl}
+use Rattle.std.proofs.lemmas.List.{length-map}
 use Rattle.std.proofs.lemmas.Option.{slice_get_within}
-use Rattle.risk_journal.specs.ActLists.{calls_below, calls_at}
+use Rattle.risk_journal.specs.ActLists.{calls_below, calls_at, placed}
 use Rattle.session_engine.specs.Trees.{halt_tree}
 use Rattle.gate_program.specs.declared.boards.Boards.{Boards}
 use Rattle.gate_program.proofs.Played.{is_halt_hand, has_run_on, has_calls}
@@ -61,3 +62,13 @@ returns-clause-done g c = record {
   venue_name = c.run_session-done.ensures.venue_name;
   client_name = c.run_session-done.ensures.client_name;
 }
+
+pub returns-clause-few : goal.returns-clause-few
+returns-clause-few g c =
+    let acts = c.run_session-done.result.acts.items in
+    omega (
+      arith,
+      ap length c.with_places.ensures,
+      length-map acts (placed (λ stamp. stamp)),
+      c.run_session-done.ensures.few,
+    )

@@ -1,5 +1,7 @@
-use Rattle.std.proofs.Common.{◌≡◌, ℕ, ◌<◌, length, refl, arith, subst}
+use Rattle.std.proofs.Common.{◌≡◌, ℕ, ◌^◌, ◌<◌, length, refl, arith, subst, Vec, Global}
 use Rattle.std.proofs.lemmas.List.{length-map}
+use Rattle.std.proofs.lemmas.List.Elements.{All-push}
+use Rattle.risk_journal.specs.declared.acts.Act.{Act}
 use Rattle.gate_program.specs.declared.open.Opened.{Opened}
 use Rattle.gate_program.specs.Boards.{AreOpened}
 use Rattle.gate_program.specs.Objects.{objects_of}
@@ -21,6 +23,7 @@ loop-session-init g c =
           c.args.room.acts.items c.args.room.ends.items c.args.room.opened.items
           (subst (λ (n : ℕ). AreOpened c.args.limits.now n c.args.boards) many c.requires.opened)
           c.requires.empty.acts c.requires.empty.ends c.requires.empty.opened;
+      few = rw c.requires.empty.acts (λ k d below. absurd (omega (arith, below)));
       act_room = omega (arith, c.requires.room.acts, many);
       end_room = omega (arith, c.requires.room.ends, many);
       object_room = omega (arith, c.requires.room.opened, many);
@@ -64,6 +67,9 @@ loop-session-preserved g c =
           c.play-played.ensures.done
           c.push_reserved.ensures.items c.push_reserved-in-loop-session.ensures.items
           c.push_reserved-in-loop-session-2.ensures.items;
+      few = rw c.push_reserved.ensures.items
+          (All-push (λ (own : Vec Act Global). length own.items < 2 ^ 32) _ _
+          c.loop-session.invariant.few c.play-played.ensures.few);
       act_room = omega (
         arith,
         c.loop-session.invariant.act_room,

@@ -1,17 +1,16 @@
-use Rattle.std.proofs.Common.{◌<◌, List, arith, refl, sym, subst, length-take}
+use Rattle.std.proofs.Common.{arith, refl, sym, subst, length-take}
 use Rattle.std.proofs.lemmas.Option.{slice_get_read}
-use Rattle.std.specs.List.{AllByRecursion}
-use Rattle.risk_board.specs.declared.hand.Line.{Line}
+use Rattle.gate_program.specs.Finish.{HasTotal}
 use Rattle.gate_program.proofs.Lists.{map_at}
 use Rattle.gate_program.proofs.TotalLists.{one_tree}
 use Rattle.gate_program.proofs.totals.tree_totals.Goals as goal
 
-pub tree_total-requires-clause-sessions : goal.tree_total-requires-clause-sessions
-tree_total-requires-clause-sessions c =
+pub tree_total-requires-clause-lines : goal.tree_total-requires-clause-lines
+tree_total-requires-clause-lines c =
     let place = c.loop-tree.tree in
-    subst (λ (l : List Line). AllByRecursion (λ line. line.session < c.args.sessions) l)
+    subst (HasTotal c.args.sessions)
     (sym c.as_slice.ensures.value)
-    (c.requires.sessions place c.index-lines-tree.result.items
+    (c.requires.lines place c.index-lines-tree.result.items
     (map_at (λ v. v.items) c.args.lines.now place c.index-lines-tree.result
     (slice_get_read c.args.lines.now _ place _ refl (omega arith) c.index-lines-tree.is)))
 
