@@ -1,7 +1,8 @@
 -- Frame by frame, and where the session stops.
 use Rattle.std.proofs.Common.{arith, ◌∙◌, map}
 use Rattle.session_engine.specs.Taken.{Kept, kept_by}
-use Rattle.session_engine.proofs.RunLemmas.{runs_next, ends_within, covers_kept, small_counts, trips_kept}
+use Rattle.session_engine.proofs.RunLemmas.{runs_next, ends_within, covers_kept, small_counts}
+use Rattle.session_engine.proofs.RunLemmas.{trips_kept}
 use Rattle.session_engine.proofs.session.take_frames.Goals as goal
 
 pub take_frame-requires-clause-covers : goal.take_frame-requires-clause-covers
