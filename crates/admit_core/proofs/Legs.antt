@@ -4,7 +4,6 @@ use Rattle.std.proofs.Common.{arith, Bool, true, false, cond, ◌||◌, lit<, li
 use Rattle.std.specs.Prelude.{All, AllPairs, nat_lt, slice_index}
 use Rattle.std.proofs.lemmas.List.Sums.{sum_by-append}
 use Rattle.std.proofs.lemmas.Bool.{ne_eqb, ltb-false}
-use Rattle.std.proofs.lemmas.Bool.Decides.{nat_tests}
 use Rattle.risk_board.specs.declared.hand.Call.{Call}
 use Rattle.risk_board.specs.declared.hand.Call.TheVariants.{Post}
 use Rattle.risk_board.specs.declared.hand.Seen.{Seen}

@@ -1,7 +1,7 @@
 -- No report makes an order count for more.
 use Rattle.std.proofs.Common.{◌≡◌, ◌≤◌, ◌+◌, ◌-◌, ◌*◌, ℕ, Bool, true, false, List, max}
 use Rattle.std.proofs.Common.{Some, None, IfSome, refl, sym, ap, ◌∙◌}
-use Rattle.std.proofs.Common.{arith, leb, leb-true, ◌&&◌, if◌then◌else◌}
+use Rattle.std.proofs.Common.{arith, leb, leb-true, if◌then◌else◌}
 use Rattle.std.proofs.Math.Nat.{mul-le-mul, mul-le-mul_left, add-mul}
 use Rattle.fix_orders.specs.declared.message.Exec.{Exec}
 use Rattle.fix_orders.specs.declared.message.Exec.TheVariants.{New, Canceled, Replaced, Rejected}

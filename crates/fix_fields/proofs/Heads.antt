@@ -1,7 +1,7 @@
 -- A rest begins with at most one head, or ends within one.
 use Rattle.std.proofs.Common.{◌≡◌, ℕ, ◌<◌, ◌⊎◌, inl, inr, List, [], ◌∷◌, ◌++◌, length}
 use Rattle.std.proofs.Common.{refl, ap, sym, ◌∙◌, arith, append_assoc, append-nil, length-append}
-use Rattle.std.proofs.Common.{codes, true, Bool, ◌&&◌, ◌≢◌, Option, Some, None, MatchOption, IfSome}
+use Rattle.std.proofs.Common.{codes, true, ◌≢◌, Option, Some, None, MatchOption, IfSome}
 use Rattle.std.proofs.Common.{IfNone, Bor}
 use Rattle.std.specs.List.{list_all}
 use Rattle.std.specs.Char.{is_ascii_digit}

@@ -1,7 +1,7 @@
 -- A walk's places are those of the fields that its bytes spell.
 use Rattle.std.proofs.Common.{◌≡◌, ℕ, ◌+◌, ◌-◌, ◌<◌, ◌≤◌, List, [], ◌∷◌, ◌++◌, length, take, drop}
 use Rattle.std.proofs.Common.{refl, ap, sym}
-use Rattle.std.proofs.Common.{◌∙◌, arith, zero, suc, Bool, true, false, cond, decimal, ◌&&◌, ◌^◌}
+use Rattle.std.proofs.Common.{◌∙◌, arith, zero, suc, Bool, true, false, cond, decimal, ◌^◌}
 use Rattle.std.proofs.Common.{Some}
 use Rattle.std.proofs.Common.{length-drop, length-take, subst, map, nat_le, append_assoc, sum}
 use Rattle.std.proofs.lemmas.Fmt.{decimal_is_IsNumeral}

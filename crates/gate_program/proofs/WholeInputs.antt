@@ -1,6 +1,6 @@
 -- Whole inputs are done: each other way of a run has a cause that they, or the counts, rule out.
 use Rattle.std.proofs.Common.{◌≡◌, ℕ, ◌≤◌, List, [], ◌∷◌, length, map, take, refl, sym, ap}
-use Rattle.std.proofs.Common.{subst, ◌∙◌, arith, inl, inr, Bool, true, false, ◌||◌, take_all}
+use Rattle.std.proofs.Common.{subst, ◌∙◌, arith, inl, inr, Bool, true, false, take_all}
 use Rattle.std.proofs.Common.{zero, suc}
 use Rattle.std.specs.Prelude.{◌⊎◌, Option, Some, None, IfSome, IsSome, nat_lt, slice_get}
 use Rattle.std.specs.Prelude.{is_some}

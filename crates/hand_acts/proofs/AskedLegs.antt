@@ -1,10 +1,9 @@
 -- What is asked for an order's legs, and when enough posts are left for it.
 use Rattle.std.proofs.Common.{◌≡◌, ◌≢◌, ℕ, ◌+◌, ◌≤◌, ◌<◌, List, [], ◌∷◌}
-use Rattle.std.proofs.Common.{refl, sym, ap, ◌∙◌, subst, arith, Bool, true, false, ◌||◌}
+use Rattle.std.proofs.Common.{refl, sym, ap, ◌∙◌, subst, arith, false}
 use Rattle.std.specs.Prelude.{nat_lt, All, IsTrue, ◌↔◌, slice_index}
 use Rattle.std.proofs.lemmas.List.Elements.{All-cons, All-nil}
 use Rattle.std.proofs.lemmas.Bool.{false_from_ne_true, ltb-false}
-use Rattle.std.proofs.lemmas.Bool.Decides.{nat_tests}
 use Rattle.fold_law.specs.declared.limits.TheConstants.{LEAF}
 use Rattle.risk_board.specs.Calls.{post_count}
 use Rattle.risk_board.specs.Hands.{HandValue}

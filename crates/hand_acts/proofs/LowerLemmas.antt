@@ -2,7 +2,7 @@
 use Rattle.std.proofs.Common.{◌≡◌, ℕ, ◌+◌, ◌-◌, ◌≤◌, ◌<◌, ◌==◌, List, [], ◌∷◌, ◌++◌}
 use Rattle.std.proofs.Common.{refl, sym, ap, ◌∙◌, subst, arith, Bool, true, false, cond, ◌&&◌}
 use Rattle.std.proofs.Common.{inl, inr}
-use Rattle.std.specs.Prelude.{nat_lt, nat_le, not, IsTrue, IsFalse, ◌↔◌, ◌⊎◌, slice_index}
+use Rattle.std.specs.Prelude.{nat_le, not, IsTrue, IsFalse, ◌↔◌, ◌⊎◌, slice_index}
 use Rattle.std.specs.Prelude.{slice_index_or, slice_set}
 use Rattle.std.proofs.lemmas.List.{append-nil, length-set}
 use Rattle.std.proofs.lemmas.Bool.{true≢false, false_from_ne_true, ne_eqb, eq-eqb, and_parts, lt-ltb}

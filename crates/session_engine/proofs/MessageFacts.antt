@@ -1,12 +1,10 @@
 -- What is known of a message that was read.
 use Rattle.std.proofs.Common.{◌≡◌, ℕ, List, [], ◌∷◌, length, refl, sym, ap, ◌∙◌, subst, arith}
-use Rattle.std.proofs.Common.{Bool, true, false, ◌||◌, ◌==◌}
-use Rattle.std.specs.Prelude.{Some, None, Ok, Err, not, nat_lt, if◌then◌else◌}
+use Rattle.std.proofs.Common.{true, false, ◌||◌, ◌==◌}
+use Rattle.std.specs.Prelude.{Some, None, Ok, nat_lt}
 use Rattle.std.specs.List.{list_all}
-use Rattle.std.specs.Result.{result_ok}
 use Rattle.fix_fields.specs.Fields.{FieldValue}
 use Rattle.fix_fields.specs.Numbers.{is_printable}
-use Rattle.fix_fields.specs.declared.number.Spelling.TheVariants.{Form, Range}
 use Rattle.fix_orders.specs.declared.kind.Kind.{Kind}
 use Rattle.fix_orders.specs.declared.kind.Kind.TheVariants as kind
 use Rattle.fix_orders.specs.declared.message.Cancel.{Cancel}
@@ -18,7 +16,7 @@ use Rattle.fix_orders.specs.declared.message.Message.{Message}
 use Rattle.fix_orders.specs.declared.message.Message.TheVariants as message
 use Rattle.fix_orders.specs.Envelopes.{envelope_of, id_in}
 use Rattle.fix_orders.specs.Faults.{values_of, value_of, first_value, first_fault}
-use Rattle.fix_orders.specs.Faults.{spelling_reason, values_reason}
+use Rattle.fix_orders.specs.Faults.{values_reason}
 use Rattle.fix_orders.specs.Kinds.{kind_of}
 use Rattle.fix_orders.specs.Put.{is_passed}
 use Rattle.fix_orders.specs.Reading.{read_of, message_of, new_order_of, cancel_of, replace_of}

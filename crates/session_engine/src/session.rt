@@ -137,7 +137,7 @@ fn run_frames<H: Hand, M: Hand, K: Screen, S: Source, V: Sink, C: Sink>(
     ensures sum_origin { H.SameOrigin hands.old.sum hands.new.sum }
     ensures halt_origin { M.SameOrigin hands.old.halt hands.new.halt }
     ensures room { vec_len state.new.told.acts < vec_capacity state.new.told.acts }
-    ensures few { vec_len state.new.told.acts ≤ 12 * 33554432 }
+    ensures few { vec_len state.new.told.acts ≤ 12 * input_most }
     ensures follows { IsByInput result → FollowsSource limits.now
         (armed_for limits.now (map K.meaning screens.old.items)) (S.left source.old)
         (state.new.told.acts.items ++ Act.Ended result ∷ []) result

@@ -101,12 +101,12 @@ returns-clause-whole g c = λ is.
 -- there are at most twelve acts for each byte of the input
 pub returns-in-Fault-clause-few : goal.returns-in-Fault-clause-few
 returns-in-Fault-clause-few g c =
-    let fits : length c.input_of.result.now ≤ 33554432 =
-    rw c.input_of.ensures (omega (arith, length-take 33554432 c.deref.result.now)) in
+    let fits : length c.input_of.result.now ≤ input_most =
+    rw c.input_of.ensures (omega (arith, length-take input_most c.deref.result.now)) in
     omega (arith, fits, c.take_frames.ensures.few, c.requires.opened.empty)
 
 pub returns-clause-few : goal.returns-clause-few
 returns-clause-few g c =
-    let fits : length c.input_of.result.now ≤ 33554432 =
-    rw c.input_of.ensures (omega (arith, length-take 33554432 c.deref.result.now)) in
+    let fits : length c.input_of.result.now ≤ input_most =
+    rw c.input_of.ensures (omega (arith, length-take input_most c.deref.result.now)) in
     omega (arith, fits, c.take_frames.ensures.few, c.requires.opened.empty)
