@@ -3,7 +3,8 @@ use Rattle.trail_replay.specs.Arrays.{AreLines}
 use Rattle.trail_replay.specs.Blocks.{places_to}
 use Rattle.trail_replay.specs.Fronts.{front_of}
 use Rattle.trail_replay.specs.Histories.{posts_of_tree, lines_of_tree}
-use Rattle.trail_replay.proofs.BlockSteps.{root_stamp, if_ok_both, if_ok_with}
+use Rattle.node_rule.proofs.Closing.{if_ok}
+use Rattle.trail_replay.proofs.BlockSteps.{root_stamp, if_ok_both}
 use Rattle.trail_replay.proofs.LegalHistories.{legal_lines}
 use Rattle.trail_replay.proofs.Places.{length-places_to}
 use Rattle.trail_replay.proofs.Walkable.{walkable}
@@ -36,7 +37,7 @@ returns-clause-stamps g c =
     c.index-root.ensures c.root.ensures in
     let long = length-places_to (front_of taken.shape.levels taken.passes.items tree)
     (posts_of_tree tree taken.passes.items) c.stamp_of.result in
-    if_ok_with _ _ c.history_to.result
+    if_ok _ _ c.history_to.result
     (λ h places. let same = ap (λ (s : List ℕ). length s) places in omega arith)
     c.history_to.ensures.places
 
@@ -44,5 +45,5 @@ pub returns-clause-walkable : goal.returns-clause-walkable
 returns-clause-walkable g c =
     let can = walkable g.F.Fold.UNIT g.F.Fold.CAP g.F.Fold.join c.args.taken.now c.args.tree
     c.stamp_of.result c.requires.lawful in
-    if_ok_with _ _ c.history_to.result
+    if_ok _ _ c.history_to.result
     (λ h lines. subst (AreLines g.F.Fold.CAP) (sym lines) can) c.history_to.ensures.lines
