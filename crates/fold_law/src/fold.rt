@@ -41,10 +41,10 @@ pub trait Fold {
     ghost laws: { FoldLaws UNIT CAP join le under };
 }
 
-/// The join of the leaves from the left, starting at `UNIT`.
+/// The join of the leaves from the left, starting at `UNIT`. Each is a leaf value or the unit.
 pub fn whole<F: Fold>(leaves: &[u64]) -> u64
     requires few { length leaves.now ≤ SESSIONS }
-    requires capped { All (λ x. x ≤ F.CAP) leaves.now }
+    requires leaves { All (F.under 1) leaves.now }
     ensures { result ≡ whole_of F.join F.UNIT leaves.now }
 {
     let mut joined = F::UNIT;

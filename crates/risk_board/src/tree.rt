@@ -5,7 +5,7 @@ ghost use Rattle.fold_law.specs.Whole.{whole_of};
 ghost use Rattle.fold_law.specs.declared.limits.TheConstants.{SESSIONS};
 
 use crate::hand::{Line, Seen};
-use fold_law::{Fold, Memory};
+use fold_law::{Fold, Memory, whole};
 use std::alloc::Global;
 
 /// A tree's lines in order, its array by component, and its number of posts by session.
@@ -80,20 +80,7 @@ impl PlainTree {
     {
         Seen {
             stamp: self.lines.len() as u32,
-            value: root_of::<F>(&self.leaves),
+            value: whole::<F>(&self.leaves),
         }
     }
-}
-
-/// The join of an array's components, each a leaf value or the unit.
-fn root_of<F: Fold>(leaves: &[u64]) -> u64
-    requires few { length leaves.now ≤ SESSIONS }
-    requires leaves { All (F.under 1) leaves.now }
-    ensures { result ≡ whole_of F.join F.UNIT leaves.now }
-{
-    let mut joined = F::UNIT;
-    for leaf in leaves {
-        joined = F::join(joined, *leaf);
-    }
-    joined
 }

@@ -2,9 +2,9 @@
 ghost use Rattle.std.specs.Prelude.{◌≡◌, ◌≤◌, length};
 ghost use Rattle.trail_replay.specs.Arrays.{AreLines, IsWholeAt, whole_at};
 
-use crate::array::{Leaves, root_of, set_lines};
+use crate::array::{Leaves, set_lines};
 use crate::history::History;
-use fold_law::{Fold, SESSIONS};
+use fold_law::{Fold, SESSIONS, whole};
 use risk_board::Line;
 use std::marker::{Model, PhantomData};
 
@@ -55,6 +55,6 @@ impl<'a, F: Fold> Walk<'a, F> {
         let some = &self.lines[self.place..place as usize];
         set_lines(&mut self.leaves, some);
         self.place = place as usize;
-        root_of::<F>(&self.leaves)
+        whole::<F>(&self.leaves)
     }
 }

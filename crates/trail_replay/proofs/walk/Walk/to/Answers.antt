@@ -9,8 +9,8 @@ use Rattle.trail_replay.specs.Arrays.{WalkValue, IsWholeAt, whole_at, after_line
 use Rattle.trail_replay.proofs.WalkLaws.{after-more, all_under, whole-fewer}
 use Rattle.trail_replay.proofs.walk.Walk.to.Goals as goal
 
-pub root_of-requires-clause-leaves : goal.root_of-requires-clause-leaves
-root_of-requires-clause-leaves g c =
+pub whole-requires-clause-leaves : goal.whole-requires-clause-leaves
+whole-requires-clause-leaves g c =
     let lines = c.self.inside.lines.now in
     let from = c.self.inside.place in
     let unit = g.F.Fold.UNIT in
@@ -49,7 +49,7 @@ returns-clause-value g c =
     let unit = g.F.Fold.UNIT in
     let stands : from ≡ c.args.self.now.place = ap (λ (w : WalkValue). w.place) c.self.view_is in
     let all : lines ≡ c.args.self.now.lines = ap (λ (w : WalkValue). w.lines) c.self.view_is in
-    c.root_of.ensures
+    c.whole.ensures
     ∙ (ap (whole_of g.F.Fold.join unit) (c.set_lines.ensures
     ∙ (ap (λ a. after_lines a (take (c.args.place - from) (drop from lines)))
     c.self.invariant.array
@@ -65,5 +65,5 @@ returns-clause-whole g c =
     ∙ ap (λ s. whole_at g.F.Fold.join unit s c.args.place) (sym all) in
     let fewer = whole-fewer unit g.F.Fold.CAP g.F.Fold.join g.F.Fold.le g.F.Fold.under
     g.met.F.Fold.laws lines c.self.invariant.are c.args.place in
-    subst (λ (s : List Line). IsWholeAt g.F.Fold.join unit s c.args.place c.root_of.result) all
+    subst (λ (s : List Line). IsWholeAt g.F.Fold.join unit s c.args.place c.whole.result) all
     (λ components few sessions. is ∙ fewer components few sessions)
