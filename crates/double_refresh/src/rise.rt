@@ -20,6 +20,7 @@ pub(crate) fn attempt<F: Fold, L: Ledger>(
     ensures table { KeepsSeat climb.old climb.new }
     ensures won { OnTrue result (Wins climb.old climb.new) }
     ensures lost { OnFalse result (Loses climb.old climb.new) }
+    ensures counted { climb.new.made ≡ climb.old.made + 3 }
     ensures steps { steps.new ≡ steps.old + 3 }
 {
     words.load_left(climb, steps);
@@ -35,6 +36,8 @@ pub fn refresh<F: Fold, L: Ledger>(words: &Words<F>, climb: &mut Climb<F>, steps
     requires stage { IsFresh climb.old }
     ensures table { KeepsSeat climb.old climb.new }
     ensures rises { Rises climb.old climb.new }
+    ensures made_least { climb.old.made + 4 ≤ climb.new.made }
+    ensures made_most { climb.new.made ≤ climb.old.made + 8 }
     ensures least { steps.old + 4 ≤ steps.new }
     ensures steps { steps.new ≤ steps.old + 8 }
 {

@@ -101,6 +101,7 @@ post_added tree value old mid new kept spare posted risen =
         plan = (risen.0.1 ∙ kept.1) i;
         track = track_is i;
         spare = (risen.0.2 ∙ spare) i;
+        made = new.made;
       },
     )
 
@@ -115,9 +116,9 @@ read_is_idle tree stamp value old new kept read = (
 )
 
 pub read_added : (tree stamp value : ℕ) (old new : Standing) → KeepsTable old new
-    → new.spare ≡ old.spare - 1 → HasRead tree stamp value old new
+    → new.spare ≡ old.spare - 1 → new.made ≡ suc old.made → HasRead tree stamp value old new
     → pass_of new ≡ with_call (Read tree stamp value) (pass_of old)
-read_added tree stamp value old new kept spare read =
+read_added tree stamp value old new kept spare made read =
     let own : track_of old.view ≡ read.0 = ap track_of read.1 in
     let track_is : track_of new.view ≡ called (track_of old.view) (Read tree stamp value) =
     ap track_of read.2 ∙ ap (λ (t : Track). called t (Read tree stamp value)) (sym own) in
@@ -126,6 +127,7 @@ read_added tree stamp value old new kept spare read =
       plan = kept.1 i;
       track = track_is i;
       spare = spare i;
+      made = made i;
     }
 
 pub read_is_latest : (tree stamp : ℕ) (old : Standing) → IsLatestRead tree stamp old

@@ -13,13 +13,14 @@ use Rattle.node_rule.specs.declared.view.Plan.{Plan}
 use Rattle.node_rule.specs.Views.{called, new_track}
 use Rattle.node_rule.specs.Standing.{Forested, Standing}
 
--- the table of the pass's forest and its plan, what the session did, and for how many calls there is
--- room
+-- the table of the pass's forest and its plan, what the session did, for how many calls there is room,
+-- and how many steps the session made on the table's words
 pub record PassValue : Type 0 where
   pub table : TableId
   pub plan : Plan
   pub track : Track
   pub spare : ℕ
+  pub made : ℕ
 
 -- what the session of a view did
 abbrev pub track_of : View → Track
@@ -29,7 +30,13 @@ track_of Spent = new_track 0
 
 -- the pass with this climb
 abbrev pub pass_of : Standing → PassValue
-pass_of c = record { table = c.table; plan = c.plan; track = track_of c.view; spare = c.spare }
+pass_of c = record {
+  table = c.table;
+  plan = c.plan;
+  track = track_of c.view;
+  spare = c.spare;
+  made = c.made;
+}
 
 -- the keeper has given so many numbers, and no session is back
 abbrev pub IsDealtUpTo : ℕ → Standing → Type 0
@@ -48,10 +55,15 @@ abbrev pub IsSamePass : PassValue → PassValue → Type 0
 IsSamePass old new =
     (new.table ≡ old.table) × (new.plan ≡ old.plan) × (new.track.number ≡ old.track.number)
 
--- a pass that has made no call
+-- a pass that has made no call and no step
 abbrev pub new_pass : Forested → ℕ → PassValue
-new_pass forest number =
-    record { table = forest.table; plan = forest.plan; track = new_track number; spare = 0 }
+new_pass forest number = record {
+  table = forest.table;
+  plan = forest.plan;
+  track = new_track number;
+  spare = 0;
+  made = 0;
+}
 
 -- the first passes, by number
 abbrev pub new_passes : Forested → ℕ → List PassValue
@@ -62,20 +74,25 @@ new_passes forest (suc n) = new_passes forest n ++ new_pass forest n ∷ []
 abbrev pub KeepsPass : PassValue → PassValue → Type 0
 KeepsPass old new = new ≡ record old { spare = new.spare }
 
--- the pass with one call more, and room for one fewer
+-- the pass with one call more, room for one fewer, and one step more
 abbrev pub with_call : Call → PassValue → PassValue
-with_call call pass = record pass { track = called pass.track call; spare = pass.spare - 1 }
+with_call call pass = record pass {
+  track = called pass.track call;
+  spare = pass.spare - 1;
+  made = suc pass.made;
+}
 
 -- the track with more installs
 abbrev pub with_installs : List Install → Track → Track
 with_installs more track = record track { trail = track.trail ++ more }
 
--- the pass with one post more, which won at most one exchange a level
+-- the pass with one post more, which won at most one exchange a level, whatever steps it made
 abbrev pub HasPostAdded : ℕ → ℕ → PassValue → PassValue → Type 0
 HasPostAdded tree value old new =
     (more : List Install) × (length more ≤ old.plan.levels)
     × (new ≡ record (with_call (Post tree value) old) {
       track = with_installs more (called old.track (Post tree value));
+      made = new.made;
     })
 
 -- no earlier read of this root by the pass has a later stamp

@@ -68,6 +68,8 @@ impl<F: Fold> Forest<F> {
         requires spare { 1 ≤ pass.old.spare }
         requires capped { value ≤ F.CAP }
         ensures added { HasPostAdded tree value pass.old pass.new }
+        ensures made_least { pass.old.made + 1 ≤ pass.new.made }
+        ensures made_most { pass.new.made ≤ pass.old.made + (8 * pass.old.plan.levels + 1) }
         ensures least { steps.old + 1 ≤ steps.new }
         ensures most { steps.new ≤ steps.old + (8 * pass.old.plan.levels + 1) }
     {

@@ -18,6 +18,8 @@ pub(crate) fn rise_up<F: Fold, L: Ledger>(
     requires table { IsOf words.now climb.old }
     requires begun { IsBegun climb.old }
     ensures risen { HasRisen climb.old climb.new }
+    ensures made { climb.old.made ≤ climb.new.made }
+    ensures made_most { climb.new.made ≤ climb.old.made + 8 * climb.old.plan.levels }
     ensures steps { steps.old ≤ steps.new }
     ensures most { steps.new ≤ steps.old + 8 * climb.old.plan.levels }
 {

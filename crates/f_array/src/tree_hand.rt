@@ -1,6 +1,8 @@
 //! A session's hand on a forest.
-ghost use Rattle.std.specs.Prelude.{◌≡◌, ℕ, ◌+◌, ◌≤◌, ◌<◌};
-ghost use Rattle.risk_board.specs.declared.hand.Call.TheVariants.{Read};
+ghost use Rattle.std.specs.Prelude.{◌≡◌, ℕ, ◌+◌, ◌*◌, ◌≤◌, ◌<◌};
+ghost use Rattle.risk_board.specs.declared.hand.Call.TheVariants.{Post, Read};
+ghost use Rattle.risk_board.specs.Calls.{post_count};
+ghost use Rattle.risk_board.specs.Hands.{with_call as with_hand_call};
 ghost use Rattle.node_rule.specs.Sums.{posts_in};
 ghost use Rattle.f_array.specs.Passes.{IsPassOf, IsSamePass, HasPostAdded, with_call};
 ghost use Rattle.f_array.specs.Handed.{hand_of, same_pass_itself, same_pass_next, same_pass_keeps};
@@ -14,7 +16,7 @@ use std::marker::{Brand, Model};
 use std::sync::ledger::{Blank, Ledger};
 
 /// The hand over a forest: a pass, with a reference to its forest. Contracts see the forest's table
-/// and plan, and the pass. Each call makes a counter of its own, and promises no number of steps.
+/// and plan, and the pass. Each call makes a counter of its own; the pass counts its steps.
 #[derive(Drop)]
 pub struct TreeHand<'a, F: Fold> {
     forest: &'a Forest<F>,
@@ -73,11 +75,30 @@ impl<'a, F: Fold> Hand for TreeHand<'a, F> {
         self.pass.reserve(calls)
     }
 
-    fn post(&mut self, tree: u32, value: u64) {
+    // In at most 8 steps a level, and one.
+    fn post(&mut self, tree: u32, value: u64)
+        requires tree { tree < self.old.pass.plan.trees }
+        requires left { post_count tree self.old.pass.track.calls < self.old.pass.plan.quota }
+        requires spare { 1 ≤ self.old.pass.spare }
+        requires capped { value ≤ F.CAP }
+        ensures added { hand_of F.CAP self.new.pass
+            ≡ with_hand_call (Post tree value) (hand_of F.CAP self.old.pass) }
+        ensures origin { IsSamePass self.old.pass self.new.pass }
+        ensures made_most { self.new.pass.made
+            ≤ self.old.pass.made + (8 * self.old.pass.plan.levels + 1) }
+    {
         post_counted::<F, Brand>(self.forest, &mut self.pass, tree, value, Blank::new(1));
     }
 
-    fn read(&mut self, tree: u32) -> Seen {
+    // In one step.
+    fn read(&mut self, tree: u32) -> Seen
+        requires tree { tree < self.old.pass.plan.trees }
+        requires spare { 1 ≤ self.old.pass.spare }
+        ensures added { let call = Read tree result.stamp result.value in
+            hand_of F.CAP self.new.pass ≡ with_hand_call call (hand_of F.CAP self.old.pass) }
+        ensures origin { IsSamePass self.old.pass self.new.pass }
+        ensures one_step { self.new.pass.made ≡ self.old.pass.made + 1 }
+    {
         read_counted::<F, Brand>(self.forest, &mut self.pass, tree, Blank::new(1))
     }
 
@@ -102,7 +123,8 @@ fn post_counted<F: Fold, L: Ledger>(
     requires spare { 1 ≤ pass.old.spare }
     requires capped { value ≤ F.CAP }
     requires blank { (blank.name ≡ L.name) × (blank.parts ≡ L.parts) × (0 < L.parts) }
-    ensures { HasPostAdded tree value pass.old pass.new }
+    ensures added { HasPostAdded tree value pass.old pass.new }
+    ensures made_most { pass.new.made ≤ pass.old.made + (8 * pass.old.plan.levels + 1) }
 {
     let mut steps = count_steps::<L>(blank);
     forest.post(pass, tree, value, &mut steps);

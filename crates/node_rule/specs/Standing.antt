@@ -28,12 +28,14 @@ pub record Forested : Type 0 where
   pub table : TableId
   pub plan : Plan
 
--- a climb: the table that it is of, the plan, the seat's view, and for how many calls there is room
+-- a climb: the table that it is of, the plan, the seat's view, for how many calls there is room, and
+-- how many steps the seat made on the table's words
 pub record Standing : Type 0 where
   pub table : TableId
   pub plan : Plan
   pub view : View
   pub spare : ℕ
+  pub made : ℕ
 
 -- the plan of so many sessions and posts over trees of this shape
 abbrev pub plan_of : ℕ → ℕ → ℕ → ℕ → Plan
@@ -151,6 +153,7 @@ abbrev pub IsDealt : Standing → Standing → Type 0
 IsDealt keeper made =
     (made.table ≡ keeper.table) × (made.plan ≡ keeper.plan)
     × (made.view ≡ session_after_split keeper.view) × (made.spare ≡ 0)
+    × (made.made ≡ 0)
 
 -- the calls and the installs of a session between two posts
 abbrev pub AreListsOf : Standing → List Call → List Install → Type 0

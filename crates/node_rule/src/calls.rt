@@ -51,6 +51,7 @@ impl<F: Fold> Words<F> {
         ensures table { KeepsTable climb.old climb.new }
         ensures spare { climb.new.spare ≡ climb.old.spare - 1 }
         ensures view { HasPosted tree value climb.old climb.new }
+        ensures counted { climb.new.made ≡ climb.old.made + 1 }
         ensures one_step { steps.new ≡ steps.old + 1 }
     {
         let posts = climb.counts[tree as usize];
@@ -58,8 +59,8 @@ impl<F: Fold> Words<F> {
         let shape = shape_of(&self.plan);
         let leaf = shape.leaf(climb.number);
         let place = shape.path(tree, leaf);
-        store::<(), View, Plan, NodeRule<F>, StoreLeaf, L>(
-            &self.table.shared,
+        store::<View, Plan, NodeRule<F>, StoreLeaf, L>(
+            &self.table,
             &mut climb.seat,
             place,
             word,
@@ -87,11 +88,12 @@ impl<F: Fold> Words<F> {
         ensures spare { climb.new.spare ≡ climb.old.spare - 1 }
         ensures view { HasRead tree result.stamp result.value climb.old climb.new }
         ensures latest { IsLatestRead tree result.stamp climb.old }
+        ensures counted { climb.new.made ≡ climb.old.made + 1 }
         ensures one_step { steps.new ≡ steps.old + 1 }
     {
         let place = shape_of(&self.plan).root(tree);
-        let word = load::<(), View, Plan, NodeRule<F>, ReadRoot, L>(
-            &self.table.shared,
+        let word = load::<View, Plan, NodeRule<F>, ReadRoot, L>(
+            &self.table,
             &mut climb.seat,
             place,
             steps,

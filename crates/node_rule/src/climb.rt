@@ -5,17 +5,17 @@ ghost use Rattle.node_rule.specs.Own.{IsSession, number_in, posts_by, node_in, I
 ghost use Rattle.node_rule.specs.Standing.{KeepsTable};
 
 use crate::view::{Ascent, Install, Plan, View};
-use atomic_table::Seat;
 use fold_law::{Fold, Memory};
 use risk_board::Call;
+use stamp_word::CountedSeat;
 use std::marker::{Model, PhantomData};
 
 /// A session's seat, with its lists of calls and installs, or the keeper's seat. Contracts see the
-/// table and its plan, the seat's view, and for how many more calls there is room. A number counts
-/// from 0.
+/// table and its plan, the seat's view, for how many more calls there is room, and how many steps the
+/// seat made on the table's words. A number counts from 0.
 #[derive(Drop)]
 pub struct Climb<F: Fold> {
-    pub(crate) seat: Seat<(), View>,
+    pub(crate) seat: CountedSeat<View>,
     pub(crate) plan: Plan,
     pub(crate) keeps: bool,
     pub(crate) number: u32,
@@ -38,6 +38,7 @@ impl<F: Fold> Model for Climb<F> {
       plan = c.plan;
       view = c.seat.me.0;
       spare = c.spare;
+      made = c.seat.made;
     } };
 
     ghost invariant = { λ c.
@@ -112,6 +113,7 @@ impl<F: Fold> Climb<F> {
         ensures table { KeepsTable self.old self.new }
         ensures view { self.new.view ≡ self.old.view }
         ensures spare { self.old.spare ≤ self.new.spare }
+        ensures made { self.new.made ≡ self.old.made }
         ensures err { OnErr result (self.new ≡ self.old) }
     {
         if self.spare >= calls {

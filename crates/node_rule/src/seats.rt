@@ -11,10 +11,9 @@ use crate::climb::Climb;
 use crate::rule::{Deal, NodeRule, Take};
 use crate::view::{Install, Plan, View};
 use crate::words::Words;
-use atomic_table::Table;
 use fold_law::{Fold, Memory};
 use risk_board::Call;
-use stamp_word::Shape;
+use stamp_word::{CountedTable, Shape};
 use std::alloc::Global;
 use std::marker::PhantomData;
 
@@ -44,7 +43,7 @@ impl<F: Fold> Words<F> {
         let Ok(words) = (vec![in alloc; F::UNIT; width]) else {
             return Err(Memory);
         };
-        let Ok((table, seat)) = Table::<(), View, Plan, NodeRule<F>, Global>::of_words(
+        let Ok((table, seat)) = CountedTable::<View, Plan, NodeRule<F>>::of_words(
             alloc,
             words.as_slice(),
             &plan,
@@ -79,7 +78,7 @@ impl<F: Fold> Words<F> {
             return Err(Memory);
         };
         let number = keeper.number;
-        let seat = self.table.shared.split_seat::<Deal>(&mut keeper.seat);
+        let seat = self.table.split_seat::<Deal>(&mut keeper.seat);
         keeper.number = number + 1;
         Ok(Climb {
             seat,
@@ -118,7 +117,7 @@ impl<F: Fold> Words<F> {
             spare: _,
             fold: _,
         } = done;
-        self.table.shared.join_seat::<Take>(&mut keeper.seat, seat);
+        self.table.join_seat::<Take>(&mut keeper.seat, seat);
         (calls, trail)
     }
 }

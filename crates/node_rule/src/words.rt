@@ -13,9 +13,8 @@ use crate::climb::Climb;
 use crate::rule::{Exchange, LoadLeft, LoadParent, LoadRight, NodeRule};
 use crate::tries::{after_lost, full_word, install, risen_to, try_held};
 use crate::view::{Ascent, Plan, Stage, Try, View};
-use atomic_table::Table;
 use fold_law::Fold;
-use stamp_word::{Shape, Steps, exchange_if, load, stamp_of};
+use stamp_word::{CountedTable, Shape, Steps, exchange_if, load, stamp_of};
 use std::alloc::Global;
 use std::marker::Model;
 use std::sync::ledger::Ledger;
@@ -23,7 +22,7 @@ use std::sync::ledger::Ledger;
 /// The words of the trees, under the running rule. Contracts see the table and its plan.
 #[derive(Drop)]
 pub struct Words<F: Fold> {
-    pub(crate) table: Table<(), View, Plan, NodeRule<F>, Global>,
+    pub(crate) table: CountedTable<View, Plan, NodeRule<F>>,
     pub(crate) plan: Plan,
     pub(crate) alloc: Global,
 }
@@ -35,11 +34,11 @@ impl<F: Fold> Model for Words<F> {
 
     ghost Value = { Forested };
 
-    ghost view = { λ w. record { table = w.table.shared.table_id; plan = w.plan } };
+    ghost view = { λ w. record { table = w.table.table_id; plan = w.plan } };
 
-    ghost invariant = { λ w. IsPlan w.plan × (w.table.shared.key ≡ w.plan)
-        × (w.table.shared.table_id.slots ≡ 0)
-        × (w.table.shared.table_id.words ≡ w.plan.trees * (2 * 2 ^ w.plan.levels)) };
+    ghost invariant = { λ w. IsPlan w.plan × (w.table.key ≡ w.plan)
+        × (w.table.table_id.slots ≡ 0)
+        × (w.table.table_id.words ≡ w.plan.trees * (2 * 2 ^ w.plan.levels)) };
 }
 
 impl<F: Fold> Words<F> {
@@ -57,14 +56,15 @@ impl<F: Fold> Words<F> {
         requires stage { IsFresh climb.old }
         ensures table { KeepsSeat climb.old climb.new }
         ensures view { HasLoaded first_stage climb.old climb.new }
+        ensures counted { climb.new.made ≡ climb.old.made + 1 }
         ensures one_step { steps.new ≡ steps.old + 1 }
     {
         let Some(x) = climb.ascent else {
             unreachable!()
         };
         let place = shape_of(&self.plan).path(x.tree, x.node / 2);
-        let word = load::<(), View, Plan, NodeRule<F>, LoadParent, L>(
-            &self.table.shared,
+        let word = load::<View, Plan, NodeRule<F>, LoadParent, L>(
+            &self.table,
             &mut climb.seat,
             place,
             steps,
@@ -80,14 +80,15 @@ impl<F: Fold> Words<F> {
         requires stage { HasLostOnce climb.old }
         ensures table { KeepsSeat climb.old climb.new }
         ensures view { HasLoaded first_stage climb.old climb.new }
+        ensures counted { climb.new.made ≡ climb.old.made + 1 }
         ensures one_step { steps.new ≡ steps.old + 1 }
     {
         let Some(x) = climb.ascent else {
             unreachable!()
         };
         let place = shape_of(&self.plan).path(x.tree, x.node / 2);
-        let word = load::<(), View, Plan, NodeRule<F>, LoadParent, L>(
-            &self.table.shared,
+        let word = load::<View, Plan, NodeRule<F>, LoadParent, L>(
+            &self.table,
             &mut climb.seat,
             place,
             steps,
@@ -103,14 +104,15 @@ impl<F: Fold> Words<F> {
         requires stage { HasTry climb.old }
         ensures table { KeepsSeat climb.old climb.new }
         ensures view { HasLoaded left_stage climb.old climb.new }
+        ensures counted { climb.new.made ≡ climb.old.made + 1 }
         ensures one_step { steps.new ≡ steps.old + 1 }
     {
         let Some(x) = climb.ascent else {
             unreachable!()
         };
         let place = shape_of(&self.plan).path(x.tree, 2 * (x.node / 2));
-        let word = load::<(), View, Plan, NodeRule<F>, LoadLeft<F>, L>(
-            &self.table.shared,
+        let word = load::<View, Plan, NodeRule<F>, LoadLeft<F>, L>(
+            &self.table,
             &mut climb.seat,
             place,
             steps,
@@ -126,14 +128,15 @@ impl<F: Fold> Words<F> {
         requires stage { HasTry climb.old }
         ensures table { KeepsSeat climb.old climb.new }
         ensures view { HasLoaded right_stage climb.old climb.new }
+        ensures counted { climb.new.made ≡ climb.old.made + 1 }
         ensures one_step { steps.new ≡ steps.old + 1 }
     {
         let Some(x) = climb.ascent else {
             unreachable!()
         };
         let place = shape_of(&self.plan).path(x.tree, 2 * (x.node / 2) + 1);
-        let word = load::<(), View, Plan, NodeRule<F>, LoadRight<F>, L>(
-            &self.table.shared,
+        let word = load::<View, Plan, NodeRule<F>, LoadRight<F>, L>(
+            &self.table,
             &mut climb.seat,
             place,
             steps,
@@ -151,6 +154,7 @@ impl<F: Fold> Words<F> {
         ensures table { KeepsSeat climb.old climb.new }
         ensures won { OnTrue result (climb.new.view ≡ after_win climb.old.view) }
         ensures lost { OnFalse result (HasLost climb.old climb.new) }
+        ensures counted { climb.new.made ≡ climb.old.made + 1 }
         ensures one_step { steps.new ≡ steps.old + 1 }
     {
         let Some(x) = climb.ascent else {
@@ -161,8 +165,8 @@ impl<F: Fold> Words<F> {
         };
         let word = full_word::<F>(&tried, &x);
         let place = shape_of(&self.plan).path(x.tree, x.node / 2);
-        match exchange_if::<(), View, Plan, NodeRule<F>, Exchange, L>(
-            &self.table.shared,
+        match exchange_if::<View, Plan, NodeRule<F>, Exchange, L>(
+            &self.table,
             &mut climb.seat,
             place,
             tried.parent,

@@ -1,3 +1,4 @@
 pub mod Word
 pub mod Places
 pub mod Stepping
+pub mod Counting

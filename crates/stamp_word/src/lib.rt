@@ -7,12 +7,14 @@
 //! Nothing here says what a stamp or a value means, and no call takes memory or waits.
 #![tactic(auto)]
 
+mod counted;
 mod limits;
 mod shape;
 mod step;
 mod steps;
 mod word;
 
+pub use counted::{CountedSeat, CountedTable};
 pub use limits::{LEVELS, TREES};
 pub use shape::Shape;
 pub use step::{exchange_if, load, store};

@@ -12,14 +12,15 @@ ghost use Rattle.stamp_word.specs.Stepping.{
   MayExchange,
 };
 
+use crate::counted::{CountedSeat, CountedTable, Once};
 use crate::steps::Steps;
-use atomic_table::{Play, Seat, Shared, TableRule};
+use atomic_table::{Play, TableRule};
 use std::sync::ledger::Ledger;
 
 /// The word at a place, by one load.
-pub fn load<S, V, K, R: TableRule<S, V, K>, M: Play<S, V>, L: Ledger>(
-    table: &Shared<S, V, K, R>,
-    seat: &mut Seat<S, V>,
+pub fn load<V, K, R: TableRule<(), V, K>, M: Play<(), V>, L: Ledger>(
+    table: &CountedTable<V, K, R>,
+    seat: &mut CountedSeat<V>,
     place: u32,
     steps: &mut Steps<L>,
 ) -> u64
@@ -30,16 +31,20 @@ pub fn load<S, V, K, R: TableRule<S, V, K>, M: Play<S, V>, L: Ledger>(
     ensures seat { (seat.new.table_id ≡ seat.old.table_id) × (seat.new.id ≡ seat.old.id) }
     ensures told { let step = loading table.now.table_id.slots place in
         M.then step seat.old.me result seat.new.me }
+    ensures counted { seat.new.made ≡ seat.old.made + 1 }
     ensures one_step { steps.new ≡ steps.old + 1 }
 {
     steps.tick();
-    table.load::<M>(seat, place as usize)
+    table
+        .table
+        .shared
+        .load::<Once<M>>(&mut seat.seat, place as usize)
 }
 
 /// Sets the word at a place, by one store.
-pub fn store<S, V, K, R: TableRule<S, V, K>, M: Play<S, V>, L: Ledger>(
-    table: &Shared<S, V, K, R>,
-    seat: &mut Seat<S, V>,
+pub fn store<V, K, R: TableRule<(), V, K>, M: Play<(), V>, L: Ledger>(
+    table: &CountedTable<V, K, R>,
+    seat: &mut CountedSeat<V>,
     place: u32,
     word: u64,
     steps: &mut Steps<L>,
@@ -51,17 +56,21 @@ pub fn store<S, V, K, R: TableRule<S, V, K>, M: Play<S, V>, L: Ledger>(
     ensures seat { (seat.new.table_id ≡ seat.old.table_id) × (seat.new.id ≡ seat.old.id) }
     ensures told { let step = storing table.now.table_id.slots place word in
         M.then step seat.old.me word seat.new.me }
+    ensures counted { seat.new.made ≡ seat.old.made + 1 }
     ensures one_step { steps.new ≡ steps.old + 1 }
 {
     steps.tick();
-    table.store::<M>(seat, place as usize, word);
+    table
+        .table
+        .shared
+        .store::<Once<M>>(&mut seat.seat, place as usize, word);
 }
 
 /// Sets the word at a place to `new` exactly where it is `old`, by one exchange; else gives the
 /// word that it found.
-pub fn exchange_if<S, V, K, R: TableRule<S, V, K>, M: Play<S, V>, L: Ledger>(
-    table: &Shared<S, V, K, R>,
-    seat: &mut Seat<S, V>,
+pub fn exchange_if<V, K, R: TableRule<(), V, K>, M: Play<(), V>, L: Ledger>(
+    table: &CountedTable<V, K, R>,
+    seat: &mut CountedSeat<V>,
     place: u32,
     old: u64,
     new: u64,
@@ -76,9 +85,13 @@ pub fn exchange_if<S, V, K, R: TableRule<S, V, K>, M: Play<S, V>, L: Ledger>(
         MatchResult result
         (λ _. M.then step seat.old.me old seat.new.me)
         (λ found. (found ≢ old) × M.then step seat.old.me found seat.new.me) }
+    ensures counted { seat.new.made ≡ seat.old.made + 1 }
     ensures one_step { steps.new ≡ steps.old + 1 }
 {
     steps.tick();
-    let found = table.compare_exchange::<M>(seat, place as usize, old, new);
+    let found = table
+        .table
+        .shared
+        .compare_exchange::<Once<M>>(&mut seat.seat, place as usize, old, new);
     if found == old { Ok(()) } else { Err(found) }
 }

@@ -13,6 +13,8 @@ loop-init g c =
       omega arith,
       omega arith,
       omega arith,
+      omega arith,
+      omega arith,
     )
 
 pub loop-preserved : goal.loop-preserved
@@ -21,12 +23,18 @@ loop-preserved g c =
     let one_more : suc c.loop.counter ≡ c.loop.counter + 1 = omega arith in
     let steps = c.refresh.ensures.steps in
     let few = c.loop.invariant.2 in
-    let most = c.loop.invariant.3 in (
+    let most = c.loop.invariant.3 in
+    let made_few = c.loop.invariant.4 in
+    let made_most = c.loop.invariant.5 in
+    let made_least = c.refresh.ensures.made_least in
+    let made_more = c.refresh.ensures.made_most in (
       (kept.0 ∙ c.loop.invariant.0.0, kept.1 ∙ c.loop.invariant.0.1),
       subst (λ (n : ℕ). IsUp c.args.climb.now n c.refresh.new.climb) one_more
           (up_next c.args.climb.now c.loop.climb c.refresh.new.climb c.loop.counter
           c.loop.invariant.1 c.node.ensures.below kept c.refresh.ensures.rises),
       omega arith,
       omega arith,
-      c.loop.invariant.4,
+      omega arith,
+      omega arith,
+      c.loop.invariant.6,
     )

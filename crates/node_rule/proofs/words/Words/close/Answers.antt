@@ -14,7 +14,7 @@ returns g c =
     let joined = c.requires.joined in
     let seen = ap (λ s. s.view) c.keeper.view_is ∙ joined.2 in
     let final = c.close_with-closed.ensures.values.2 in
-    let kept = close_kept c.self.inside.table.shared.key c.args.self.plan g.F.Fold.UNIT g.F.Fold.CAP
+    let kept = close_kept c.self.inside.table.key c.args.self.plan g.F.Fold.UNIT g.F.Fold.CAP
     g.F.Fold.join (c.self.invariant.1
     ∙ ap (λ s. s.plan) c.self.view_is) c.keeper.inside.seat.id c.keeper.inside.seat.me.0
     (slots_items c.close_with-closed.result.words)

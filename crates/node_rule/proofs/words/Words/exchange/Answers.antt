@@ -37,7 +37,7 @@ exchange_if-requires-clause-place g c =
     let same : c.climb.inside.plan ≡ c.self.inside.plan = ap (λ s. s.plan) c.climb.view_is
     ∙ (c.requires.table.1 ∙ sym (ap (λ s. s.plan) c.self.view_is)) in
     parent_place_in c.self.inside.plan c.climb.inside.plan c.in-Some.x same stands
-    c.shape_of.result.levels c.path-place.result c.self.inside.table.shared.table_id.words
+    c.shape_of.result.levels c.path-place.result c.self.inside.table.table_id.words
     c.shape_of.ensures.0 c.path-place.ensures c.self.invariant.3
 
 pub exchange_if-requires-clause-allowed : goal.exchange_if-requires-clause-allowed
@@ -63,10 +63,10 @@ exchange_if-requires-clause-allowed g c =
     let is_full : tried ≡ record { parent = full.0; left = Some full.1; right = Some full.2 } =
     cc (whole) in
     let parent_is : tried.parent ≡ full.0 = ap (λ (h : Try). h.parent) is_full in
-    let key : c.self.inside.table.shared.key ≡ c.self.inside.plan = c.self.invariant.1 in
+    let key : c.self.inside.table.key ≡ c.self.inside.plan = c.self.invariant.1 in
     exchange_allowed g.F.Fold.UNIT g.F.Fold.CAP g.F.Fold.join g.F.Fold.le g.F.Fold.under
-    g.met.F.Fold.laws c.self.inside.table.shared.table_id.slots c.climb.inside.seat.id
-    c.climb.inside.seat.me c.self.inside.table.shared.key c.self.inside.plan key
+    g.met.F.Fold.laws c.self.inside.table.table_id.slots c.climb.inside.seat.id
+    c.climb.inside.seat.me c.self.inside.table.key c.self.inside.plan key
     c.args.climb.now.plan.levels track x c.in-Some.x full.0 full.1 full.2 tried.parent
     c.full_word-word.result seen held full.3 parent_is
     (c.full_word-word.ensures.stamp ∙ ap (λ (n : ℕ). suc (stamp_in n)) parent_is)

@@ -32,7 +32,7 @@ load-word-requires-clause-place g c =
     let same : c.climb.inside.plan ≡ c.self.inside.plan = ap (λ s. s.plan) c.climb.view_is
     ∙ (c.requires.table.1 ∙ sym (ap (λ s. s.plan) c.self.view_is)) in
     parent_place_in c.self.inside.plan c.climb.inside.plan c.in-Some.x same stands
-    c.shape_of.result.levels c.path-place.result c.self.inside.table.shared.table_id.words
+    c.shape_of.result.levels c.path-place.result c.self.inside.table.table_id.words
     c.shape_of.ensures.0 c.path-place.ensures c.self.invariant.3
 
 pub load-word-requires-clause-allowed : goal.load-word-requires-clause-allowed
@@ -46,9 +46,9 @@ load-word-requires-clause-allowed g c =
     c.climb.inside.calls.items c.climb.inside.trail.items c.climb.inside.ascent
     c.climb.inside.seat.me.0 c.climb.invariant.0 _ _
     (staged x Fresh) c.in-Some.x seen c.in-Some.is in
-    let key : c.self.inside.table.shared.key ≡ c.self.inside.plan = c.self.invariant.1 in
+    let key : c.self.inside.table.key ≡ c.self.inside.plan = c.self.invariant.1 in
     first_load_allowed g.F.Fold.UNIT g.F.Fold.CAP g.F.Fold.join g.F.Fold.le g.F.Fold.under
-    g.met.F.Fold.laws c.self.inside.table.shared.table_id.slots c.climb.inside.seat.id
-    c.climb.inside.seat.me c.self.inside.table.shared.key c.self.inside.plan key
+    g.met.F.Fold.laws c.self.inside.table.table_id.slots c.climb.inside.seat.id
+    c.climb.inside.seat.me c.self.inside.table.key c.self.inside.plan key
     _ _ x c.in-Some.x seen held c.path-place.result (c.path-place.ensures
     ∙ ap (λ (n : ℕ). place_of n c.in-Some.x.tree (c.in-Some.x.node / 2)) c.shape_of.ensures.0)

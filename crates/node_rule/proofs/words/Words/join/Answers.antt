@@ -15,10 +15,10 @@ join_seat-requires g c =
       ap (λ s. s.table) c.done.view_is ∙ (c.requires.done.0
           ∙ sym (ap (λ s. s.table) c.self.view_is)),
       c.done.invariant.1,
-      some_words c.self.inside.plan c.self.inside.table.shared.table_id.words
+      some_words c.self.inside.plan c.self.inside.table.table_id.words
           (subst IsPlan same c.keeper.invariant.0.planned) c.self.invariant.3,
       join_allowed g.F.Fold.UNIT g.F.Fold.CAP g.F.Fold.join g.F.Fold.le g.F.Fold.under
-          g.met.F.Fold.laws c.keeper.inside.seat.id c.self.inside.table.shared.key
+          g.met.F.Fold.laws c.keeper.inside.seat.id c.self.inside.table.key
           c.self.inside.plan c.self.invariant.1 c.keeper.inside.seat.me.0 c.done.inside.seat.me.0
           c.done.inside.seat.id _ _ _ _ _ seen idle,
     )

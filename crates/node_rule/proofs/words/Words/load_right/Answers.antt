@@ -31,7 +31,7 @@ load-word-requires-clause-place g c =
     ∙ (c.requires.table.1 ∙ sym (ap (λ s. s.plan) c.self.view_is)) in
     node_place_in c.self.inside.plan c.climb.inside.plan c.in-Some.x same stands
     (2 * (c.in-Some.x.node / 2) + 1) c.shape_of.result.levels c.path-place.result
-    c.self.inside.table.shared.table_id.words
+    c.self.inside.table.table_id.words
     (omega arith) c.shape_of.ensures.0 c.path-place.ensures c.self.invariant.3
 
 pub load-word-requires-clause-allowed : goal.load-word-requires-clause-allowed
@@ -44,10 +44,10 @@ load-word-requires-clause-allowed g c =
     let held = held_is g.F.Fold.under c.climb.inside.keeps c.climb.inside.plan c.climb.inside.number
     c.climb.inside.calls.items c.climb.inside.trail.items c.climb.inside.ascent
     c.climb.inside.seat.me.0 c.climb.invariant.0 _ _ x c.in-Some.x seen c.in-Some.is in
-    let key : c.self.inside.table.shared.key ≡ c.self.inside.plan = c.self.invariant.1 in
+    let key : c.self.inside.table.key ≡ c.self.inside.plan = c.self.invariant.1 in
     right_allowed g.F.Fold.UNIT g.F.Fold.CAP g.F.Fold.join g.F.Fold.le g.F.Fold.under
-    g.met.F.Fold.laws c.self.inside.table.shared.table_id.slots c.climb.inside.seat.id
-    c.climb.inside.seat.me c.self.inside.table.shared.key c.self.inside.plan key
+    g.met.F.Fold.laws c.self.inside.table.table_id.slots c.climb.inside.seat.id
+    c.climb.inside.seat.me c.self.inside.table.key c.self.inside.plan key
     _ _ x c.in-Some.x c.requires.stage.2.0 seen held c.requires.stage.2.1 c.path-place.result
     (c.path-place.ensures ∙ ap (λ (n : ℕ). place_of n c.in-Some.x.tree
     (2 * (c.in-Some.x.node / 2) + 1)) c.shape_of.ensures.0)

@@ -22,8 +22,8 @@ load-word-requires-clause-allowed g c =
     subst (λ (p : Plan). c.args.tree < p.trees) (c.requires.table.1
     ∙ sym (ap (λ s. s.plan) c.self.view_is)) c.requires.tree in
     read_allowed g.F.Fold.UNIT g.F.Fold.CAP g.F.Fold.join g.F.Fold.le g.F.Fold.under
-    g.met.F.Fold.laws c.self.inside.table.shared.table_id.slots c.climb.inside.seat.id
-    c.climb.inside.seat.me c.self.inside.table.shared.key c.self.inside.plan c.self.invariant.1
+    g.met.F.Fold.laws c.self.inside.table.table_id.slots c.climb.inside.seat.id
+    c.climb.inside.seat.me c.self.inside.table.key c.self.inside.plan c.self.invariant.1
     c.args.climb.now.plan.levels track c.args.tree c.root-place.result seen tree_in (omega arith)
     (c.root-place.ensures ∙ ap (λ (n : ℕ). place_of n c.args.tree 1) c.shape_of.ensures.0)
 

@@ -15,9 +15,9 @@ split_seat-seat-requires g c =
     (c.requires.table.1 ∙ sym (ap (λ s. s.plan) c.self.view_is)) c.requires.room.3 in (
       ap (λ s. s.table) c.keeper.view_is ∙ (c.requires.table.0
           ∙ sym (ap (λ s. s.table) c.self.view_is)),
-      some_words c.self.inside.plan c.self.inside.table.shared.table_id.words
+      some_words c.self.inside.plan c.self.inside.table.table_id.words
           (subst IsPlan same planned) c.self.invariant.3,
       split_allowed g.F.Fold.UNIT g.F.Fold.CAP g.F.Fold.join g.F.Fold.le g.F.Fold.under
-          g.met.F.Fold.laws c.keeper.inside.seat.id c.self.inside.table.shared.key
+          g.met.F.Fold.laws c.keeper.inside.seat.id c.self.inside.table.key
           c.self.inside.plan c.self.invariant.1 c.keeper.inside.seat.me.0 _ _ _ seen room,
     )

@@ -80,8 +80,8 @@ store-requires-clause-allowed g c =
     subst (λ (p : Plan). posts_in c.args.tree track < p.quota)
     (c.requires.table.1 ∙ sym (ap (λ s. s.plan) c.self.view_is)) c.requires.idle.2 in
     store_allowed g.F.Fold.UNIT g.F.Fold.CAP g.F.Fold.join g.F.Fold.le g.F.Fold.under
-    g.met.F.Fold.laws c.self.inside.table.shared.table_id.slots c.climb.inside.seat.id
-    c.climb.inside.seat.me c.self.inside.table.shared.key c.self.inside.plan c.self.invariant.1
+    g.met.F.Fold.laws c.self.inside.table.table_id.slots c.climb.inside.seat.id
+    c.climb.inside.seat.me c.self.inside.table.key c.self.inside.plan c.self.invariant.1
     c.args.climb.now.plan.levels track c.args.tree c.args.value c.pack-word.result
     c.path-place.result seen tree_in room c.requires.value stamp c.pack-word.ensures.value place
 
