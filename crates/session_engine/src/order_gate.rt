@@ -9,6 +9,7 @@ use fix_orders::{Kind, kind_of, type_text};
 use gate_ports::Gate;
 
 /// What a session calls before each of its orders, and its own number.
+#[derive(Drop)]
 pub(crate) struct OrderGate<'a, G: Gate> {
     pub gate: &'a G,
     /// From 0.
