@@ -12,9 +12,15 @@ mod leaf_tests;
 mod limits;
 mod names;
 mod open;
+#[cfg(test)]
+mod order_rows;
 mod play;
 #[cfg(test)]
-mod run_tests;
+mod request_rows;
+#[cfg(test)]
+mod row_tests;
+#[cfg(test)]
+mod rows;
 #[cfg(test)]
 mod screen_tests;
 mod sets;
@@ -26,7 +32,7 @@ mod test_screens;
 mod tests;
 mod totals;
 #[cfg(test)]
-mod turn_tests;
+mod turn_rows;
 mod words;
 
 pub use command::gate;
