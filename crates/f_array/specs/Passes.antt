@@ -3,7 +3,6 @@ use Rattle.std.specs.Prelude.{◌≡◌, ℕ, zero, suc, ◌-◌, ◌≤◌, Lis
 use mathlib.Core.Option.{some}
 use lib.ListN.{get_elem?}
 use Rattle.atomic_table.specs.Seated.{TableId}
-use Rattle.risk_board.specs.declared.hand.Call.{Call}
 use Rattle.risk_board.specs.declared.hand.Call.TheVariants.{Post, Read}
 use Rattle.node_rule.specs.declared.view.View.{View}
 use Rattle.node_rule.specs.declared.view.View.TheVariants.{Keeper, Session, Spent}

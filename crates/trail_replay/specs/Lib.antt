@@ -4,4 +4,3 @@ pub mod Sums
 pub mod Histories
 pub mod Arrays
 pub mod Reads
-pub mod Installs

@@ -13,16 +13,8 @@
 
 mod array;
 mod blocks;
-#[cfg(test)]
-mod covers;
 mod history;
 mod law;
-#[cfg(test)]
-mod plain_blocks;
-#[cfg(test)]
-mod plain_installs;
-#[cfg(test)]
-mod plain_posts;
 mod posts;
 mod prepared;
 mod reads;
