@@ -15,7 +15,8 @@ Wins old new =
     × (old.view ≡ Session old.plan.levels track (Some x))
     × (new.view ≡ Session old.plan.levels (installed track i) (risen x stamp))
 
--- no install more; after the first try the ascent may try again, after the second it is at the parent
+-- no install more; after the first try the ascent may try again, after the second it is at the
+-- parent
 abbrev pub Loses : Standing → Standing → Type 0
 Loses old new =
     (track : Track) × (x : Ascent) × (found : ℕ)

@@ -12,8 +12,8 @@ use Rattle.node_rule.specs.declared.view.Plan.{Plan}
 use Rattle.node_rule.specs.Views.{called, new_track}
 use Rattle.node_rule.specs.Standing.{Forested, Standing}
 
--- the table of the pass's forest and its plan, what the session did, for how many calls there is room,
--- and how many steps it made on the table's words
+-- the table of the pass's forest and its plan, what the session did, for how many calls there is
+-- room, and how many steps it made on the table's words
 pub record PassValue : Type 0 where
   pub table : TableId
   pub plan : Plan
@@ -77,7 +77,8 @@ KeepsPass old new = new ≡ record old { spare = new.spare }
 abbrev pub with_installs : List Install → Track → Track
 with_installs more track = record track { trail = track.trail ++ more }
 
--- the session has done this, by one call of those for which there was room; its steps are said apart
+-- the session has done this, by one call of those for which there was room; its steps are said
+-- apart
 abbrev pub HasDone : Track → PassValue → PassValue → Type 0
 HasDone track old new =
     new ≡ record old { track = track; spare = old.spare - 1; steps = new.steps }

@@ -61,8 +61,8 @@ impl<F: Fold> Forest<F> {
     /// Sets the session's component of the tree: a store of its leaf, and an ascent to the root. It
     /// takes effect at the won exchange on the root that first covers it, its own or another's.
     ///
-    /// The pass counts its own steps, whatever counter is handed in, so no body of this call waits for
-    /// another session: it could only do so by loading a word again and again.
+    /// The pass counts its own steps, whatever counter is handed in, so no body of this call waits
+    /// for another session: it could only do so by loading a word again and again.
     pub fn post<L: Ledger>(&self, pass: &mut Pass<F>, tree: u32, value: u64, steps: &mut Steps<L>)
         requires forest { IsPassOf self.now pass.old }
         requires tree { tree < pass.old.plan.trees }

@@ -33,7 +33,8 @@ in_a_try Owed v levels track x y seen tried first second = by_stage x.stage refl
         first (seen ∙ (λ i. Session levels track (Some (staged x ((is ∙ ap First same) i)))))
     by_stage (Lost s) is h = absurd (cc)
     by_stage (Second s z) is h = let same : z ≡ y = cc (h) in
-        second s (seen ∙ (λ i. Session levels track (Some (staged x ((is ∙ ap (Second s) same) i)))))
+        second s (seen ∙ (λ i. Session levels track (Some (staged x ((is ∙ ap (Second s) same)
+        i)))))
 
 module _ {unit cap : ℕ} {join : ℕ → ℕ → ℕ} {le : ℕ → ℕ → Bool} {under : ℕ → ℕ → Type 0}
     (laws : FoldLaws unit cap join le under) (slots id : ℕ) (me : Mine) {key plan : Plan}
@@ -112,7 +113,8 @@ module _ {unit cap : ℕ} {join : ℕ → ℕ → ℕ} {le : ℕ → ℕ → Boo
         (in_a_try _ me.0 levels track x _ seen full
         (λ first. allows_exchange_first plan unit cap join le under laws slots id me levels track x
         parent left right new first stamp_is value_is)
-        (λ s second. allows_exchange_second plan unit cap join le under laws slots id me levels track
+        (λ s second. allows_exchange_second plan unit cap join le under laws slots id me levels
+        track
         x s parent left right new second stamp_is value_is))
 
 module _ {unit cap : ℕ} {join : ℕ → ℕ → ℕ} {le : ℕ → ℕ → Bool} {under : ℕ → ℕ → Type 0}

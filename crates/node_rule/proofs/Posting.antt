@@ -79,8 +79,8 @@ index_any (x ∷ xs) zero d h = refl
 index_any (x ∷ xs) (suc i) d h = index_any xs i d (omega arith)
 
 -- what a post of a session of this number knows: its session's leaf with the leaf's place, and how
--- many posts came before. The climb's own plan, its plan as it is seen, with the levels of the view,
--- and that of the words are one
+-- many posts came before. The climb's own plan, its plan as it is seen, with the levels of the
+-- view, and that of the words are one
 pub record IsPosting (own plan : Plan) (levels number tree posts leaf place : ℕ) (counts : List ℕ)
     (track : Track) : Type 0 where
   pub levels_is : levels ≡ plan.levels
@@ -116,7 +116,8 @@ pub posting : {under : ℕ → ℕ → Type 0} {keeps : Bool} {own now plan : Pl
     → place ≡ place_of shape tree leaf
     → IsPosting own plan now.levels number tree posts leaf place counts track
 posting {own = own} {now = now} {plan = plan} {number = number} {calls = calls} {counts = counts}
-    {tree = tree} {track = track} sound counted own_is plan_is tree_now seen room posts read shape leaf
+    {tree = tree} {track = track} sound counted own_is plan_is tree_now seen room posts read shape
+    leaf
     place shape_is leaf_is place_is =
     let seat = idle_seat sound now.levels track seen in
     let levels : now.levels ≡ plan.levels = ap (λ (p : Plan). p.levels) plan_is in

@@ -56,9 +56,9 @@ module _ (plan : Plan) (b : Board) where
     pub below : (tree child stamp : ℕ) → tree < plan.trees → 2 ≤ child → child < 2 * 2 ^ plan.levels
         → stamp ≤ b.stamp tree (child / 2) → b.seen tree child stamp ≤ b.stamp tree child
 
-  -- Of an ascent in this tree at this node, that holds this stamp of it. A loaded word of a child is
-  -- no newer than the child, no older than what the install of the loaded parent stamp read, and at
-  -- the ascent's own node no older than what it holds
+  -- Of an ascent in this tree at this node, that holds this stamp of it. A loaded word of a child
+  -- is no newer than the child, no older than what the install of the loaded parent stamp read, and
+  -- at the ascent's own node no older than what it holds
   pub record IsLoaded (tree node held parent child word : ℕ) : Type 0 where
     pub reached : stamp_in word ≤ b.stamp tree child
     pub newer : b.seen tree child (stamp_in parent) ≤ stamp_in word

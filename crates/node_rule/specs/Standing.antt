@@ -28,8 +28,8 @@ pub record Forested : Type 0 where
   pub table : TableId
   pub plan : Plan
 
--- a climb, which is a seat with its lists: its table, the plan, its view, for how many calls there is
--- room, and how many steps it made on the table's words
+-- a climb, which is a seat with its lists: its table, the plan, its view, for how many calls there
+-- is room, and how many steps it made on the table's words
 pub record Standing : Type 0 where
   pub table : TableId
   pub plan : Plan

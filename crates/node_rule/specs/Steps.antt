@@ -102,7 +102,8 @@ ascent_lost x found (Second s y) = risen x (stamp_in found)
 -- the view after a lost exchange that found this word
 abbrev pub after_loss : ℕ → View → View
 after_loss found (Session levels track None) = Session levels track None
-after_loss found (Session levels track (Some x)) = Session levels track (ascent_lost x found x.stage)
+after_loss found (Session levels track (Some x)) =
+    Session levels track (ascent_lost x found x.stage)
 after_loss found (Keeper levels given joined) = Keeper levels given joined
 after_loss found Spent = Spent
 

@@ -15,8 +15,8 @@ use Rattle.node_rule.specs.StampPart.{IsStamped}
 
 -- of a value for each tree, height, node and stamp
 module _ (plan : Plan) (cap : ℕ) (value : ℕ → ℕ → ℕ → ℕ → ℕ) where
-  -- of an ascent in this tree, at this height and node: each loaded word has the value of its node at
-  -- its stamp
+  -- of an ascent in this tree, at this height and node: each loaded word has the value of its node
+  -- at its stamp
   pub record HasValues (tree height node : ℕ) (y : Try) : Type 0 where
     pub parent : value_in y.parent ≡ value tree (suc height) (node / 2) (stamp_in y.parent)
     pub left : IfSome y.left (λ word. value_in word ≡ value tree height (2 * (node / 2))

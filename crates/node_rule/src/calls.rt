@@ -34,8 +34,8 @@ fn started_at(levels: u32, tree: u32, leaf: u32, stamp: u32) -> Option<Ascent>
 }
 
 impl<F: Fold> Words<F> {
-    /// Stores a post in the session's leaf, which begins its ascent. Where the leaf is the root there
-    /// is none.
+    /// Stores a post in the session's leaf, which begins its ascent. Where the leaf is the root
+    /// there is none.
     pub fn store_leaf<L: Ledger>(
         &self,
         climb: &mut Climb<F>,

@@ -40,8 +40,8 @@ pub enum Stage {
     Second { first: u32, tried: Try },
 }
 
-/// A post on its way to the root of its tree. It stands at a node, so many levels above the leaf, and
-/// the stamp `held` of that node covers the post.
+/// A post on its way to the root of its tree. It stands at a node, so many levels above the leaf,
+/// and the stamp `held` of that node covers the post.
 #[derive(Clone, Copy, Debug, PartialEq, Eq)]
 pub struct Ascent {
     pub tree: u32,

@@ -22,7 +22,8 @@ module _ {V : Type 0} (holds : State (Unit {0}) V → Type 0) where
         due.2,
         subst (λ (views : List V). holds (record {
           words = set s.words place (f (slice_index s.words place));
-          homes = (stepped (uncounted s) place (f (slice_index s.words place)) id me.1 due.0 due.1).homes;
+          homes = (stepped (uncounted s) place (f (slice_index s.words place)) id me.1 due.0
+              due.1).homes;
           views = views;
         })) (sym (map-set (λ v. v.0) s.views id (due.0, suc me.0.1))) due.3,
         (due.4, refl),

@@ -1,4 +1,5 @@
--- Seats that count their steps: beside a view stands a number, which each step of its seat raises by 1.
+-- Seats that count their steps: beside a view stands a number, which each step of its seat raises
+-- by 1.
 use Rattle.std.specs.Prelude.{◌≡◌, ℕ, suc, map}
 use Rattle.atomic_table.specs.Seated.{TableId}
 use Rattle.atomic_table.specs.Table.{State, Me, Step}

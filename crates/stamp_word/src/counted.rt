@@ -1,7 +1,7 @@
-//! Tables whose seats count their own steps. A seat's count lies in its view: it takes no bytes, and
-//! only a step changes it. Neither the table within nor a seat of it is handed out, so outside this
-//! crate nothing loads, stores or exchanges a word but the calls here and in `step`, each of which
-//! counts its step.
+//! Tables whose seats count their own steps. A seat's count lies in its view: it takes no bytes,
+//! and only a step changes it. Neither the table within nor a seat of it is handed out, so outside
+//! this crate nothing loads, stores or exchanges a word but the calls here and in `step`, each of
+//! which counts its step.
 ghost use Rattle.std.specs.Prelude.{◌≡◌, ◌≢◌, ℕ, suc, [], ◌∷◌, ◌+◌, ◌<◌, length, IfOk};
 ghost use Rattle.std.specs.Slots.{slots_items, slots_len, IsFull};
 ghost use Rattle.atomic_table.specs.Table.{State, Splits, Joins, opening, Final, Seen};
@@ -60,8 +60,8 @@ impl<V, M: Join<V>> Join<(V, u64)> for United<M> {
     ghost spent = { (M.spent, 0) };
 }
 
-/// A table of words under a rule, whose seats count their steps. Contracts see which table it is, and
-/// what its rule was told once.
+/// A table of words under a rule, whose seats count their steps. Contracts see which table it is,
+/// and what its rule was told once.
 #[derive(Drop)]
 pub struct CountedTable<V, K, R: TableRule<(), V, K>> {
     pub(crate) table: Table<(), (V, u64), K, Counted<R>, Global>,
@@ -75,8 +75,8 @@ impl<V, K, R: TableRule<(), V, K>> Model for CountedTable<V, K, R> {
     ghost view = { λ t. record { table_id = t.table.shared.table_id; key = t.table.shared.key } };
 }
 
-/// A seat of a table, which counts the steps that it makes on the words. Contracts see its table, its
-/// number, its view and its steps. It takes no bytes.
+/// A seat of a table, which counts the steps that it makes on the words. Contracts see its table,
+/// its number, its view and its steps. It takes no bytes.
 #[derive(Drop)]
 pub struct CountedSeat<V> {
     pub(crate) seat: Seat<(), (V, u64)>,

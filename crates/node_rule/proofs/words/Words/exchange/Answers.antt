@@ -69,7 +69,8 @@ invariant_of-climb g c =
     ap (λ s. s.view) c.climb.view_is ∙ c.requires.stage.1.1 in
     let after = c.in-Ok.ensures.told.0 refl in
     let hand_is = sym c.try_held.ensures ∙ c.in-Some-try_held.is in (
-      won_sound c.climb.invariant.0 c.args.climb.now.plan.levels track x c.in-Some.x seen c.in-Some.is
+      won_sound c.climb.invariant.0 c.args.climb.now.plan.levels track x c.in-Some.x seen
+          c.in-Some.is
           c.in-Some-try_held.tried hand_is c.push_reserved.new.self.items
           (c.push_reserved.ensures.items
           ∙ ap (λ (z : Install). c.climb.inside.trail.items ++ z ∷ []) c.install.ensures)
@@ -77,7 +78,8 @@ invariant_of-climb g c =
           (let e = c.stamp_of.ensures.stamp in omega arith) c.exchange_if.new.seat.me.0
           (ap (λ m. m.0) after),
       ap (λ m. m.1) after ∙ c.climb.invariant.1,
-      won_room c.climb.invariant.0 c.args.climb.now.plan.levels track x c.in-Some.x seen c.in-Some.is
+      won_room c.climb.invariant.0 c.args.climb.now.plan.levels track x c.in-Some.x seen
+          c.in-Some.is
           c.climb.inside.spare _ _ _ _ _ c.risen_to-climb-inside.result
           (c.stamp_of.result + 1) c.risen_to-climb-inside.ensures c.push_reserved.ensures.len
           (subst (λ (n : ℕ). HasRoom c.climb.inside.plan.levels c.climb.inside.spare
@@ -95,11 +97,13 @@ invariant_of-climb-in-Err g c =
     ap (λ s. s.view) c.climb.view_is ∙ c.requires.stage.1.1 in
     let told = c.in-Err.ensures.told in
     let after = told.1.1 told.0 in (
-      lost_sound c.climb.invariant.0 c.args.climb.now.plan.levels track x c.in-Some.x seen c.in-Some.is
+      lost_sound c.climb.invariant.0 c.args.climb.now.plan.levels track x c.in-Some.x seen
+          c.in-Some.is
           c.in-Err.found c.after_lost-climb-inside.result c.after_lost-climb-inside.ensures
           c.exchange_if.new.seat.me.0 (ap (λ m. m.0) after),
       ap (λ m. m.1) after ∙ c.climb.invariant.1,
-      lost_room c.climb.invariant.0 c.args.climb.now.plan.levels track x c.in-Some.x seen c.in-Some.is
+      lost_room c.climb.invariant.0 c.args.climb.now.plan.levels track x c.in-Some.x seen
+          c.in-Some.is
           c.climb.inside.spare _ _ _ _ c.in-Err.found c.after_lost-climb-inside.result
           c.after_lost-climb-inside.ensures c.climb.invariant.2,
       c.climb.invariant.3,

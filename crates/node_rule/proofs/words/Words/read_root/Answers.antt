@@ -22,7 +22,8 @@ load-word-requires-clause-allowed g c =
     subst (λ (p : Plan). c.args.tree < p.trees) (c.requires.table.1
     ∙ sym (ap (λ s. s.plan) c.self.view_is)) c.requires.tree in
     read_allowed g.met.F.Fold.laws c.self.inside.table.table_id.slots c.climb.inside.seat.id
-    c.climb.inside.seat.me c.self.invariant.1 c.args.climb.now.plan.levels track c.args.tree c.root-place.result seen tree_in (omega arith)
+    c.climb.inside.seat.me c.self.invariant.1 c.args.climb.now.plan.levels track c.args.tree
+    c.root-place.result seen tree_in (omega arith)
     (c.root-place.ensures ∙ ap (λ (n : ℕ). place_of n c.args.tree 1) c.shape_of.ensures.0)
 
 pub returns-clause-view : goal.returns-clause-view
@@ -52,7 +53,8 @@ invariant_of-climb g c =
     c.stamp_of.ensures.stamp c.value_of.ensures.value c.load-word.ensures.told.0 in
     let made = c.push_reserved.ensures.items in
     let call : Call = Read c.args.tree c.stamp_of.result c.value_of.result in (
-      called_sound c.climb.invariant.0 c.args.climb.now.plan.levels track seen call c.push_reserved.new.self.items made
+      called_sound c.climb.invariant.0 c.args.climb.now.plan.levels track seen call
+          c.push_reserved.new.self.items made
           c.climb.inside.ascent
           c.climb.invariant.0.on_way c.load-word.new.seat.me.0
           (after ∙ ap (λ (o : Option Ascent). Session c.args.climb.now.plan.levels
