@@ -27,6 +27,10 @@ mod sets;
 mod status;
 mod tell;
 #[cfg(test)]
+mod task_tests;
+#[cfg(test)]
+mod test_gates;
+#[cfg(test)]
 mod test_screens;
 #[cfg(test)]
 mod tests;

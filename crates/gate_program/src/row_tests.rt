@@ -6,23 +6,33 @@ use crate::command::gate;
 use crate::order_rows::ORDERS;
 use crate::request_rows::{FRAMES, REQUESTS};
 use crate::rows::{Row, compare, no_screens, stage_of};
+use crate::test_gates::InTurn;
 use crate::turn_rows::TURNS;
 use std::alloc::Global;
 use std::process::Abort;
 use std::test::*;
+use std::thread::Threads;
 
-/// Runs these rows with no screens, with calls that move at most so many bytes, and compares.
-fn compare_all(rt: &impl Abort, alloc: Global, rows: &[Row], most: usize) -> Result<(), Fail>
+/// Runs these rows with no screens, sessions in turn, and calls that move at most so many bytes,
+/// and compares.
+fn compare_all<R: Threads + Sync + Abort>(
+    rt: &R,
+    alloc: Global,
+    rows: &[Row],
+    most: usize,
+) -> Result<(), Fail>
     requires { 0 < most }
 {
     for row in rows {
         let mut stage = stage_of(alloc, row, most)?;
         let status = gate(
+            rt,
             alloc,
             &stage.words,
             &mut stage.folder,
             &mut stage.out,
             no_screens(alloc)?,
+            &InTurn::by(1),
         );
         compare(rt, alloc, row, &stage, status)?;
     }
@@ -30,7 +40,7 @@ fn compare_all(rt: &impl Abort, alloc: Global, rows: &[Row], most: usize) -> Res
 }
 
 /// Runs each row so, and compares.
-fn compare_tables(rt: &impl Abort, alloc: Global, most: usize) -> Result<(), Fail>
+fn compare_tables<R: Threads + Sync + Abort>(rt: &R, alloc: Global, most: usize) -> Result<(), Fail>
     requires { 0 < most }
 {
     compare_all(rt, alloc, &ORDERS, most)?;

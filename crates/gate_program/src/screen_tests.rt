@@ -4,6 +4,7 @@
 use crate::command::gate;
 use crate::rows::{Piece, Row, Session, compare, no_screens, stage_of};
 use crate::sets::gate_with_screens;
+use crate::test_gates::InTurn;
 use crate::test_screens::FirstTwo;
 use std::sync::Arc;
 use std::sync::atomic::{AtomicU64, Ordering};
@@ -263,7 +264,13 @@ fn the_programs_screens_refuse_repeats_prices_and_sizes(rt: HostRuntime) -> Resu
     let alloc = rt.alloc();
     for row in &OWN {
         let mut stage = stage_of(alloc, row, 65_536)?;
-        let status = gate_with_screens(alloc, &stage.words, &mut stage.folder, &mut stage.out)?;
+        let status = gate_with_screens(
+            &rt,
+            alloc,
+            &stage.words,
+            &mut stage.folder,
+            &mut stage.out,
+        )?;
         compare(&rt, alloc, row, &stage, status)?;
     }
     Ok(())
@@ -283,11 +290,13 @@ fn each_session_takes_its_own_screens_and_all_are_dropped(rt: HostRuntime) -> Re
     }
     let mut stage = stage_of(alloc, &FIRMS, 65_536)?;
     let status = gate(
+        &rt,
         alloc,
         &stage.words,
         &mut stage.folder,
         &mut stage.out,
         screens,
+        &InTurn::by(4),
     );
     compare(&rt, alloc, &FIRMS, &stage, status)?;
     assert_eq!(&rt;

@@ -1,8 +1,8 @@
-//! Runs that stop before a session, and one whose standard output fails: statuses and what is told. No
-//! clause says that memory isn't wanting, nor what a table's row gives.
+//! Runs that stop before a session, and one whose standard output fails: statuses and what is told.
+//! No clause says that memory isn't wanting, nor what a table's row gives.
 use crate::command::gate;
 use crate::rows::{Piece, Row, SMALL, Session, compare, no_screens, stage_of, words_of};
-use gate_ports::{Folder, MemFolder, MemSink};
+use gate_ports::{Folder, MemFolder, MemSink, OpenGate};
 use std::test::*;
 
 const WORDS: [&str; 4] = ["run", "limits", "out", "session"];
@@ -181,7 +181,15 @@ fn a_limit_file_is_taken_refused_or_not_served(rt: HostRuntime) -> Result<(), Fa
         let mut folder = MemFolder::new(alloc, 65536);
         folder.put("limits", Vec::from_slice(alloc, limits)?)?;
         let mut out = MemSink::new(alloc, 65536, Vec::new(alloc));
-        let status = gate(alloc, &words, &mut folder, &mut out, no_screens(alloc)?);
+        let status = gate(
+            &rt,
+            alloc,
+            &words,
+            &mut folder,
+            &mut out,
+            no_screens(alloc)?,
+            &OpenGate,
+        );
         assert_eq!(rt; status, want, "{name}");
         assert_eq!(rt; out.bytes(), told, "{name}");
         assert_eq!(rt; folder.get("out/s00.venue"), None, "{name}");
@@ -201,7 +209,15 @@ fn a_limit_file_has_a_most_length(rt: HostRuntime) -> Result<(), Fail> {
         let mut folder = MemFolder::new(alloc, 65536);
         folder.put("limits", vec![in alloc; b'\n'; length]?)?;
         let mut out = MemSink::new(alloc, 65536, Vec::new(alloc));
-        let status = gate(alloc, &words, &mut folder, &mut out, no_screens(alloc)?);
+        let status = gate(
+            &rt,
+            alloc,
+            &words,
+            &mut folder,
+            &mut out,
+            no_screens(alloc)?,
+            &OpenGate,
+        );
         assert_eq!(rt; status, 3);
         assert_eq!(rt; out.bytes(), told);
     }
@@ -216,7 +232,15 @@ fn stops_before_a_session(rt: HostRuntime) -> Result<(), Fail> {
         folder.put("limits", Vec::from_slice(alloc, limits)?)?;
         let mut out = MemSink::new(alloc, 65536, Vec::new(alloc));
         let words = words_of(alloc, words)?;
-        let status = gate(alloc, &words, &mut folder, &mut out, no_screens(alloc)?);
+        let status = gate(
+            &rt,
+            alloc,
+            &words,
+            &mut folder,
+            &mut out,
+            no_screens(alloc)?,
+            &OpenGate,
+        );
         assert_eq!(rt; status, want, "{name}");
         assert_eq!(rt; out.bytes(), told, "{name}");
         assert_eq!(rt; folder.get("out/journal.csv"), None, "{name}");
@@ -235,7 +259,15 @@ fn a_run_has_at_most_32_sessions(rt: HostRuntime) -> Result<(), Fail> {
         let mut folder = MemFolder::new(alloc, 65536);
         folder.put("limits", Vec::from_slice(alloc, SMALL)?)?;
         let mut out = MemSink::new(alloc, 65536, Vec::new(alloc));
-        let status = gate(alloc, &words, &mut folder, &mut out, no_screens(alloc)?);
+        let status = gate(
+            &rt,
+            alloc,
+            &words,
+            &mut folder,
+            &mut out,
+            no_screens(alloc)?,
+            &OpenGate,
+        );
         assert_eq!(rt; status, want);
     }
     Ok(())
@@ -247,11 +279,13 @@ fn a_fault_of_standard_output_is_a_write_fault(rt: HostRuntime) -> Result<(), Fa
     let mut stage = stage_of(alloc, &CUT_OFF, 65_536)?;
     stage.out = MemSink::new(alloc, 4, Vec::from_slice(alloc, &[1])?);
     let status = gate(
+        &rt,
         alloc,
         &stage.words,
         &mut stage.folder,
         &mut stage.out,
         no_screens(alloc)?,
+        &OpenGate,
     );
     compare(&rt, alloc, &CUT_OFF, &stage, status)
 }
@@ -265,7 +299,15 @@ fn a_second_session_that_is_missing_ends_the_run(rt: HostRuntime) -> Result<(), 
     folder.put("a", Vec::new(alloc))?;
     folder.put("c", Vec::new(alloc))?;
     let mut out = MemSink::new(alloc, 65536, Vec::new(alloc));
-    let status = gate(alloc, &words, &mut folder, &mut out, no_screens(alloc)?);
+    let status = gate(
+        &rt,
+        alloc,
+        &words,
+        &mut folder,
+        &mut out,
+        no_screens(alloc)?,
+        &OpenGate,
+    );
     assert_eq!(rt; status, 5);
     assert_eq!(rt; out.bytes(), b"read fault\n".as_slice());
     assert_eq!(rt; folder.get("out/s00.venue"), Some(b"".as_slice()));
