@@ -2,11 +2,12 @@
 //! totals.
 #![tactic(auto)]
 
-mod boards;
 mod close;
 mod command;
 mod completeness;
+mod ended;
 mod finish;
+mod forests;
 #[cfg(test)]
 mod leaf_tests;
 mod limits;
@@ -14,7 +15,7 @@ mod names;
 mod open;
 #[cfg(test)]
 mod order_rows;
-mod play;
+mod replay;
 #[cfg(test)]
 mod request_rows;
 #[cfg(test)]
@@ -25,9 +26,10 @@ mod rows;
 mod screen_tests;
 mod sets;
 mod status;
-mod tell;
 #[cfg(test)]
 mod task_tests;
+mod tasks;
+mod tell;
 #[cfg(test)]
 mod test_gates;
 #[cfg(test)]
@@ -42,7 +44,7 @@ mod words;
 pub use command::gate;
 pub use completeness::whole_inputs_are_done;
 use fold_law::Memory;
-use gate_ports::{RealFolder, RealOut};
+use gate_ports::{OpenGate, RealFolder, RealOut};
 use sets::gate_with_screens;
 use status::Status;
 use std::alloc::Global;
@@ -69,7 +71,7 @@ fn main(rt: HostRuntime) -> ExitCode {
     };
     let mut folder = RealFolder::new(&rt);
     let mut out = RealOut::new(&rt);
-    match gate_with_screens(rt.alloc(), &words, &mut folder, &mut out) {
+    match gate_with_screens(&rt, rt.alloc(), &words, &mut folder, &mut out, &OpenGate) {
         Ok(status) => ExitCode::from(status),
         Err(_) => ExitCode::from(Status::Memory.number()),
     }

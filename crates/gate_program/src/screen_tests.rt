@@ -6,6 +6,7 @@ use crate::rows::{Piece, Row, Session, compare, no_screens, stage_of};
 use crate::sets::gate_with_screens;
 use crate::test_gates::InTurn;
 use crate::test_screens::FirstTwo;
+use gate_ports::OpenGate;
 use std::sync::Arc;
 use std::sync::atomic::{AtomicU64, Ordering};
 use std::test::*;
@@ -270,6 +271,7 @@ fn the_programs_screens_refuse_repeats_prices_and_sizes(rt: HostRuntime) -> Resu
             &stage.words,
             &mut stage.folder,
             &mut stage.out,
+            &OpenGate,
         )?;
         compare(&rt, alloc, row, &stage, status)?;
     }

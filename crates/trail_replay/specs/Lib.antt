@@ -4,4 +4,5 @@ pub mod Sums
 pub mod Histories
 pub mod Arrays
 pub mod Reads
+pub mod Replayed
 pub mod Installs

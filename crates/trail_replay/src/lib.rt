@@ -15,8 +15,10 @@ mod array;
 mod blocks;
 #[cfg(test)]
 mod covers;
+mod histories;
 mod history;
 mod law;
+mod laws;
 #[cfg(test)]
 mod plain_blocks;
 #[cfg(test)]
@@ -29,8 +31,10 @@ mod reads;
 mod tree_posts;
 mod walk;
 
+pub use histories::{Histories, add_histories};
 pub use history::{History, at, place};
 pub use law::{closed_records_are_lawful, histories_are_legal};
+pub use laws::{components_are_leaves, histories_are_legal_by_places, histories_have_totals};
 pub use prepared::{Prepared, replay, replay_of};
 pub use walk::Walk;
 
