@@ -13,7 +13,7 @@ use crate::answer::{BookFault, Proposal, Terms3};
 use crate::id_key::IdKey;
 use crate::order::Order;
 use crate::price::{UNIT, units};
-use fix_orders::Id;
+use fix_orders::{Id, IdText};
 use fold_law::{LEAF, Memory};
 use indexmap::IndexMap;
 use std::alloc::Global;
@@ -129,12 +129,12 @@ impl Book {
     }
 
     /// The account and the symbol of the order that has this id, None where no order has it.
-    pub fn pair_of(&self, id: &Id) -> Option<(u32, u32)>
+    pub fn pair_of(&self, id: &IdText) -> Option<(u32, u32)>
         ensures value { result ≡ pair_of_order (order_with self.now id.now) }
         ensures placed { IfSome result (λ pair.
             (pair.0 < self.now.accounts) × (pair.1 < self.now.symbols)) }
     {
-        let place = self.place(id)?;
+        let place = self.place(&id.owned())?;
         let order = self.order(place);
         Some((order.account, order.symbol))
     }

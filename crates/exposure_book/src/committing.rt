@@ -33,16 +33,18 @@ impl Book {
         ensures same { IsSameBook (with_cancel_pending request.now self.old) self.new }
         ensures room { self.old.room ≤ self.new.room + 1 }
     {
-        let Some(place) = self.place(&request.orig) else {
+        let Some(place) = self.place(&request.orig.owned()) else {
             return;
         };
         let order = self.order(place);
         let next = Order {
-            pending: Pending::Cancel { id: request.id },
+            pending: Pending::Cancel {
+                id: request.id.owned(),
+            },
             ..order
         };
         self.put(place, &next);
-        self.name(&request.id, place);
+        self.name(&request.id.owned(), place);
     }
 
     /// Makes the replace that was proposed pending on its order.
@@ -54,12 +56,12 @@ impl Book {
         ensures same { IsSameBook (with_replace_pending request.now limits.now self.old) self.new }
         ensures room { self.old.room ≤ self.new.room + 1 }
     {
-        let Some(place) = self.place(&request.orig) else {
+        let Some(place) = self.place(&request.orig.owned()) else {
             return;
         };
         let order = self.order(place);
         let next = with_replace(request, limits, &order);
         self.put(place, &next);
-        self.name(&request.id, place);
+        self.name(&request.id.owned(), place);
     }
 }

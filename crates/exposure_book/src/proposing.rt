@@ -25,7 +25,7 @@ pub(crate) fn new_order(asked: &NewOrder, account: u32, symbol: u32, high: u64) 
         price: reserve_price(asked.side, asked.kind, asked.price, high),
         filled: 0,
         notional: 0,
-        current: asked.id,
+        current: asked.id.owned(),
         pending: Pending::Nothing,
         ended: false,
     }
@@ -38,11 +38,11 @@ fn is_of_order(request: &Replace, limits: &Limits, order: &Order) -> bool
 {
     let account = &limits.accounts.rows()[order.account as usize].name;
     let symbol = &limits.symbols.rows()[order.symbol as usize].name;
-    let own_account = match request.account {
-        Some(name) => name == *account,
+    let own_account = match &request.account {
+        Some(name) => name.owned() == *account,
         None => true,
     };
-    own_account && request.symbol == *symbol && request.side == order.side
+    own_account && request.symbol.owned() == *symbol && request.side == order.side
 }
 
 /// The order with the replace pending on it.
@@ -53,7 +53,7 @@ pub(crate) fn with_replace(request: &Replace, limits: &Limits, order: &Order) ->
     let high = limits.symbols.rows()[order.symbol as usize].high;
     Order {
         pending: Pending::Replace {
-            id: request.id,
+            id: request.id.owned(),
             total: request.quantity,
             price: reserve_price(request.side, request.kind, request.price, high),
         },
@@ -76,7 +76,7 @@ impl Book {
         requires symbol { symbol < self.now.symbols }
         ensures { result ≡ proposal_of_new self.now order.now account symbol high }
     {
-        if self.place(&order.id).is_some() {
+        if self.place(&order.id.owned()).is_some() {
             return Err(BookFault::Duplicate);
         }
         self.values_with_one(&new_order(order, account, symbol, high))
@@ -87,7 +87,7 @@ impl Book {
     pub fn propose_cancel(&self, request: &Cancel) -> Result<(), BookFault>
         ensures { result ≡ proposal_of_cancel self.now request.now }
     {
-        match self.requested(&request.id, &request.orig) {
+        match self.requested(&request.id.owned(), &request.orig.owned()) {
             Ok(_) => Ok(()),
             Err(fault) => Err(fault),
         }
@@ -100,7 +100,7 @@ impl Book {
         requires symbols { length limits.now.symbols ≡ self.now.symbols }
         ensures { result ≡ proposal_of_replace self.now request.now limits.now }
     {
-        let place = match self.requested(&request.id, &request.orig) {
+        let place = match self.requested(&request.id.owned(), &request.orig.owned()) {
             Ok(place) => place,
             Err(fault) => return Err(fault),
         };

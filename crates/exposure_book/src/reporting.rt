@@ -46,9 +46,10 @@ impl Book {
             ≡ record self.old { orders = (outcome_of_report self.old report.now).orders } }
         ensures placed { IsPlacedAnswer self.old.accounts self.old.symbols result }
     {
-        let Some(id) = report.id else {
+        let Some(id) = &report.id else {
             return Applied::Stray;
         };
+        let id = id.owned();
         let Some(place) = self.place(&id) else {
             return Applied::Stray;
         };
@@ -66,11 +67,12 @@ impl Book {
             ≡ record self.old { orders = (outcome_of_reject self.old reject.now).orders } }
         ensures placed { IsPlacedAnswer self.old.accounts self.old.symbols result }
     {
-        let Some(place) = self.place(&reject.id) else {
+        let id = reject.id.owned();
+        let Some(place) = self.place(&id) else {
             return Applied::Stray;
         };
         let order = self.order(place);
-        self.settle(place, &order, &order.without_request(&reject.id))
+        self.settle(place, &order, &order.without_request(&id))
     }
 
     /// Puts an order that counts for no more in the place of this one.

@@ -66,6 +66,58 @@ impl Id {
     }
 }
 
+/// 1 to 64 bytes of 32 to 126, where they stand in a text. Contracts see the list of the bytes.
+#[derive(Debug, Drop)]
+pub struct IdText<'a> {
+    bytes: &'a [u8],
+}
+
+impl<'a> Model for IdText<'a> {
+    ghost use Rattle.std.specs.Prelude.{ℕ, List};
+    ghost use Rattle.fix_fields.specs.IdText.{IsId};
+
+    ghost Value = { List ℕ };
+
+    ghost view = { λ id. id.bytes.now };
+
+    ghost invariant = { λ id. IsId id.bytes.now };
+}
+
+impl<'a> IdText<'a> {
+    /// The text as an id: `Form` where a byte isn't one of 32 to 126, then `Range` where there is
+    /// no byte or more than 64.
+    #[inline]
+    pub fn read(text: &'a [u8]) -> Result<IdText<'a>, Spelling>
+        ensures { result ≡ id_of text.now }
+    {
+        if !is_printable(text) {
+            return Err(Spelling::Form);
+        }
+        if text.is_empty() || text.len() > ID_MOST {
+            return Err(Spelling::Range);
+        }
+        Ok(IdText { bytes: text })
+    }
+
+    /// The bytes, of which there are 1 to 64, each of 32 to 126.
+    pub fn bytes(&self) -> &'a [u8]
+        ensures same { result.now ≡ self.now }
+        ensures id { IsId self.now }
+    {
+        self.bytes
+    }
+
+    /// The id, held in place.
+    pub fn owned(&self) -> Id
+        ensures { result ≡ self.now }
+    {
+        Id {
+            bytes: padded(self.bytes),
+            len: self.bytes.len(),
+        }
+    }
+}
+
 // Two ids are equal where their texts are.
 impl PartialEq for Id {
     ghost eq = { pointwise nat_eq };

@@ -43,6 +43,7 @@ impl<'a> Iterator for FieldWalk<'a> {
 
     ghost remaining = { item_count (λ rest. rest) };
 
+    #[inline(always)]
     fn next(&mut self) -> Option<Field> {
         let field = first_field(&self.bytes[self.at..self.end])?;
         let placed = Field {

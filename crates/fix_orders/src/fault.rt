@@ -12,7 +12,7 @@ use crate::reason::Reason;
 use crate::side::Side;
 use crate::slots::{Slot, Slots};
 use crate::table::{Need, ROWS, ReadAs, place, row_at};
-use fix_fields::{Id, Spelling, read_price, read_qty, read_seq};
+use fix_fields::{IdText, Spelling, read_price, read_qty, read_seq};
 
 /// The reason, if any, of what a reader answers.
 fn spelling_reason<T: Drop>(read: Result<T, Spelling>) -> Option<Reason>
@@ -32,7 +32,7 @@ impl ReadAs {
     {
         match self {
             ReadAs::Sequence => spelling_reason(read_seq(text)),
-            ReadAs::Identifier => spelling_reason(Id::read(text)),
+            ReadAs::Identifier => spelling_reason(IdText::read(text)),
             ReadAs::AnyText => None,
             ReadAs::SideCode => spelling_reason(Side::read(text)),
             ReadAs::Quantity => spelling_reason(read_qty(text)),

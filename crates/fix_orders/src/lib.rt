@@ -22,7 +22,7 @@ mod slots;
 mod table;
 
 pub use envelope::{Envelope, read_envelope};
-pub use fix_fields::{Id, Spelling};
+pub use fix_fields::{Id, IdText, Spelling};
 pub use forward::write_forward;
 pub use kind::{Kind, kind_of};
 pub use message::{

@@ -1,18 +1,18 @@
 //! What is read of each kind of message.
 
-use fix_fields::Id;
+use fix_fields::{Id, IdText};
 
 /// Who sent a message, to whom, with which number and when.
-#[derive(Clone, Copy, Debug, PartialEq, Eq)]
-pub struct Head {
+#[derive(Debug, Drop)]
+pub struct Head<'a> {
     /// SenderCompID (49).
-    pub sender: Id,
+    pub sender: IdText<'a>,
     /// TargetCompID (56).
-    pub target: Id,
+    pub target: IdText<'a>,
     /// MsgSeqNum (34), from 1 to 999,999,999.
     pub seq: u32,
     /// SendingTime (52), as it came.
-    pub time: Id,
+    pub time: IdText<'a>,
 }
 
 /// OrdType (40).
@@ -25,15 +25,15 @@ pub enum OrderKind {
 }
 
 /// NewOrderSingle (35=D).
-#[derive(Clone, Copy, Debug, PartialEq, Eq)]
-pub struct NewOrder {
-    pub head: Head,
+#[derive(Debug, Drop)]
+pub struct NewOrder<'a> {
+    pub head: Head<'a>,
     /// ClOrdID (11).
-    pub id: Id,
+    pub id: IdText<'a>,
     /// Account (1).
-    pub account: Id,
+    pub account: IdText<'a>,
     /// Symbol (55).
-    pub symbol: Id,
+    pub symbol: IdText<'a>,
     /// Side (54): the byte of a `Side`.
     pub side: u8,
     /// OrderQty (38) in whole units, from 1 to 1,000,000,000.
@@ -45,27 +45,27 @@ pub struct NewOrder {
 }
 
 /// OrderCancelRequest (35=F).
-#[derive(Clone, Copy, Debug, PartialEq, Eq)]
-pub struct Cancel {
-    pub head: Head,
+#[derive(Debug, Drop)]
+pub struct Cancel<'a> {
+    pub head: Head<'a>,
     /// ClOrdID (11).
-    pub id: Id,
+    pub id: IdText<'a>,
     /// OrigClOrdID (41).
-    pub orig: Id,
+    pub orig: IdText<'a>,
 }
 
 /// OrderCancelReplaceRequest (35=G).
-#[derive(Clone, Copy, Debug, PartialEq, Eq)]
-pub struct Replace {
-    pub head: Head,
+#[derive(Debug, Drop)]
+pub struct Replace<'a> {
+    pub head: Head<'a>,
     /// ClOrdID (11).
-    pub id: Id,
+    pub id: IdText<'a>,
     /// OrigClOrdID (41).
-    pub orig: Id,
+    pub orig: IdText<'a>,
     /// Account (1), where it is there.
-    pub account: Option<Id>,
+    pub account: Option<IdText<'a>>,
     /// Symbol (55).
-    pub symbol: Id,
+    pub symbol: IdText<'a>,
     /// Side (54): the byte of a `Side`.
     pub side: u8,
     /// OrderQty (38) in whole units, from 1 to 1,000,000,000.
@@ -96,36 +96,36 @@ pub enum Exec {
 }
 
 /// ExecutionReport (35=8).
-#[derive(Clone, Copy, Debug, PartialEq, Eq)]
-pub struct Report {
-    pub head: Head,
+#[derive(Debug, Drop)]
+pub struct Report<'a> {
+    pub head: Head<'a>,
     /// ClOrdID (11), where it is there.
-    pub id: Option<Id>,
+    pub id: Option<IdText<'a>>,
     /// ExecType (150).
     pub exec: Exec,
 }
 
 /// OrderCancelReject (35=9).
-#[derive(Clone, Copy, Debug, PartialEq, Eq)]
-pub struct CancelReject {
-    pub head: Head,
+#[derive(Debug, Drop)]
+pub struct CancelReject<'a> {
+    pub head: Head<'a>,
     /// ClOrdID (11).
-    pub id: Id,
+    pub id: IdText<'a>,
 }
 
 /// A message that has no field fault.
-#[derive(Clone, Copy, Debug, PartialEq, Eq)]
-pub enum Message {
+#[derive(Debug, Drop)]
+pub enum Message<'a> {
     /// 35=D.
-    New(NewOrder),
+    New(NewOrder<'a>),
     /// 35=F.
-    Cancel(Cancel),
+    Cancel(Cancel<'a>),
     /// 35=G.
-    Replace(Replace),
+    Replace(Replace<'a>),
     /// 35=8.
-    Report(Report),
+    Report(Report<'a>),
     /// 35=9.
-    CancelReject(CancelReject),
+    CancelReject(CancelReject<'a>),
     /// A message of the session: 35 is one of 0 to 5 and A. No field is read.
     Admin,
     /// Any other message. No field is read.

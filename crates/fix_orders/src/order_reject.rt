@@ -9,7 +9,7 @@ use crate::message::{Message, NewOrder, Stamp};
 use crate::put::{Part, put_all, put_opening};
 use crate::slots::slots_of;
 use crate::table::place::{ACCOUNT, ORDER_QTY, SIDE, SYMBOL};
-use fix_fields::{Frame, Id, Writer};
+use fix_fields::{Frame, IdText, Writer};
 use itoa::{Buffer, write_digits};
 
 /// Appends ExecID (17): G and the number of the message.
@@ -25,7 +25,7 @@ fn put_execution(to: &mut Writer, number: u32)
 }
 
 /// Appends OrderID (37), of which there is none, and ClOrdID (11).
-fn put_reply(to: &mut Writer, id: &Id)
+fn put_reply(to: &mut Writer, id: &IdText)
     requires room { HasRoom (reply_fields id.now) to.old }
     ensures { (fields : List FieldValue) → HasPut fields to.old
         → HasPut (fields ++ reply_fields id.now) to.new }

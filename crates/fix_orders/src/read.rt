@@ -23,21 +23,21 @@ use crate::table::place::{
     ORIG_CL_ORD_ID, PRICE, SENDER_COMP_ID, SENDING_TIME, SIDE, SYMBOL, TARGET_COMP_ID,
 };
 use crate::table::{ROWS, ReadAs};
-use fix_fields::{Frame, Id, fields, read_price, read_qty, read_seq};
+use fix_fields::{Frame, IdText, fields, read_price, read_qty, read_seq};
 
 /// The id of a text that is one.
-fn id_in(text: &[u8]) -> Id
+fn id_in(text: &[u8]) -> IdText
     requires { text_reason ReadAs.Identifier text.now ≡ None }
     ensures { result ≡ text.now }
 {
-    match Id::read(text) {
+    match IdText::read(text) {
         Ok(id) => id,
         Err(_) => unreachable!(),
     }
 }
 
 /// The id of a row that each message of the kind has.
-fn id_at(slots: &Slots, kind: Kind, place: usize) -> Id
+fn id_at<'a>(slots: &Slots<'a>, kind: Kind, place: usize) -> IdText<'a>
     requires checked { IsChecked kind slots.now }
     requires place { place < ROWS }
     requires id { IsTrue (is_id_place kind place) }
@@ -48,7 +48,7 @@ fn id_at(slots: &Slots, kind: Kind, place: usize) -> Id
 }
 
 /// The id of a row that a message of the kind may have.
-fn optional_id_at(slots: &Slots, kind: Kind, place: usize) -> Option<Id>
+fn optional_id_at<'a>(slots: &Slots<'a>, kind: Kind, place: usize) -> Option<IdText<'a>>
     requires checked { IsChecked kind slots.now }
     requires place { place < ROWS }
     requires id { IsTrue (is_optional_place kind place) }
@@ -120,7 +120,7 @@ fn price_of(slots: &Slots, kind: OrderKind) -> u64
 }
 
 /// Who sent a message, to whom, with which number and when.
-fn head_of(slots: &Slots, kind: Kind) -> Head
+fn head_of<'a>(slots: &Slots<'a>, kind: Kind) -> Head<'a>
     requires checked { IsChecked kind slots.now }
     requires sender { IsTrue (is_id_place kind SENDER_COMP_ID) }
     requires target { IsTrue (is_id_place kind TARGET_COMP_ID) }
@@ -141,7 +141,7 @@ fn head_of(slots: &Slots, kind: Kind) -> Head
 }
 
 /// A NewOrderSingle.
-fn new_order_of(slots: &Slots) -> NewOrder
+fn new_order_of<'a>(slots: &Slots<'a>) -> NewOrder<'a>
     requires { IsChecked Kind.NewOrderSingle slots.now }
     ensures { (listed : List FieldValue) → SlotsHave slots.now listed
         → result ≡ new_order_of listed }
@@ -160,7 +160,7 @@ fn new_order_of(slots: &Slots) -> NewOrder
 }
 
 /// An OrderCancelRequest.
-fn cancel_of(slots: &Slots) -> Cancel
+fn cancel_of<'a>(slots: &Slots<'a>) -> Cancel<'a>
     requires { IsChecked Kind.OrderCancelRequest slots.now }
     ensures { (listed : List FieldValue) → SlotsHave slots.now listed
         → result ≡ cancel_of listed }
@@ -173,7 +173,7 @@ fn cancel_of(slots: &Slots) -> Cancel
 }
 
 /// An OrderCancelReplaceRequest.
-fn replace_of(slots: &Slots) -> Replace
+fn replace_of<'a>(slots: &Slots<'a>) -> Replace<'a>
     requires { IsChecked Kind.OrderCancelReplaceRequest slots.now }
     ensures { (listed : List FieldValue) → SlotsHave slots.now listed
         → result ≡ replace_of listed }
@@ -212,7 +212,7 @@ fn exec_of(slots: &Slots) -> Exec
 }
 
 /// An ExecutionReport.
-fn report_of(slots: &Slots) -> Report
+fn report_of<'a>(slots: &Slots<'a>) -> Report<'a>
     requires { IsChecked Kind.ExecutionReport slots.now }
     ensures { (listed : List FieldValue) → SlotsHave slots.now listed
         → result ≡ report_of listed }
@@ -225,7 +225,7 @@ fn report_of(slots: &Slots) -> Report
 }
 
 /// An OrderCancelReject.
-fn cancel_reject_of(slots: &Slots) -> CancelReject
+fn cancel_reject_of<'a>(slots: &Slots<'a>) -> CancelReject<'a>
     requires { IsChecked Kind.OrderCancelReject slots.now }
     ensures { (listed : List FieldValue) → SlotsHave slots.now listed
         → result ≡ cancel_reject_of listed }
@@ -237,7 +237,7 @@ fn cancel_reject_of(slots: &Slots) -> CancelReject
 }
 
 /// The message of a kind, which has no fault.
-fn message_of(slots: &Slots, kind: Kind) -> Message
+fn message_of<'a>(slots: &Slots<'a>, kind: Kind) -> Message<'a>
     requires { IsChecked kind slots.now }
     ensures { (listed : List FieldValue) → SlotsHave slots.now listed
         → result ≡ message_of kind listed }
@@ -267,7 +267,7 @@ pub fn type_text<'a>(bytes: &'a [u8], frame: &Frame) -> &'a [u8]
 
 /// What a sound frame says. The fields are read in the order of the table, in one pass over them; a
 /// message with a fault isn't read.
-pub fn read_message(bytes: &[u8], frame: &Frame) -> Result<Message, FieldFault>
+pub fn read_message<'a>(bytes: &'a [u8], frame: &Frame) -> Result<Message<'a>, FieldFault>
     requires sound { IsSoundIn bytes.now frame.now }
     ensures { (listed : List FieldValue) → HasFieldsIn bytes.now frame.now listed
         → result ≡ read_of listed }

@@ -5,7 +5,7 @@ ghost use Rattle.fix_orders.specs.Writing.{cancel_reject_fields, session_reject_
 
 use crate::message::{FieldFault, Stamp};
 use crate::put::{Part, put_all, put_opening};
-use fix_fields::{Id, Writer};
+use fix_fields::{IdText, Writer};
 use itoa::Buffer;
 
 /// Writes the OrderCancelReject that refuses an OrderCancelRequest or an OrderCancelReplaceRequest
@@ -13,8 +13,8 @@ use itoa::Buffer;
 /// the second; CxlRejReason (102) and Text (58) say why.
 pub fn write_reject_cancel(
     to: &mut Writer,
-    id: &Id,
-    orig: &Id,
+    id: &IdText,
+    orig: &IdText,
     stamp: &Stamp,
     answers: u8,
     reason: u8,

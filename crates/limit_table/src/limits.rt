@@ -4,7 +4,7 @@ ghost use Rattle.limit_table.specs.Places.{IsPlaceOf, account_names, symbol_name
 ghost use Rattle.limit_table.specs.Files.{IsHeldByFile};
 
 use crate::lists::{Accounts, OffRows, Symbols};
-use fix_fields::Id;
+use fix_fields::IdText;
 
 /// The limits of a file. Limits are in currency units.
 #[derive(Drop)]
@@ -27,17 +27,17 @@ pub struct Limits {
 
 impl Limits {
     /// The place of the account of this name among the accounts, from 0.
-    pub fn account(&self, name: &Id) -> Option<u32>
+    pub fn account(&self, name: &IdText) -> Option<u32>
         ensures { IsPlaceOf (account_names self.now.accounts) name.now result }
     {
-        self.accounts.place(name)
+        self.accounts.place(&name.owned())
     }
 
     /// The place of the symbol of this name among the symbols, from 0.
-    pub fn symbol(&self, name: &Id) -> Option<u32>
+    pub fn symbol(&self, name: &IdText) -> Option<u32>
         ensures { IsPlaceOf (symbol_names self.now.symbols) name.now result }
     {
-        self.symbols.place(name)
+        self.symbols.place(&name.owned())
     }
 
     /// The number of the tree of the account at this place. The firm's tree is 0.

@@ -199,7 +199,7 @@ pub(crate) fn answer_request<V: Sink, C: Sink>(
     ensures venue_name { V.name sinks.new.venue ≡ V.name sinks.old.venue }
     ensures client_name { C.name sinks.new.client ≡ C.name sinks.old.client }
 {
-    let time = request.head().time;
+    let time = request.head().time.owned();
     match refusal {
         None => {
             let stamp = Stamp {

@@ -77,7 +77,7 @@ fn take_request<H: Hand, M: Hand, K: Screen, V: Sink, C: Sink>(
     let told = &mut state.told;
     let refusal = decide(limits, hands, screens, told, &mut state.book, request);
     count_refusal(limits, hands, told, &mut state.counts, refusal);
-    sinks.client_id = request.head().sender;
+    sinks.client_id = request.head().sender.owned();
     let number = tell_answer(&mut state.told.acts, &mut state.counts, refusal);
     answer_request(
         sinks,
@@ -138,7 +138,7 @@ fn take_report<H: Hand, M: Hand, V: Sink, C: Sink>(
     let stamp = Stamp {
         target: sinks.client_id,
         seq: state.counts.client,
-        time: report.head().time,
+        time: report.head().time.owned(),
     };
     forward(&mut sinks.client, &mut state.writer, bytes, frame, &stamp)
 }

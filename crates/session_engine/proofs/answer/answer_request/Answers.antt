@@ -25,7 +25,7 @@ forward-requires-clause-passed g c =
 pub forward-requires-clause-time : goal.forward-requires-clause-time
 forward-requires-clause-time g c = λ fields has.
     let facts = request_facts fields c.args.request.now (c.requires.read.each fields has) in
-    ap (λ (h : Head). h.time) c.head-time.ensures ∙ facts.time
+    c.owned-time.ensures ∙ ap (λ (h : Head). h.time) c.head.ensures ∙ facts.time
 
 pub returns-in-None-clause-taken : goal.returns-in-None-clause-taken
 returns-in-None-clause-taken g c = λ taken fields has.

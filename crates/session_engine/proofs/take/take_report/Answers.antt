@@ -24,7 +24,7 @@ forward-requires-clause-passed g c =
 pub forward-requires-clause-time : goal.forward-requires-clause-time
 forward-requires-clause-time g c = λ fields has.
     let facts = report_facts fields c.args.report.now (c.requires.read.each fields has) in
-    ap (λ (h : Head). h.time) c.head.ensures ∙ facts.time
+    c.owned.ensures ∙ ap (λ (h : Head). h.time) c.head.ensures ∙ facts.time
 
 pub returns-clause-step : goal.returns-clause-step
 returns-clause-step g c =

@@ -76,7 +76,7 @@ returns-clause-taken g c = λ taken fields has session own.
       book = roomless c.decide-refusal.new.book;
       screens = map g.K.Screen.meaning c.decide-refusal.new.screens.items;
       counts = c.tell_answer-number.new.counts;
-      client_id = c.head.result.sender;
+      client_id = c.owned-sinks.result;
       venue = g.V.Sink.held c.answer_request.new.sinks.venue;
       client = g.C.Sink.held c.answer_request.new.sinks.client;
     } in
@@ -93,7 +93,7 @@ returns-clause-taken g c = λ taken fields has session own.
       screens = c.decide-refusal.ensures.screens;
       counts = c.tell_answer-number.ensures.counts
           ∙ ap (counts_answered c.decide-refusal.result) c.count_refusal.ensures.counts;
-      client_id = ap (λ (h : Head). h.sender) c.head.ensures;
+      client_id = c.owned-sinks.ensures ∙ ap (λ (h : Head). h.sender) c.head.ensures;
       answered = rw (← c.tell_answer-number.ensures.number)
           (c.answer_request.ensures.taken taken fields has);
     }))
