@@ -2,6 +2,7 @@
 import os
 import signal
 import subprocess
+import sys
 
 from launcher.building import is_due, program_of
 from launcher.files import why_not_read
@@ -23,6 +24,8 @@ def main(top, words):
         if words and words[0] == "--version":
             print(version(top))
             return 0
+        if words and words[0] == "report":
+            return report(top, words[1:])
         return run(top, words)
     except KeyboardInterrupt:
         return 130
@@ -43,6 +46,15 @@ def run(top, words):
             return UNREAD
     program = program_of(top)
     return run_program(program, words, asked) if program else NO_PROGRAM
+
+
+def report(top, words):
+    """A report on a run, made by the script beside the program. It needs no program."""
+    script = os.path.join(top, "report")
+    if not os.path.isdir(script):
+        say(f"there is no report in {top}")
+        return NO_PROGRAM
+    return subprocess.call([sys.executable, "-B", script, *words])
 
 
 def run_program(program, words, asked):

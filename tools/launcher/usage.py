@@ -9,13 +9,15 @@ KIT = "rattle-kit-13f logic dac8208d650f15bf"
 
 HELP = """\
 usage: gate run LIMITS OUT SESSION...
+       gate report LIMITS OUT SESSION...
        gate --help | --version
 
 Reads a limit file and 1 to 32 session files in FIX 4.4, sends each order on or refuses it, and writes
 OUT/s00.venue and OUT/s00.client for the first session, s01 for the second and so on, and OUT/journal.csv.
 OUT is made where it isn't there. The program is proved and built first, where that is due.
+`report`, with the words of a run that has ended, writes OUT/report.html and OUT/requests.csv about it.
 
-status
+status of a run
   0  every session file was read to its end, and everything was written
   1  the program couldn't be built or started
   2  the command line is malformed, or names one file twice; nothing was read or written
