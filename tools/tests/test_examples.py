@@ -9,6 +9,7 @@ import unittest
 
 from launcher.building import is_built, is_program
 from tests.places import TOP, InFolder
+from tests.test_reasons import ENDS, FAULTS
 
 EXAMPLES = os.path.join(TOP, "examples")
 ONE_SESSION = ("first", "desk", "day")
@@ -109,6 +110,25 @@ class Runs(InFolder):
                 for block in blocks(name):
                     if block.startswith("8=FIX"):
                         self.assertLessEqual(set(block.splitlines()), there)
+
+    def test_what_the_launcher_finds_in_limits_is_what_the_program_finds(self):
+        for name, text, number, row, _, _ in FAULTS:
+            with self.subTest(name):
+                self.write("limits.csv", text)
+                done = self.run_words("run", "limits.csv", "out", "a.fix")
+                self.assertEqual((done.returncode, done.stdout), (3, f"limits fault {number} row {row}\n".encode()))
+
+    def test_what_the_launcher_finds_in_sessions_is_what_the_program_finds(self):
+        os.makedirs(self.path("out"))
+        for name, data, kind, place, _ in ENDS:
+            with self.subTest(name):
+                self.write("a.fix", data)
+                done = self.run_words("run", "limits.csv", "out", "a.fix")
+                self.assertEqual(done.returncode, 4)
+                self.says(done.stdout.decode(), f"session 0 {kind} {place} sent ")
+
+    def run_words(self, *words):
+        return subprocess.run([built(), *words], cwd=self.folder, capture_output=True)
 
     def test_a_malformed_call_is_answered_as_the_program_does(self):
         done = subprocess.run([built(), "run"], capture_output=True)
