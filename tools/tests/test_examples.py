@@ -77,6 +77,17 @@ class Readmes(InFolder):
                     self.assertIn(block, journal)
 
 
+def history(journal, tree):
+    """The root of a tree of sums after each of its lines, and the place and root of each read of it."""
+    rows = [row.split(",") for row in journal.splitlines()]
+    last, roots = {}, [0]
+    for _, session, _, _, _, value in (row for row in rows if row[0] == "line" and row[2] == str(tree)):
+        last[session] = int(value)
+        roots.append(sum(last.values()))
+    reads = [(int(row[4]), int(row[5])) for row in rows if row[0] == "read" and row[2] == str(tree)]
+    return roots, reads
+
+
 @unittest.skipUnless(built(), "the program isn't built")
 class Runs(InFolder):
     """Runs of the built program."""
@@ -110,6 +121,17 @@ class Runs(InFolder):
                 for block in blocks(name):
                     if block.startswith("8=FIX"):
                         self.assertLessEqual(set(block.splitlines()), there)
+
+    def test_the_firm_however_its_sessions_fall(self):
+        inputs = [os.path.join(EXAMPLES, "firm", f"{name}.fix") for name in ("alpha1", "beta1", "alpha2", "beta2")]
+        done = self.run_words("run", os.path.join(EXAMPLES, "firm", "limits.csv"), self.folder, *inputs)
+        self.assertEqual(done.returncode, 0)
+        ended = re.findall(rb"session (\d) whole sent (\d) refused (\d) noted 0", done.stdout)
+        self.assertEqual([int(sent) + int(refused) for _, sent, refused in ended], [1, 2, 3, 1])
+        roots, reads = history(self.read("journal.csv").decode(), tree=0)
+        self.assertTrue(reads)
+        self.assertEqual([roots[place] for place, _ in reads], [root for _, root in reads])
+        self.assertLessEqual(roots[-1], 5000)
 
     def test_what_the_launcher_finds_in_limits_is_what_the_program_finds(self):
         for name, text, number, row, _, _ in FAULTS:
