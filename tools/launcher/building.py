@@ -17,7 +17,7 @@ READ = ("src", "specs", "proofs")
 BEGINS = """\
 proving and building the program. From nothing that takes about {minutes} minutes on four processors;
 later only what was changed is proved again. Each crate is named as it is begun."""
-MINUTES = 45
+MINUTES = 30
 
 NO_KIT = f"""\
 the program isn't built, and `rt` isn't on the PATH. It is the command of the Rattle kit, {KIT}:
