@@ -132,6 +132,12 @@ class Building(InFolder):
         self.assertEqual((status, self.built()), (1, 0))
         self.says(error, "where no program is")
 
+    def test_a_report_is_made_by_the_script_beside_and_needs_no_program(self):
+        self.write("copy/report/__main__.py", "import os, sys\nprint(*sys.argv[1:], os.path.basename(os.getcwd()))\nsys.exit(4)\n")
+        status, out, error = self.run_gate("report", "limits.csv", "out", "a.fix", env={"PATH": "/usr/bin:/bin"})
+        self.assertEqual((status, out, error), (4, f"limits.csv out a.fix {os.path.basename(self.folder)}\n", ""))
+        self.assertEqual(self.built(), 0)
+
     def test_what_ends_the_launcher_ends_the_program(self):
         waiting = self.write("waiting", f"#!{sys.executable}\nimport time\nprint('up', flush=True)\ntime.sleep(60)\n")
         os.chmod(waiting, 0o755)
