@@ -49,6 +49,14 @@ class Documents(unittest.TestCase):
                     with self.subTest(crate, edit=edit):
                         self.assertTrue(os.path.exists(os.path.join(edits, edit + ".edit")))
 
+    def test_each_edit_of_the_clause_of_gate_is_there(self):
+        edits = {name[: -len(".edit")] for _, _, names in os.walk(os.path.join(TOP, "crates")) for name in names}
+        crates = os.listdir(os.path.join(TOP, "crates"))
+        for row in re.findall(r"^\| \d+ \|.*\|(.*)\|$", text("docs/CLAIMS.md"), re.M):
+            for word in re.findall(r"`([a-z0-9_]+)`", row):
+                with self.subTest(word):
+                    self.assertTrue(word in edits or word in crates)
+
     def test_the_files_that_the_architecture_names_are_there(self):
         table = text("docs/ARCHITECTURE.md").split("| To change | Files, in order |")[1]
         crate = None
