@@ -17,3 +17,6 @@ pub mod WalkLaws
 pub mod Walkable
 pub mod Rows
 pub mod PreparedTables
+pub mod Leaves
+pub mod Totals
+pub mod ReplayedTrees
