@@ -26,8 +26,12 @@ mod rows;
 mod screen_tests;
 mod sets;
 mod status;
+#[cfg(test)]
+mod task_tests;
 mod tasks;
 mod tell;
+#[cfg(test)]
+mod test_gates;
 #[cfg(test)]
 mod test_screens;
 #[cfg(test)]

@@ -1,5 +1,5 @@
-//! Runs of one session: cancels (F), replaces (G) and reports that don't fit the book, and each kind
-//! of frame.
+//! Runs of one session: cancels (F), replaces (G) and reports that don't fit the book, and each
+//! kind of frame.
 use crate::rows::{BUY, BUY_SENT, LARGE, Piece, Row, SMALL, Session};
 
 /// Requests that are refused for each cause once, and reports of no order.

@@ -6,15 +6,16 @@ use crate::command::gate;
 use crate::order_rows::ORDERS;
 use crate::request_rows::{FRAMES, REQUESTS};
 use crate::rows::{Row, compare, no_screens, stage_of};
+use crate::test_gates::InTurn;
 use crate::turn_rows::TURNS;
-use gate_ports::OpenGate;
 use std::alloc::Global;
 use std::process::Abort;
 use std::test::*;
 use std::thread::Threads;
 
-/// Runs these rows with no screens, with calls that move at most so many bytes, and compares.
-fn compare_all<R: Abort + Threads + Sync>(
+/// Runs these rows with no screens, sessions in turn, and calls that move at most so many bytes,
+/// and compares.
+fn compare_all<R: Threads + Sync + Abort>(
     rt: &R,
     alloc: Global,
     rows: &[Row],
@@ -31,7 +32,7 @@ fn compare_all<R: Abort + Threads + Sync>(
             &mut stage.folder,
             &mut stage.out,
             no_screens(alloc)?,
-            &OpenGate,
+            &InTurn::by(1),
         );
         compare(rt, alloc, row, &stage, status)?;
     }
@@ -39,7 +40,7 @@ fn compare_all<R: Abort + Threads + Sync>(
 }
 
 /// Runs each row so, and compares.
-fn compare_tables<R: Abort + Threads + Sync>(rt: &R, alloc: Global, most: usize) -> Result<(), Fail>
+fn compare_tables<R: Threads + Sync + Abort>(rt: &R, alloc: Global, most: usize) -> Result<(), Fail>
     requires { 0 < most }
 {
     compare_all(rt, alloc, &ORDERS, most)?;

@@ -138,7 +138,7 @@ fn filled(alloc: Global, body: &[u8], length: usize) -> Result<Vec<u8>, AllocErr
 }
 
 /// The bytes of these pieces.
-fn bytes_of(alloc: Global, pieces: &[Piece]) -> Result<Vec<u8>, AllocError> {
+pub(crate) fn bytes_of(alloc: Global, pieces: &[Piece]) -> Result<Vec<u8>, AllocError> {
     let mut bytes = Vec::new(alloc);
     for piece in pieces {
         match piece {
@@ -158,8 +158,8 @@ fn bytes_of(alloc: Global, pieces: &[Piece]) -> Result<Vec<u8>, AllocError> {
     Ok(bytes)
 }
 
-/// Limits, sessions named `session0` and so on, and a folder `out`, of which a call moves at most so
-/// many bytes.
+/// Limits, sessions named `session0` and so on, and a folder `out`, of which a call moves at most
+/// so many bytes.
 pub(crate) fn stage_of(alloc: Global, row: &Row, most: usize) -> Result<Stage, Fail>
     requires { 0 < most }
 {
@@ -190,18 +190,13 @@ fn compare_text(
     Ok(())
 }
 
-/// Compares what a run told and wrote, and what it left as it was, with its row.
-pub(crate) fn compare(
+/// Compares the streams of each session of a run, and its input, which stays as it was.
+pub(crate) fn compare_streams(
     rt: &impl Abort,
     alloc: Global,
     row: &Row,
-    stage: &Stage,
-    status: u8,
+    folder: &MemFolder,
 ) -> Result<(), Fail> {
-    let folder = &stage.folder;
-    let name = row.name;
-    assert_eq!(rt; status, row.status, "{name}");
-    assert_eq!(rt; stage.out.bytes(), row.told, "{name}");
     for (number, session) in row.sessions.iter().enumerate() {
         let input = format!(in alloc; "session{number}")?;
         let venue = format!(in alloc; "out/s{number:02}.venue")?;
@@ -210,7 +205,26 @@ pub(crate) fn compare(
         compare_text(rt, alloc, row, folder, venue.as_str(), session.venue)?;
         compare_text(rt, alloc, row, folder, client.as_str(), session.client)?;
     }
-    assert_eq!(rt; folder.get("out/journal.csv"), Some(row.journal), "{name}");
-    assert_eq!(rt; folder.get("limits"), Some(row.limits), "{name}");
+    Ok(())
+}
+
+/// Compares what a run told and wrote, and what it left as it was, with its row.
+pub(crate) fn compare(
+    rt: &impl Abort,
+    alloc: Global,
+    row: &Row,
+    stage: &Stage,
+    status: u8,
+) -> Result<(), Fail> {
+    let name = row.name;
+    assert_eq!(rt; status, row.status, "{name}");
+    assert_eq!(rt; stage.out.bytes(), row.told, "{name}");
+    compare_streams(rt, alloc, row, &stage.folder)?;
+    assert_eq!(rt;
+        stage.folder.get("out/journal.csv"),
+        Some(row.journal),
+        "{name}"
+    );
+    assert_eq!(rt; stage.folder.get("limits"), Some(row.limits), "{name}");
     Ok(())
 }

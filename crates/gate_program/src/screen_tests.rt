@@ -4,6 +4,7 @@
 use crate::command::gate;
 use crate::rows::{Piece, Row, Session, compare, no_screens, stage_of};
 use crate::sets::gate_with_screens;
+use crate::test_gates::InTurn;
 use crate::test_screens::FirstTwo;
 use gate_ports::OpenGate;
 use std::sync::Arc;
@@ -297,7 +298,7 @@ fn each_session_takes_its_own_screens_and_all_are_dropped(rt: HostRuntime) -> Re
         &mut stage.folder,
         &mut stage.out,
         screens,
-        &OpenGate,
+        &InTurn::by(4),
     );
     compare(&rt, alloc, &FIRMS, &stage, status)?;
     assert_eq!(&rt;

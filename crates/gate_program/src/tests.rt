@@ -1,5 +1,5 @@
-//! Runs that stop before a session, and one whose standard output fails: statuses and what is told. No
-//! clause says that memory isn't wanting, nor what a table's row gives.
+//! Runs that stop before a session, and one whose standard output fails: statuses and what is told.
+//! No clause says that memory isn't wanting, nor what a table's row gives.
 use crate::command::gate;
 use crate::rows::{Piece, Row, SMALL, Session, compare, no_screens, stage_of, words_of};
 use gate_ports::{Folder, MemFolder, MemSink, OpenGate};
