@@ -6,6 +6,7 @@ use Rattle.std.proofs.lemmas.List.{length-map, get_or_append_left, get_or-append
 use Rattle.std.proofs.lemmas.Bool.{cases_lt}
 use Rattle.std.proofs.lemmas.Option.{unwrap_or-slice_get, slice_get_within}
 use Rattle.std.specs.Prelude.{Some, slice_get, slice_index, unwrap_or, All}
+use Rattle.std.specs.Prelude.{Result, Ok, Err, IfOk}
 use Rattle.std.specs.List.{AllByRecursion}
 use Rattle.fold_law.specs.Sum.{sum_of}
 use Rattle.fold_law.specs.Whole.{whole_of}
@@ -15,8 +16,14 @@ use Rattle.risk_board.specs.History.{Event, IsLegal, array_after, components_of}
 use Rattle.risk_board.specs.History.{events_of_calls}
 use Rattle.risk_journal.specs.declared.acts.Act.{Act}
 use Rattle.risk_journal.specs.ActLists.{calls_below, calls_at, events_of, placed_by, place_in}
+use Rattle.risk_journal.specs.ActLists.{unplaced}
+use Rattle.risk_journal.proofs.PlacedActs.{alike}
+use Rattle.limit_table.specs.declared.limits.Limits.{Limits}
+use Rattle.session_engine.specs.Trees.{halt_tree}
+use Rattle.node_rule.specs.declared.view.Plan.{Plan}
+use Rattle.f_array.specs.Passes.{PassValue}
 use Rattle.f_array.specs.declared.record.Record.{Record}
-use Rattle.f_array.specs.Records.{Did}
+use Rattle.f_array.specs.Records.{Did, did_of}
 use Rattle.trail_replay.specs.Histories.{history_of, places_of, AreLegalIn}
 use Rattle.trail_replay.specs.Reads.{list_below}
 use Rattle.trail_replay.proofs.PreparedTables.{get_or-list_below}
@@ -24,8 +31,10 @@ use Rattle.stamp_word.specs.Places.{IsLeast}
 use Rattle.risk_journal.proofs.PlacedEvents.{events_below, events_at}
 use Rattle.trail_replay.specs.Fronts.{IsLawful}
 use Rattle.fold_law.specs.declared.limits.TheConstants.{LEAF}
+use Rattle.gate_program.specs.declared.forests.Forests.{Forests}
+use Rattle.gate_program.specs.declared.forests.Passes.{Passes}
 use Rattle.gate_program.specs.declared.forests.Records.{Records}
-use Rattle.gate_program.specs.Forests.{HaveLeft}
+use Rattle.gate_program.specs.Forests.{HaveClosed, HaveLeft, HaveRun}
 use Rattle.gate_program.specs.Histories.{AreHistories}
 use Rattle.gate_program.specs.Totals.{HasTotal, HaveTotals}
 
@@ -271,3 +280,51 @@ histories_told trees acts_placed acts lines told places own same are_placed are_
     (sym (are_placed ∙ ap (λ p. map (map (placed_by (place_in p))) acts) same))
     (subst (AreHistories trees (map (map (placed_by (place_in places))) acts)) (sym are_lines)
     histories)
+
+-- what holds where a result is Ok, by what is known of its value
+pub ok_more : {A E : Type 0} (r : Result A E) (P Q : A → Type 0) → IfOk r P → ((x : A) → P x → Q x)
+    → IfOk r Q
+ok_more (Ok x) P Q p f = f x p
+ok_more (Err e) P Q p f = tt
+
+-- placed acts of all sessions differ in the places of their reads alone
+all_alike : (place : ℕ → ℕ → ℕ) (acts : List (List Act))
+    → map (map unplaced) (map (map (placed_by place)) acts) ≡ map (map unplaced) acts
+all_alike place [] = refl
+all_alike place (own ∷ acts) =
+    ap (λ (l : List Act). l ∷ map (map unplaced) (map (map (placed_by place)) acts))
+    (alike place own)
+    ∙ ap (λ (l : List (List Act)). map unplaced own ∷ l) (all_alike place acts)
+
+pub told_alike : (place : ℕ → ℕ → ℕ) (placed acts : List (List Act))
+    → placed ≡ map (map (placed_by place)) acts
+    → map (map unplaced) placed ≡ map (map unplaced) acts
+told_alike place placed acts are = ap (map (map unplaced)) are ∙ all_alike place acts
+
+did_calls : (passes : List PassValue)
+    → map (λ did. did.calls) (map did_of passes) ≡ map (λ pass. pass.track.calls) passes
+did_calls [] = refl
+did_calls (pass ∷ passes) =
+    ap (λ (l : List (List Call)). pass.track.calls ∷ l) (did_calls passes)
+
+-- sessions that ran over forests that were closed left this
+pub have_left : (limits : Limits) (forests : Forests) (passes : Passes) (records : Records)
+    (acts : List (List Act)) → HaveRun limits forests passes acts
+    → HaveClosed forests passes records → HaveLeft (halt_tree limits) records acts
+have_left limits forests passes records acts run closed = record {
+  some = run.some;
+  lawful = closed.sums.lawful;
+  halt_lawful = closed.halts.lawful;
+  sum_trees = closed.sums.trees ∙ ap (λ (p : Plan). p.trees) run.opened.sums.plan;
+  halt_trees = closed.halts.trees ∙ ap (λ (p : Plan). p.trees) run.opened.halts.plan;
+  levels = subst (λ (l : ℕ). IsLeast (length acts) l)
+      (sym (closed.sums.levels ∙ ap (λ (p : Plan). p.levels) run.opened.sums.plan))
+      run.opened.sums.least;
+  halt_levels = subst (λ (l : ℕ). IsLeast (length acts) l)
+      (sym (closed.halts.levels ∙ ap (λ (p : Plan). p.levels) run.opened.halts.plan))
+      run.opened.halts.least;
+  calls = ap (map (λ did. did.calls)) closed.sums.passes_are ∙ did_calls passes.sums.items
+      ∙ run.called.sums;
+  halt_calls = ap (map (λ did. did.calls)) closed.halts.passes_are ∙ did_calls passes.halts.items
+      ∙ run.called.halts;
+}

@@ -138,3 +138,9 @@ first_sets f (x ∷ all) zero session below few = absurd (omega arith)
 first_sets f (x ∷ all) (suc count) zero below few = refl
 first_sets f (x ∷ all) (suc count) (suc session) below few =
     first_sets f all count session (omega arith) (omega arith)
+
+-- what is taken of what is taken of each
+pub mapped_twice : {X Y Z : Type 0} (f : Y → Z) (g : X → Y) (xs : List X)
+    → map f (map g xs) ≡ map (λ x. f (g x)) xs
+mapped_twice f g [] = refl
+mapped_twice {X} {Y} {Z} f g (x ∷ xs) = ap (λ (l : List Z). f (g x) ∷ l) (mapped_twice f g xs)

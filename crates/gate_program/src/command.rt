@@ -1,6 +1,6 @@
 //! The top call.
 ghost use Rattle.std.specs.Prelude.{◌≡◌, ◌⊎◌, ◌^◌, ◌<◌, ◌≤◌, IsTrue, IfOk, [], length, map};
-ghost use Rattle.std.specs.Prelude.{string_bytes};
+ghost use Rattle.std.specs.Prelude.{string_bytes, vec_capacity};
 ghost use Rattle.std.specs.List.{AllByRecursion};
 ghost use Rattle.gate_program.specs.CommandOf.{run_value};
 ghost use Rattle.gate_program.specs.Finish.{HasEnded, HasKept};
@@ -8,7 +8,7 @@ ghost use Rattle.gate_program.specs.Forests.{HaveRun};
 ghost use Rattle.gate_program.specs.Gate.{HasLimits, GateRun, RunWent, SessionsWent, ports_of};
 ghost use Rattle.gate_program.specs.Names.{AreNames};
 ghost use Rattle.gate_program.specs.Objects.{objects_of, EachOwn};
-ghost use Rattle.gate_program.specs.Room.{HasRoom, IsEmpty};
+ghost use Rattle.gate_program.specs.Room.{HasNone, HasSpare};
 ghost use Rattle.limit_table.specs.Files.{IsHeldByFile};
 ghost use Rattle.gate_program.specs.Stages.{folder_of, folder_with};
 ghost use Rattle.gate_program.specs.Statuses.{answer_number, answer_text};
@@ -50,8 +50,10 @@ fn ready_for<S: Drop, K: Drop>(
     ensures names { IfOk result (λ ready. AreNames out.now count ready.names.sessions.items) }
     ensures journal { IfOk result (λ ready.
         string_bytes ready.names.journal ≡ journal_name out.now) }
-    ensures empty { IfOk result (λ ready. IsEmpty ready.room) }
-    ensures room { IfOk result (λ ready. HasRoom count ready.room) }
+    ensures no_task { IfOk result (λ ready. ready.room.tasks.items ≡ []) }
+    ensures task_room { IfOk result (λ ready. count ≤ vec_capacity ready.room.tasks) }
+    ensures empty { IfOk result (λ ready. HasNone ready.room.ended) }
+    ensures room { IfOk result (λ ready. HasSpare count ready.room.ended) }
 {
     let names = names_in(alloc, out, count as u32)?;
     let room = room_for(alloc, count)?;
@@ -130,8 +132,10 @@ fn run_opened<R: Threads + Sync, D: Folder, G: Gate>(
     requires names { AreNames run.now.out.now (length run.now.sessions.now)
         ready.names.sessions.items }
     requires journal { string_bytes ready.names.journal ≡ journal_name run.now.out.now }
-    requires empty { IsEmpty ready.room }
-    requires room { HasRoom (length run.now.sessions.now) ready.room }
+    requires no_task { ready.room.tasks.items ≡ [] }
+    requires task_room { length run.now.sessions.now ≤ vec_capacity ready.room.tasks }
+    requires empty { HasNone ready.room.ended }
+    requires room { HasSpare (length run.now.sessions.now) ready.room.ended }
     requires sets { length screens.items ≡ session_most }
     requires many { length opened.items ≡ length run.now.sessions.now }
     requires own { EachOwn (run_value run.now) (D.texts folder.old)
@@ -147,7 +151,7 @@ fn run_opened<R: Threads + Sync, D: Folder, G: Gate>(
 {
     places_are_free();
     let Ready { names, room } = ready;
-    let Ok(opening) = open_forests(alloc, limits, opened.len() as u32) else {
+    let Ok(opening) = open_forests(alloc, limits, run.sessions.len() as u32) else {
         close_sessions(run, &names.sessions, opened, folder);
         return Answer::Stopped(Status::Memory);
     };

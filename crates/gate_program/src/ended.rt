@@ -5,7 +5,7 @@ ghost use Rattle.f_array.specs.Passes.{new_passes};
 ghost use Rattle.limit_table.specs.Files.{IsHeldByFile};
 ghost use Rattle.gate_program.specs.Forests.{AreOpened, HaveRun};
 ghost use Rattle.gate_program.specs.Objects.{objects_of, HaveDone};
-ghost use Rattle.gate_program.specs.Room.{HasNone, HasRoom, HasSpare, IsEmpty};
+ghost use Rattle.gate_program.specs.Room.{HasNone, HasSpare};
 
 use crate::forests::{Forests, Passes};
 use crate::open::Opened;
@@ -47,8 +47,10 @@ fn room_of<T: Drop>(alloc: Global, count: usize) -> Result<Vec<T>, Memory>
 
 /// Room for so many sessions.
 pub(crate) fn room_for<S: Drop, K: Drop>(alloc: Global, count: usize) -> Result<Room<S, K>, Memory>
-    ensures empty { IfOk result (λ room. IsEmpty room) }
-    ensures room { IfOk result (λ room. HasRoom count room) }
+    ensures no_task { IfOk result (λ room. room.tasks.items ≡ []) }
+    ensures task_room { IfOk result (λ room. count ≤ vec_capacity room.tasks) }
+    ensures empty { IfOk result (λ room. HasNone room.ended) }
+    ensures room { IfOk result (λ room. HasSpare count room.ended) }
 {
     Ok(Room {
         tasks: room_of(alloc, count)?,
