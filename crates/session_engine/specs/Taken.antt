@@ -8,7 +8,7 @@ use Rattle.fix_fields.specs.Places.{HasFieldsIn, IsSoundIn}
 use Rattle.fix_fields.specs.Found.{StandsAt}
 use Rattle.fix_fields.specs.declared.frame.Frame.{Frame}
 use Rattle.fix_orders.specs.declared.message.Message.{Message}
-use Rattle.fix_orders.specs.Put.{HasPut}
+use Rattle.fix_orders.specs.Put.{HasPut, seq_most}
 use Rattle.fix_orders.specs.Reading.{read_of}
 use Rattle.exposure_book.specs.Books.{BookValue}
 use Rattle.screen_kit.specs.Screens.{ScreenValue}
@@ -77,9 +77,9 @@ pub record ReadsAs (bytes : List ℕ) (frame : Frame) (whole : Message) : Type 0
 -- one frame more is counted, and one more message has a number of at most eight digits in either
 -- stream
 pub record HasSmallCounts (counts : Counts) : Type 0 where
-  pub frames : counts.frames < 99999999
-  pub venue : counts.venue < 99999999
-  pub client : counts.client < 99999999
+  pub frames : counts.frames < seq_most
+  pub venue : counts.venue < seq_most
+  pub client : counts.client < seq_most
 
 -- the counts after a frame that has no message
 abbrev pub counted : Counts → Counts
@@ -107,7 +107,7 @@ counts_decided refusal counts = record counts { firms = firms_after refusal coun
 -- counted, and one more of these can be counted.
 pub record CountsTrips (limits : LimitsValue) (acts : List Act) (counts : Counts) : Type 0 where
   pub posts : posts_in (halt_tree limits) acts ≡ trips_by limits.trip counts.firms
-  pub firms : counts.firms < 99999999
+  pub firms : counts.firms < seq_most
 
 -- the act that tells what was decided on the request of this frame
 abbrev pub answer_act : ℕ → Option Refusal → Act

@@ -9,7 +9,6 @@ pub mod CallPosts
 pub mod Placed
 pub mod LegalHistories
 pub mod ClosedRecords
-pub mod Installs
 pub mod Covering
 pub mod Counts
 pub mod Places

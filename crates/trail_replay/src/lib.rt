@@ -13,18 +13,10 @@
 
 mod array;
 mod blocks;
-#[cfg(test)]
-mod covers;
 mod histories;
 mod history;
 mod law;
 mod laws;
-#[cfg(test)]
-mod plain_blocks;
-#[cfg(test)]
-mod plain_installs;
-#[cfg(test)]
-mod plain_posts;
 mod posts;
 mod prepared;
 mod reads;
