@@ -1,0 +1,22 @@
+"""The texts of a run, each kept once and numbered."""
+
+from report.text import readable, spreadsheet_cell
+
+
+class Words:
+    """Values of fields by number: `texts` as a page shows them, `cells` as a spreadsheet takes them.
+    Number 0 is the empty text."""
+
+    def __init__(self):
+        self.numbers = {b"": 0}
+        self.texts = [""]
+        self.cells = [""]
+
+    def number(self, value: bytes) -> int:
+        """The number of a value, a new one where it wasn't met before."""
+        number = self.numbers.get(value)
+        if number is None:
+            number = self.numbers[value] = len(self.texts)
+            self.texts.append(readable(value))
+            self.cells.append(spreadsheet_cell(self.texts[number]))
+        return number
