@@ -8,8 +8,8 @@ from report.frames import End, WHOLE
 from report.journal import Acts, Outcome
 from report.limits import Limits
 from report.messages import (
-    NEW, OF_THE_SESSION, REPLACE, REPORT, CANCEL_REJECT, REPORTS, REQUESTS, fields_of, kind_name,
-    kind_of)
+    ACCOUNT, CANCEL_REJECT, Fields, NEW, OF_THE_SESSION, ORDER_ID, REPLACE, REPORT, REPORTS, REQUESTS,
+    SYMBOL, kind_name, kind_of)
 
 
 class Step(NamedTuple):
@@ -18,7 +18,7 @@ class Step(NamedTuple):
 
     frame: int
     kind: bytes
-    fields: dict[bytes, bytes]
+    fields: Fields
     outcome: Outcome | None
     is_told: bool
 
@@ -43,7 +43,7 @@ def steps_of(session: str, bodies: list[bytes | None], acts: Acts, limits: Limit
         if is_told and not is_of_kind(kind, outcome):
             raise apart(session, frame, kind, outcome)
         if kind in REQUESTS or kind in REPORTS:
-            step = Step(frame, kind, fields_of(body), outcome, is_told)
+            step = Step(frame, kind, Fields(body), outcome, is_told)
             agree_with_limits(session, step, limits)
             yield step
         else:
@@ -101,7 +101,7 @@ def agree_with_limits(session: str, step: Step, limits: Limits) -> None:
     if kinds != ["halt", "firm", "account", "symbol"]:
         raise Apart(f"{session}, frame {step.frame}: the reads aren't those of the halt tree and of"
                     " the firm's, an account's and a symbol's")
-    trees = (limits.accounts.get(step.fields.get(b"1")), limits.symbols.get(step.fields.get(b"55")))
+    trees = (limits.accounts.get(step.fields.get(ACCOUNT)), limits.symbols.get(step.fields.get(SYMBOL)))
     if step.kind == NEW and trees != (outcome.reads[2].tree, outcome.reads[3].tree):
         raise Apart(f"{session}, frame {step.frame}: the journal's trees aren't those of the order's"
                     " account and symbol")
@@ -140,7 +140,7 @@ class Stream:
             return
         body = self.bodies[self.at] if self.at < len(self.bodies) else None
         is_it = body is not None and body.startswith(b"35=" + kind + b"\x01") and (
-            order_id is None or b"\x0111=" + order_id + b"\x01" in body) and body.endswith(ending)
+            order_id is None or ORDER_ID + order_id + b"\x01" in body) and body.endswith(ending)
         if not is_it:
             raise Apart(f"{self.session}, frame {step.frame}: message {self.at} of {self.name} isn't"
                         " what the gate wrote of it")
@@ -156,7 +156,7 @@ def follow(step: Step, venue: Stream, client: Stream) -> None:
     """Takes what the gate wrote of a request or a report from its stream."""
     if not step.is_told:
         return
-    outcome, order_id = step.outcome, step.fields.get(b"11")
+    outcome, order_id = step.outcome, step.fields.get(ORDER_ID)
     is_report = step.kind in (REPORT, CANCEL_REJECT)
     if outcome is not None and outcome.word != "sent" and outcome.code == (
             verdicts.REPORT_FIELD if is_report else verdicts.FIELD):

@@ -8,7 +8,7 @@ import re
 from typing import NamedTuple
 
 BEGIN = b"8=FIX.4.4\x019="
-HEAD = re.compile(rb"8=FIX\.4\.4\x019=([0-9]{1,7})\x01")
+HEAD = re.compile(rb"[\r\n]*(8)=FIX\.4\.4\x019=([0-9]{1,7})\x01")
 TRAILER = re.compile(rb"10=([0-9]{3})\x01")
 TRAILER_CUT = re.compile(rb"(?:1(?:0(?:=[0-9]{0,3})?)?)?")
 LENGTH_CUT = re.compile(rb"[0-9]{0,7}")
@@ -29,34 +29,28 @@ class End(NamedTuple):
 
 
 def read_frames(data: bytes, most: int = INPUT_MOST) -> tuple[list[bytes | None], End]:
-    """The body of each frame in order, None where the frame isn't sound, and how the file ends."""
+    """The body of each frame in order, and how the file ends. A frame that isn't sound has None: its
+    checksum is wrong, or its body isn't fields, MsgType (35) first with a value."""
     text, place, bodies = data[:most], 0, []
     while True:
-        place = LINE_ENDS.match(text, place).end()
         head = HEAD.match(text, place)
         if head is None:
             break
         body_from = head.end()
-        body_to = body_from + int(head[1])
+        body_to = body_from + int(head[2])
         trailer = TRAILER.match(text, body_to)
         if trailer is None or not is_body_length(body_to - body_from) or text[body_to - 1] != 1:
             break
-        bodies.append(sound_body(text, place, body_from, body_to, int(trailer[1])))
+        sound = sum(text[head.start(1):body_to]) & 255 == int(trailer[1]) and FIELDS.fullmatch(
+            text, body_from, body_to)
+        bodies.append(sound[0] if sound else None)
         place = trailer.end()
-    return bodies, end_of(text, place, len(data) > most)
+    return bodies, end_of(text, LINE_ENDS.match(text, place).end(), len(data) > most)
 
 
 def is_body_length(length: int) -> bool:
     """Whether a body may have so many bytes."""
     return 1 <= length <= BODY_MOST
-
-
-def sound_body(text: bytes, start: int, body_from: int, body_to: int, checksum: int) -> bytes | None:
-    """The body, where the checksum is right and it is fields, MsgType (35) first with a value."""
-    body = text[body_from:body_to]
-    if sum(text[start:body_to]) & 255 != checksum or FIELDS.fullmatch(body) is None:
-        return None
-    return body
 
 
 def end_of(text: bytes, place: int, is_longer: bool) -> End:
@@ -75,7 +69,7 @@ def no_frame(rest: bytes) -> int:
     head = HEAD.match(rest)
     if head is None:
         return CUT if LENGTH_CUT.fullmatch(rest, len(BEGIN)) else BROKEN
-    length = int(head[1])
+    length = int(head[2])
     if length > BODY_MOST:
         return TOO_LONG
     body, trailer = rest[head.end():head.end() + length], rest[head.end() + length:]

@@ -47,6 +47,7 @@ class Journal:
     def __init__(self, file: BinaryIO, trees: list[Tree]):
         self.rows = JournalRows(file)
         self.trees = trees
+        self.tree_numbers = {b"%d" % tree.number: tree.number for tree in trees}
         self.posted = [{} for _ in trees]
         self.read_places = [array("q") for _ in trees]
         self.read_values = [array("q") for _ in trees]
@@ -55,16 +56,16 @@ class Journal:
         """The acts of the next session, which has to be this one."""
         outcomes, reads, number = [], [], b"%d" % session
         posts = [array("q") for _ in self.trees]
-        for at, (kind, of, a, b, c, d) in self.rows.acts():
+        for kind, of, a, b, c, d in self.rows.acts():
             if of != number:
-                raise self.rows.fault(f"an act of session {session} has to stand here", at)
+                raise self.rows.fault_here(f"an act of session {session} has to stand here")
             if kind == b"post":
-                values = posts[self.tree(a, at)]
+                values = posts[self.tree(a)]
                 values.append(int(c))
                 if int(b) != len(values):
-                    raise self.rows.fault(f"its post {len(values)} in tree {int(a)} comes next", at)
+                    raise self.rows.fault_here(f"post {len(values)} of the session in tree {int(a)} comes next")
             elif kind == b"read":
-                reads.append(Read(self.tree(a, at), int(c), int(d)))
+                reads.append(Read(self.tree(a), int(c), int(d)))
             elif kind == b"ended":
                 self.keep(session, posts)
                 return Acts(outcomes, End(int(a), int(b) if b else None))
@@ -75,11 +76,12 @@ class Journal:
                 reads.clear()
         raise self.rows.fault(f"the journal ends before session {session} does")
 
-    def tree(self, cell: bytes, at: int = 0) -> int:
+    def tree(self, cell: bytes) -> int:
         """The number of a tree, which has to be one of the limit file."""
-        if int(cell) >= len(self.trees):
-            raise self.rows.fault(f"the limit file has no tree {int(cell)}", at)
-        return int(cell)
+        number = self.tree_numbers.get(cell)
+        if number is None:
+            raise self.rows.fault_here(f"the limit file has no tree {int(cell)}")
+        return number
 
     def keep(self, session: int, posts: list[array]) -> None:
         """Keeps a session's posts until the lines are known."""
@@ -100,11 +102,11 @@ class Journal:
         for cell, lines in self.rows.lines():
             tree = self.tree(cell)
             if tree < last:
-                raise self.rows.fault(f"lines of tree {tree} stand behind those of tree {last}")
+                raise Unreadable(f"the journal: a line of tree {tree} stands behind one of tree {last}")
             last = tree
             if not histories[tree].extend(lines, self.posted[tree]):
-                raise self.rows.fault(
-                    f"line {len(histories[tree]) + 1} of tree {tree} isn't the next post of its session")
+                raise Unreadable(f"the journal: line {len(histories[tree]) + 1} of tree {tree} isn't the"
+                                 " next post of its session")
         for history in histories:
             self.agree(history)
         return histories

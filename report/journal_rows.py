@@ -22,20 +22,24 @@ Cells = tuple[bytes, bytes, bytes, bytes, bytes, bytes]
 
 
 class JournalRows:
-    """The rows that are left of a journal, and the number of the next one, from 1."""
+    """The rows that are left of a journal; rows are counted from 1."""
 
     def __init__(self, file: BinaryIO):
         self.file = file
-        self.text = file.read(len(HEADER))
-        self.next = 1
+        self.text = b""
+        self.taken = 0
         self.pending = iter(())
-        if self.text != HEADER:
+        if file.read(len(HEADER)) != HEADER:
             raise self.fault("it isn't the header of a journal")
-        self.text, self.next = b"", 2
+        self.taken = 1
 
-    def fault(self, text: str, row: int = 0) -> Unreadable:
-        """The fault at a row; at the next one where none is given."""
-        return Unreadable(f"the journal, row {row or self.next}: {text}")
+    def fault(self, text: str) -> Unreadable:
+        """The fault at the row behind those that were taken."""
+        return Unreadable(f"the journal, row {self.taken + 1}: {text}")
+
+    def fault_here(self, text: str) -> Unreadable:
+        """The fault at the act that a caller took last."""
+        return Unreadable(f"the journal, row {self.taken - len(list(self.pending))}: {text}")
 
     def block(self) -> bytes:
         """Whole rows that come next, without taking them; nothing at the end of the file."""
@@ -47,19 +51,19 @@ class JournalRows:
             raise self.fault("it isn't a row of a journal")
         return self.text[:end]
 
-    def take(self, rows: bytes, grammar: re.Pattern) -> list[bytes]:
-        """Takes these rows, which have to be of the grammar; their cells one after another."""
+    def take(self, rows: bytes, grammar: re.Pattern) -> Iterator[Cells]:
+        """Takes these rows, which have to be of the grammar; the cells of each."""
         good = grammar.match(rows).end()
         if good < len(rows):
-            self.next += rows.count(b"\n", 0, good)
+            self.taken += rows.count(b"\n", 0, good)
             raise self.fault("it isn't a row of a journal, or doesn't stand where it may")
         self.text = self.text[len(rows):]
-        self.next += rows.count(b"\n")
-        return rows.replace(b"\n", b",").split(b",")
+        self.taken += rows.count(b"\n")
+        cells = iter(rows.replace(b"\n", b",").split(b","))
+        return zip(*[cells] * COLUMNS)
 
-    def acts(self) -> Iterator[tuple[int, Cells]]:
-        """The acts that are left, each with the number of its row. A caller that stops goes on
-        behind the act that it took last."""
+    def acts(self) -> Iterator[Cells]:
+        """The acts that are left. A caller that stops goes on behind the act that it took last."""
         while True:
             yield from self.pending
             rows = self.block()
@@ -67,16 +71,13 @@ class JournalRows:
             rows = rows[:first_line.start()] if first_line else rows
             if not rows:
                 return
-            start = self.next
-            cells = iter(self.take(rows, ACTS))
-            self.pending = enumerate(zip(*[cells] * COLUMNS), start)
+            self.pending = self.take(rows, ACTS)
 
     def lines(self) -> Iterator[tuple[bytes, list[Cells]]]:
         """The lines that are left, those of a tree together, in one or several pieces. No act may
         be left."""
-        for at, (kind, *_) in self.pending:
-            raise self.fault(f"'{kind.decode()}' of a session that isn't given", at)
+        for _, session, *_ in self.pending:
+            raise self.fault_here(f"an act of session {int(session)}, which isn't given")
         while rows := self.block():
-            cells = iter(self.take(rows, LINES))
-            for tree, lines in groupby(zip(*[cells] * COLUMNS), itemgetter(2)):
+            for tree, lines in groupby(self.take(rows, LINES), itemgetter(2)):
                 yield tree, list(lines)

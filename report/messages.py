@@ -1,10 +1,11 @@
 """What a frame's message is: a request, a report, a message of the session, or another."""
 
-import re
-
 from report.text import readable
 
-FIELD = re.compile(rb"([0-9]+)=([^\x01]*)\x01")
+# A tag as it stands in a body: behind the SOH of the field before it.
+ACCOUNT, ORDER_ID, PRICE, QUANTITY = b"\x011=", b"\x0111=", b"\x0144=", b"\x0138="
+LAST_PRICE, LAST_QUANTITY, ORIGINAL_ID, SENDER = b"\x0131=", b"\x0132=", b"\x0141=", b"\x0149="
+TIME, SIDE, SYMBOL, EXEC_TYPE = b"\x0152=", b"\x0154=", b"\x0155=", b"\x01150="
 
 NEW, CANCEL, REPLACE, REPORT, CANCEL_REJECT = b"D", b"F", b"G", b"8", b"9"
 NAMES = {
@@ -28,9 +29,22 @@ def kind_of(body: bytes) -> bytes:
     return body[3:body.index(1)]
 
 
-def fields_of(body: bytes) -> dict[bytes, bytes]:
-    """The value of each tag, where a tag stands more than once that of the first."""
-    return dict(reversed(FIELD.findall(body)))
+class Fields:
+    """The fields of a sound body. Where a tag stands more than once the first is taken."""
+
+    __slots__ = ("body",)
+
+    def __init__(self, body: bytes):
+        self.body = body
+
+    def get(self, tag: bytes) -> bytes | None:
+        """The value of a tag, which is given as the bytes before its value; None where there is
+        no such field."""
+        start = self.body.find(tag)
+        if start < 0:
+            return None
+        start += len(tag)
+        return self.body[start:self.body.index(1, start)]
 
 
 def kind_name(kind: bytes | None) -> str:
@@ -42,16 +56,15 @@ def kind_name(kind: bytes | None) -> str:
     return NAMES.get(kind) or f"a message of another type (35={readable(kind)})"
 
 
-def quantity_and_price(kind: bytes, fields: dict[bytes, bytes]) -> tuple[bytes, bytes]:
+def quantity_and_price(kind: bytes, exec_type: bytes | None, fields: Fields) -> tuple:
     """OrderQty (38) and Price (44), or of a trade LastQty (32) and LastPx (31)."""
-    if kind == REPORT and fields.get(b"150") == b"F":
-        return fields.get(b"32", b""), fields.get(b"31", b"")
-    return fields.get(b"38", b""), fields.get(b"44", b"")
+    if kind == REPORT and exec_type == b"F":
+        return fields.get(LAST_QUANTITY), fields.get(LAST_PRICE)
+    return fields.get(QUANTITY), fields.get(PRICE)
 
 
-def message_name(kind: bytes, fields: dict[bytes, bytes]) -> str:
+def message_name(kind: bytes, exec_type: bytes | None) -> str:
     """The name of the message, for an ExecutionReport with what it reports."""
-    name = NAMES[kind]
-    if kind != REPORT or b"150" not in fields:
-        return name
-    return f"{name}: {EXEC_TYPES.get(fields[b'150']) or '150=' + readable(fields[b'150'])}"
+    if kind != REPORT or exec_type is None:
+        return NAMES[kind]
+    return f"{NAMES[kind]}: {EXEC_TYPES.get(exec_type) or '150=' + readable(exec_type)}"

@@ -8,7 +8,9 @@ from report import verdicts
 from report.agreement import Step
 from report.journal import Outcome, Read
 from report.limits import Tree
-from report.messages import REPORT, SIDES, message_name, quantity_and_price
+from report.messages import (
+    ACCOUNT, EXEC_TYPE, ORDER_ID, ORIGINAL_ID, REPORT, SIDE, SIDES, SYMBOL, TIME, message_name,
+    quantity_and_price)
 from report.text import spreadsheet_cell
 from report.words import Words
 
@@ -65,7 +67,7 @@ class Row(NamedTuple):
 class Rows:
     """Makes rows, with the words and fates that they share."""
 
-    TAGS = (b"52", b"11", b"41", b"1", b"55")
+    TAGS = (TIME, ORDER_ID, ORIGINAL_ID, ACCOUNT, SYMBOL)
 
     def __init__(self, trees: list[Tree]):
         self.trees = trees
@@ -75,22 +77,23 @@ class Rows:
 
     def row_of(self, session: int, step: Step) -> Row:
         """The row of a request or a report."""
-        fields, word = step.fields, self.words.number
-        side = fields.get(b"54", b"")
-        texts = [word(fields.get(tag, b"")) for tag in self.TAGS]
-        texts.append(word(SIDES.get(side, side)))
-        texts.extend(map(word, quantity_and_price(step.kind, fields)))
-        texts.append(self.name(step.kind, fields))
+        fields, number = step.fields, self.words.number
+        exec_type = fields.get(EXEC_TYPE) if step.kind == REPORT else None
+        values = [fields.get(tag) for tag in self.TAGS]
+        side = fields.get(SIDE)
+        values += (SIDES.get(side, side), *quantity_and_price(step.kind, exec_type, fields))
+        texts = *map(number, values), self.name(step.kind, exec_type)
         outcome = step.outcome
-        return Row(session, step.frame, tuple(texts), self.fate(step.is_told, outcome),
+        return Row(session, step.frame, texts, self.fate(step.is_told, outcome),
                    None if outcome is None else refusing_read(outcome))
 
-    def name(self, kind: bytes, fields: dict[bytes, bytes]) -> int:
+    def name(self, kind: bytes, exec_type: bytes | None) -> int:
         """The number of the message's name."""
-        key = kind, fields.get(b"150") if kind == REPORT else None
-        if key not in self.names:
-            self.names[key] = self.words.number(message_name(kind, fields).encode())
-        return self.names[key]
+        number = self.names.get((kind, exec_type))
+        if number is None:
+            number = self.words.number(message_name(kind, exec_type).encode())
+            self.names[kind, exec_type] = number
+        return number
 
     def fate(self, is_told: bool, outcome: Outcome | None) -> Fate:
         """What became of a request or a report, each fate made once."""

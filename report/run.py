@@ -12,7 +12,7 @@ from report.frames import End, read_frames
 from report.histories import History
 from report.journal import Acts, Journal
 from report.limits import Limits, read_limits
-from report.messages import REQUESTS
+from report.messages import REQUESTS, SENDER
 from report.requests import Columns, REFUSED, RequestsFile, Row, Rows, SENT
 from report.text import readable
 
@@ -37,7 +37,7 @@ class SessionSummary:
         self.requests += 1
         self.sent += row.fate.sort == SENT
         self.refused += row.fate.sort == REFUSED
-        self.clients.setdefault(step.fields.get(b"49", b""))
+        self.clients.setdefault(step.fields.get(SENDER))
 
     def client(self) -> str:
         """The SenderCompID (49) of its requests; where there are more than three, how many more."""
