@@ -1,7 +1,7 @@
-"""The picture of a tree's history: a step line of the root, its limit, and the refusals as marks.
+"""The picture of a tree's history: a step line of the root, its limit, the refusals as marks.
 
-A plot is drawn in percent of the room that it is given, so that it fits a page of any width with its
-marks and texts undistorted.
+A plot is drawn in percent of the room that it is given, so that it fits a page of any width with
+its marks and texts undistorted.
 """
 
 from html import escape
@@ -12,10 +12,10 @@ from report.text import counted, grouped
 from report.thinning import Mark, marks_of, thinned
 
 UNITS = 1000
-HEADROOM = 1.18
+HEADROOM = 1.24
 DENSE = 60
 WIDE_MARK = "M0-3L-5.5-12.5H5.5Z"
-SMALL_MARK = "M0-2L-2.5-7H2.5Z"
+SMALL_MARK = "M0-1L-2.5-8H2.5Z"
 
 
 class Plot:
@@ -49,17 +49,22 @@ class Plot:
 
     def mark(self, mark: Mark, label: str) -> str:
         """A mark of one refusal, or of several, with its label as a tooltip."""
-        shape = SMALL_MARK if len(self.marks) > DENSE else WIDE_MARK
-        title = label if mark.count == 1 else f"{counted(mark.count, 'refusal')} here, the highest: {label}"
-        return (f'<svg x="{self.x(mark.place, 100)}%" y="{self.y(mark.root, 100)}%" class="mark">'
-                f'<title>{escape(title)}</title><path d="{shape}"/></svg>')
+        shape, name = (SMALL_MARK, "small mark") if self.is_dense() else (WIDE_MARK, "mark")
+        if mark.count > 1:
+            label = f"{counted(mark.count, 'refusal')} here, the highest: {label}"
+        return (f'<svg x="{self.x(mark.place, 100)}%" y="{self.y(mark.root, 100)}%" class="{name}">'
+                f'<title>{escape(label)}</title><path d="{shape}"/></svg>')
+
+    def is_dense(self) -> bool:
+        """Whether there are so many marks that each is small."""
+        return len(self.marks) > DENSE
 
     def markup(self, labels: list[str]) -> str:
         """The plot, for the inside of an `svg` element; a label for each mark."""
         line, limit = self.path(), self.y(self.limit)
         lines = (
-            f'<svg viewBox="0 0 {UNITS} {UNITS}" preserveAspectRatio="none" width="100%" height="100%">'
-            f'<rect class="above" width="{UNITS}" height="{limit}"/>'
+            f'<svg viewBox="0 0 {UNITS} {UNITS}" preserveAspectRatio="none" width="100%"'
+            f' height="100%"><rect class="above" width="{UNITS}" height="{limit}"/>'
             f'<path class="area" d="{line}V{UNITS}H0Z"/>'
             f'<path class="limit" d="M0 {limit}H{UNITS}"/>'
             f'<path class="root" d="{line}"/></svg>')
@@ -71,7 +76,8 @@ class Plot:
         left, right = (max(root for _, root in part)
                        for part in (self.points[:quarter], self.points[-quarter:]))
         end = ' x="100%" text-anchor="end"' if right < left else ' x="0"'
-        return (f'<text class="limit-text"{end} y="{self.y(self.limit, 100)}%" dy="-6">'
+        rise = -14 if self.is_dense() else -6
+        return (f'<text class="limit-text"{end} y="{self.y(self.limit, 100)}%" dy="{rise}">'
                 f'limit {grouped(self.limit)}</text>')
 
 

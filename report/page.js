@@ -36,7 +36,7 @@ function sortOf(fate) {
   return fate[0] === "untold" ? "all" : "reports";
 }
 
-// ---- filters
+// Filters
 
 function option(select, value, label) {
   const item = made("option", label);
@@ -109,7 +109,7 @@ function clear() {
   filter();
 }
 
-// ---- rows
+// Rows
 
 function cell(label, content, className) {
   const td = made("td", undefined, className);
@@ -139,8 +139,8 @@ function outcome(row) {
   sign.setAttribute("aria-hidden", "true");
   badge.prepend(sign);
   box.append(badge);
-  if (cause) box.append(made("span", cause, "under"));
   if (run.tree[row] >= 0) box.append(standingButton(row));
+  if (cause) box.append(made("span", cause, "under"));
   return box;
 }
 
@@ -191,7 +191,7 @@ function turn(pages) {
   byId("requests").scrollIntoView();
 }
 
-// ---- what stood there
+// What stood there
 
 // What each session had posted last at a place of a tree, and what this one had before.
 function standingAt(lines, place, session) {
@@ -263,7 +263,7 @@ async function toggle(button, row) {
   }
 }
 
-// ---- the page
+// The page
 
 function showTree(tree) {
   clear();

@@ -12,6 +12,7 @@ from report.text import counted, grouped, readable
 from report.trees import FirstRefusal, TreeView, first_refusal
 
 SHOWN = 12
+STANDING_SHOWN = 6
 COLUMNS = 480
 COLUMNS_OF_OTHERS = 160
 
@@ -75,8 +76,8 @@ def card(run: Run, view: TreeView) -> str:
                ("at the end", grouped(view.at_end)),
                ("refused", grouped(len(view.refusals)))], "stats"),
         f'<svg class="plot" role="img" aria-label="{escape(view.summary())}">{view.markup()}</svg>',
-        f'<p class="axis" aria-hidden="true"><span>0</span><span>{counted(len(view.history), "post")}'
-        '</span></p>',
+        '<p class="axis" aria-hidden="true"><span>0</span>'
+        f'<span>{counted(len(view.history), "post")}</span></p>',
         element("p", thinning_text(view), class_="note") if view.plot.is_thinned() else "", "</div>",
     ]
     first = first_refusal(view, run.rows)
@@ -94,10 +95,13 @@ def heading_text(tree: Tree) -> str:
 
 def thinning_text(view: TreeView) -> str:
     """What was left out of a picture, and what wasn't."""
-    return (f"Drawn with {grouped(len(view.plot.points))} of {grouped(len(view.history.roots))} points:"
-            " of each column the first, the last, the highest and the lowest, so no peak is lost. Each"
-            f" of {counted(len(view.plot.marks), 'mark')} stands for the refusals of its column, at the"
-            " highest of them.")
+    plot = view.plot
+    text = (f"Drawn with {grouped(len(plot.points))} of {grouped(len(view.history.roots))} points: each"
+            " column keeps its first, last, highest and lowest, so no peak is lost.")
+    if len(plot.marks) < len(view.refusals):
+        text += (f" {counted(len(plot.marks), 'mark stands', 'marks stand')} for"
+                 f" {counted(len(view.refusals), 'refusal')}, each at the highest of its column.")
+    return text
 
 
 def first_block(view: TreeView, first: FirstRefusal) -> str:
@@ -106,15 +110,21 @@ def first_block(view: TreeView, first: FirstRefusal) -> str:
     lead = (f"First refused: {first.order_id} of session {first.session}, after"
             f" {counted(first.place, 'post')}. With it the root was {grouped(first.root)},"
             f" {grouped(above)} above the limit. There stood:")
-    items = "".join(
-        f'<li{" class=own" if session == first.session else ""}>'
-        f'{element("span", f"session {session}" + (", with this order" if session == first.session else ""))}'
-        f'{element("b", grouped(value))}{bar(value, first.root)}</li>'
-        for session, value in first.standing.items() if value)
+    standing = {session: value for session, value in first.standing.items() if value}
+    items = "".join(standing_item(session, value, first) for session, value in standing.items())
+    scrolls = ' tabindex="0" aria-label="what stood there"' if len(standing) > STANDING_SHOWN else ""
     button = element("button", f"Show the {counted(len(view.refusals), 'refusal')}", type="button",
                      class_="quiet needs-script", data_tree=view.tree.number)
-    return (f'<div class="first">{element("p", lead)}<ul class="standing" tabindex="0" aria-label="what stood there">{items}</ul>'
+    return (f'<div class="first">{element("p", lead)}<ul class="standing"{scrolls}>{items}</ul>'
             f'{button}</div>')
+
+
+def standing_item(session: int, value: int, first: FirstRefusal) -> str:
+    """What a session had posted where a request was refused."""
+    is_own = session == first.session
+    text = f"session {session}, with this request" if is_own else f"session {session}"
+    return (f'<li class="{"own" if is_own else "other"}">{element("span", text)}'
+            f'{element("b", grouped(value))}{bar(value, first.root)}</li>')
 
 
 def pictures(run: Run, views: list[TreeView]) -> str:

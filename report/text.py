@@ -29,11 +29,14 @@ def grouped(number: int) -> str:
 
 
 def share(part: int, whole: int) -> str:
-    """How much of the whole the part is, in percent: `90 %`. Of nothing it is a dash."""
+    """How much of the whole the part is, in percent, rounded down: `90 %`, `99.9 %`; below 10 and
+    from 99 on with one decimal. Of nothing it is a dash."""
     if whole == 0:
         return "–"
-    percent = 100 * part / whole
-    return f"{percent:.0f} %" if percent >= 10 or percent == 0 else f"{percent:.1f} %"
+    tenths = 1000 * part // whole
+    if tenths % 10 and (tenths < 100 or tenths > 990):
+        return f"{tenths // 10}.{tenths % 10} %"
+    return f"{tenths // 10} %"
 
 
 def counted(number: int, one: str, more: str = "") -> str:
