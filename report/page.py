@@ -5,21 +5,15 @@ import hashlib
 import json
 import zlib
 from html import escape
-from pathlib import Path
 from typing import Iterator
 
 from report import sections
+from report.assets import asset
 from report.requests import Columns
 from report.run import Run
 from report.text import counted
 
-FOLDER = Path(__file__).resolve().parent
 LEVEL = 6
-
-
-def asset(name: str) -> str:
-    """A text that stands beside this module."""
-    return (FOLDER / name).read_text(encoding="utf-8")
 
 
 def allowed(text: str) -> str:
@@ -73,7 +67,7 @@ def head(style: str, script: str) -> str:
 
 def page(run: Run, limits_name: str) -> Iterator[str]:
     """The pieces of the page, in order."""
-    style, script = asset("page.css"), asset("page.js")
+    style, script = asset("plot.css") + asset("page.css"), asset("page.js")
     views = sections.views_of(run)
     yield head(style, script)
     body = asset("page.html").split("<!-- cut -->")
