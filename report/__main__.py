@@ -42,8 +42,8 @@ def write_report(limits: Path, out: Path, sessions: list[Path]) -> None:
 
 
 def main(words: list[str]) -> int:
-    """The status: 0 written, 2 the words are no form, 3 a file can't be read or written or isn't what
-    it should be, 4 the files don't belong together."""
+    """The status: 0 written, 2 the words are no form, 3 a file can't be read or written or isn't
+    what it should be, 4 the files don't belong together."""
     if not is_form(words):
         print(USAGE, file=sys.stderr)
         return NO_FORM

@@ -8,8 +8,8 @@ from report.frames import End, WHOLE
 from report.journal import Acts, Outcome
 from report.limits import Limits
 from report.messages import (
-    ACCOUNT, CANCEL_REJECT, Fields, NEW, OF_THE_SESSION, ORDER_ID, REPLACE, REPORT, REPORTS, REQUESTS,
-    SYMBOL, kind_name, kind_of)
+    ACCOUNT, CANCEL_REJECT, Fields, NEW, OF_THE_SESSION, ORDER_ID, REPLACE, REPORT, REPORTS,
+    REQUESTS, SYMBOL, kind_name, kind_of)
 
 
 class Step(NamedTuple):
@@ -101,10 +101,11 @@ def agree_with_limits(session: str, step: Step, limits: Limits) -> None:
     if kinds != ["halt", "firm", "account", "symbol"]:
         raise Apart(f"{session}, frame {step.frame}: the reads aren't those of the halt tree and of"
                     " the firm's, an account's and a symbol's")
-    trees = (limits.accounts.get(step.fields.get(ACCOUNT)), limits.symbols.get(step.fields.get(SYMBOL)))
+    trees = (limits.accounts.get(step.fields.get(ACCOUNT)),
+             limits.symbols.get(step.fields.get(SYMBOL)))
     if step.kind == NEW and trees != (outcome.reads[2].tree, outcome.reads[3].tree):
-        raise Apart(f"{session}, frame {step.frame}: the journal's trees aren't those of the order's"
-                    " account and symbol")
+        raise Apart(f"{session}, frame {step.frame}: the journal's trees aren't those of the"
+                    " order's account and symbol")
     if first_above(outcome, limits) != (outcome.code if by_tree else 0):
         raise Apart(f"{session}, frame {step.frame}: by the limit file the order isn't"
                     f" {outcome.word} as the journal says")
@@ -122,14 +123,15 @@ def first_above(outcome: Outcome, limits: Limits) -> int:
 def agree_on_end(session: str, end: End, acts: Acts) -> None:
     """The session ended as its file does, or stopped by a fault before."""
     if acts.end.number not in verdicts.STOPPED and acts.end != end:
-        raise Apart(f"{session}: its file ends so: {verdicts.end_text(end)}; by the journal it ended"
-                    f" so: {verdicts.end_text(acts.end)}")
+        raise Apart(f"{session}: its file ends so: {verdicts.end_text(end)}; by the journal it"
+                    f" ended so: {verdicts.end_text(acts.end)}")
 
 
 class Stream:
     """What the gate wrote to the venue or to the client of a session, taken message by message."""
 
-    def __init__(self, session: str, name: str, bodies: list[bytes | None], end: End, stopped: bool):
+    def __init__(self, session: str, name: str, bodies: list[bytes | None], end: End,
+                 stopped: bool):
         self.session, self.name = session, name
         self.bodies, self.end, self.stopped = bodies, end, stopped
         self.at = 0
@@ -142,8 +144,8 @@ class Stream:
         is_it = body is not None and body.startswith(b"35=" + kind + b"\x01") and (
             order_id is None or ORDER_ID + order_id + b"\x01" in body) and body.endswith(ending)
         if not is_it:
-            raise Apart(f"{self.session}, frame {step.frame}: message {self.at} of {self.name} isn't"
-                        " what the gate wrote of it")
+            raise Apart(f"{self.session}, frame {step.frame}: message {self.at} of {self.name}"
+                        " isn't what the gate wrote of it")
         self.at += 1
 
     def close(self) -> None:

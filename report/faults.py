@@ -6,4 +6,5 @@ class Unreadable(Exception):
 
 
 class Apart(Exception):
-    """The files are each of their form, but don't belong to one run; the text says where they part."""
+    """The files are each of their form, but don't belong to one run; the text says where they
+    part."""

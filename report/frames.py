@@ -29,8 +29,8 @@ class End(NamedTuple):
 
 
 def read_frames(data: bytes, most: int = INPUT_MOST) -> tuple[list[bytes | None], End]:
-    """The body of each frame in order, and how the file ends. A frame that isn't sound has None: its
-    checksum is wrong, or its body isn't fields, MsgType (35) first with a value."""
+    """The body of each frame in order, and how the file ends. A frame that isn't sound has None:
+    its checksum is wrong, or its body isn't fields, MsgType (35) first with a value."""
     text, place, bodies = data[:most], 0, []
     while True:
         head = HEAD.match(text, place)

@@ -21,14 +21,16 @@ class History:
         return len(self.values)
 
     def extend(self, lines: Iterable[tuple], posted: dict[int, array]) -> bool:
-        """Appends lines (kind, session, tree, place, index, value), each of which has to be the next
-        post of its session; ends at the first that isn't."""
+        """Appends lines (kind, session, tree, place, index, value), each of which has to be the
+        next post of its session; ends at the first that isn't."""
         counts, root, place = self.counts, self.roots[-1], len(self)
         for _, session, _, at, index, value in lines:
             place, session, value = place + 1, int(session), int(value)
             count = counts.get(session, 0)
             posts = posted.get(session, ())
-            if int(at) != place or int(index) != count + 1 or count >= len(posts) or posts[count] != value:
+            if int(at) != place or int(index) != count + 1:
+                return False
+            if count >= len(posts) or posts[count] != value:
                 return False
             counts[session] = count + 1
             root += value - (posts[count - 1] if count else 0)

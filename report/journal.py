@@ -23,7 +23,8 @@ class Read(NamedTuple):
 
 
 class Outcome(NamedTuple):
-    """What became of a frame: `sent`, `refused` or `noted`, its codes, and the reads it stands on."""
+    """What became of a frame: `sent`, `refused` or `noted`, its codes, and the reads that it
+    stands on."""
 
     word: str
     frame: int
@@ -63,7 +64,8 @@ class Journal:
                 values = posts[self.tree(a)]
                 values.append(int(c))
                 if int(b) != len(values):
-                    raise self.rows.fault_here(f"post {len(values)} of the session in tree {int(a)} comes next")
+                    raise self.rows.fault_here(
+                        f"post {len(values)} of the session in tree {int(a)} comes next")
             elif kind == b"read":
                 reads.append(Read(self.tree(a), int(c), int(d)))
             elif kind == b"ended":
@@ -102,11 +104,12 @@ class Journal:
         for cell, lines in self.rows.lines():
             tree = self.tree(cell)
             if tree < last:
-                raise Unreadable(f"the journal: a line of tree {tree} stands behind one of tree {last}")
+                raise Unreadable(
+                    f"the journal: a line of tree {tree} stands behind one of tree {last}")
             last = tree
             if not histories[tree].extend(lines, self.posted[tree]):
-                raise Unreadable(f"the journal: line {len(histories[tree]) + 1} of tree {tree} isn't the"
-                                 " next post of its session")
+                raise Unreadable(f"the journal: line {len(histories[tree]) + 1} of tree {tree}"
+                                 " isn't the next post of its session")
         for history in histories:
             self.agree(history)
         return histories
@@ -118,5 +121,5 @@ class Journal:
             raise Unreadable(f"the journal: tree {tree} has posts without a line")
         for place, value in zip(self.read_places[tree], self.read_values[tree]):
             if place >= len(roots) or roots[place] != value:
-                raise Unreadable(f"the journal: a read of tree {tree} at place {place} gives {value},"
-                                 " which isn't the root there")
+                raise Unreadable(f"the journal: a read of tree {tree} at place {place} gives"
+                                 f" {value}, which isn't the root there")

@@ -33,7 +33,8 @@ class Tree(NamedTuple):
 
 
 class Limits(NamedTuple):
-    """The trees in order, the halt tree last, and the number of the tree of each account and symbol."""
+    """The trees in order, the halt tree last, and the number of the tree of each account and
+    symbol."""
 
     trees: list[Tree]
     accounts: dict[bytes, int]

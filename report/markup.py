@@ -17,15 +17,17 @@ def spelled(attributes: dict[str, str]) -> str:
 
 def facts(pairs: Iterable[tuple[str, object]], class_: str) -> str:
     """A list of names with their values."""
-    items = "".join(f"<div>{element('dt', name)}{element('dd', value)}</div>" for name, value in pairs)
+    items = "".join(
+        f"<div>{element('dt', name)}{element('dd', value)}</div>" for name, value in pairs)
     return f'<dl class="{class_}">{items}</dl>'
 
 
 def bar(part: int, whole: int) -> str:
     """A bar that shows how much of the whole the part is. Its text stands beside it."""
     width = 0 if whole <= 0 else min(100, 100 * part / whole)
-    return ('<svg class="bar" aria-hidden="true" width="100%" height="6"><rect class="rail" width="100%"'
-            f' height="6" rx="3"/><rect class="part" width="{width:.1f}%" height="6" rx="3"/></svg>')
+    return ('<svg class="bar" aria-hidden="true" width="100%" height="6">'
+            '<rect class="rail" width="100%" height="6" rx="3"/>'
+            f'<rect class="part" width="{width:.1f}%" height="6" rx="3"/></svg>')
 
 
 def table(caption: str, heads: Iterable[tuple[str, str]], rows: Iterable[Iterable[str]]) -> str:

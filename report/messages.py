@@ -20,7 +20,8 @@ REPORTS = frozenset({REPORT, CANCEL_REJECT})
 OF_THE_SESSION = frozenset({b"0", b"1", b"2", b"3", b"4", b"5", b"A"})
 SIDES = {b"1": b"buy", b"2": b"sell", b"5": b"sell short", b"6": b"sell short exempt"}
 EXEC_TYPES = {
-    b"0": "new", b"4": "canceled", b"5": "replaced", b"8": "rejected", b"C": "expired", b"F": "trade",
+    b"0": "new", b"4": "canceled", b"5": "replaced", b"8": "rejected", b"C": "expired",
+    b"F": "trade",
 }
 
 

@@ -86,17 +86,28 @@ function choose(sort) {
   document.querySelector(`input[name=sort][value=${sort}]`).checked = true;
 }
 
+function wordsWith(wanted) {
+  const found = new Set();
+  if (wanted) {
+    run.words.forEach((word, number) => {
+      if (word.toLowerCase().includes(wanted)) found.add(number);
+    });
+  }
+  return found;
+}
+
 function filter() {
   const sort = chosenSort();
   const fate = byId("fate").value, tree = byId("tree").value, session = byId("session").value;
   const wanted = byId("search").value.trim().toLowerCase();
-  const found = new Set();
-  if (wanted) run.words.forEach((word, number) => word.toLowerCase().includes(wanted) && found.add(number));
+  const found = wordsWith(wanted);
   const fits = run.fates.map((other) => sort === "all" || sortOf(other) === sort);
   shown = [];
   for (let row = 0; row < run.session.length; row += 1) {
-    if (fits[run.fate[row]] && (fate === "" || run.fate[row] === +fate)
-      && (tree === "" || run.tree[row] === +tree) && (session === "" || run.session[row] === +session)
+    if (fits[run.fate[row]]
+      && (fate === "" || run.fate[row] === +fate)
+      && (tree === "" || run.tree[row] === +tree)
+      && (session === "" || run.session[row] === +session)
       && (!wanted || SEARCHED.some((column) => found.has(run[column][row])))) shown.push(row);
   }
   page = 0;
@@ -127,7 +138,8 @@ function under(main, more, className) {
 
 function asked(row) {
   const price = text("price", row);
-  const parts = [text("side", row), text("quantity", row), text("symbol", row), price && `at ${price}`];
+  const order = ["side", "quantity", "symbol"].map((column) => text(column, row));
+  const parts = [...order, price && `at ${price}`];
   return under(parts.filter(Boolean).join(" ") || "–", text("message", row));
 }
 
@@ -176,9 +188,10 @@ function render(most = ROWS_A_PAGE) {
   const first = page * ROWS_A_PAGE, rows = shown.slice(first, first + most);
   byId("rows").replaceChildren(...rows.map(rowOf));
   const all = grouped(run.session.length);
+  const range = `${grouped(first + 1)} to ${grouped(first + rows.length)}`;
   byId("count").textContent = shown.length === 0
     ? `None of ${all} rows fits the filters.`
-    : `Rows ${grouped(first + 1)} to ${grouped(first + rows.length)} of ${grouped(shown.length)} that fit, of ${all} in all.`;
+    : `Rows ${range} of ${grouped(shown.length)} that fit, of ${all} in all.`;
   const pages = Math.max(1, Math.ceil(shown.length / ROWS_A_PAGE));
   byId("page-text").textContent = `page ${grouped(page + 1)} of ${grouped(pages)}`;
   byId("previous").disabled = page === 0;
@@ -202,7 +215,8 @@ function standingAt(lines, place, session) {
     if (of === session) before = standing.get(of) || 0;
     standing.set(of, lines.values[at]);
   }
-  return { standing: [...standing].filter((pair) => pair[1] > 0).sort((a, b) => a[0] - b[0]), before };
+  const above = [...standing].filter((pair) => pair[1] > 0);
+  return { standing: above.sort((one, other) => one[0] - other[0]), before };
 }
 
 function bar(part, whole) {
@@ -224,10 +238,12 @@ function bar(part, whole) {
 
 function leadOf(row) {
   const [title, limit] = run.trees[run.tree[row]];
-  const place = `After ${grouped(run.place[row])} ${run.place[row] === 1 ? "post" : "posts"} in the tree of ${title}`;
+  const posts = run.place[row] === 1 ? "1 post" : `${grouped(run.place[row])} posts`;
+  const place = `After ${posts} in the tree of ${title}`;
   if (limit === null) return `${place} the firm was halted.`;
   const root = run.root[row];
-  return `${place} the root was ${grouped(root)}, with this request: ${grouped(root - limit)} above the limit of ${grouped(limit)}. There stood:`;
+  const above = `${grouped(root - limit)} above the limit of ${grouped(limit)}`;
+  return `${place} the root was ${grouped(root)}, with this request: ${above}. There stood:`;
 }
 
 async function detailOf(row) {
@@ -237,8 +253,10 @@ async function detailOf(row) {
   const list = made("ul", undefined, "standing");
   for (const [of, value] of standing) {
     const item = made("li", undefined, of === session ? "own" : "");
-    const own = of === session && run.trees[tree][1] !== null ? `, with this request (before it ${grouped(before)})` : "";
-    item.append(made("span", `session ${of}: ${run.sessions[of]}${own}`), made("b", grouped(value)), bar(value, run.root[row]));
+    const isOwn = of === session && run.trees[tree][1] !== null;
+    const own = isOwn ? `, with this request (before it ${grouped(before)})` : "";
+    const name = made("span", `session ${of}: ${run.sessions[of]}${own}`);
+    item.append(name, made("b", grouped(value)), bar(value, run.root[row]));
     list.append(item);
   }
   const td = made("td");
@@ -277,7 +295,9 @@ function showTree(tree) {
 function listen() {
   let waiting = 0;
   document.querySelector(".filters").addEventListener("submit", (event) => event.preventDefault());
-  for (const id of ["fate", "tree", "session", "sorts"]) byId(id).addEventListener("change", filter);
+  for (const id of ["fate", "tree", "session", "sorts"]) {
+    byId(id).addEventListener("change", filter);
+  }
   byId("search").addEventListener("input", () => {
     clearTimeout(waiting);
     waiting = setTimeout(filter, 150);
@@ -299,7 +319,8 @@ async function begin() {
   try {
     run = await unpacked("requests-data");
   } catch (fault) {
-    byId("count").textContent = `The rows can't be read here (${fault.message}); they all stand in requests.csv.`;
+    byId("count").textContent =
+      `The rows can't be read here (${fault.message}); they all stand in requests.csv.`;
     return;
   }
   makeSorts();

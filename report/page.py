@@ -61,7 +61,8 @@ def head(style: str, script: str) -> str:
     return ('<!doctype html>\n<html lang="en">\n<head>\n<meta charset="utf-8">\n'
             f'<meta http-equiv="Content-Security-Policy" content="{policy}">\n'
             '<meta name="viewport" content="width=device-width, initial-scale=1">\n'
-            '<meta name="color-scheme" content="light dark">\n<title>Report of a run of the gate</title>\n'
+            '<meta name="color-scheme" content="light dark">\n'
+            "<title>Report of a run of the gate</title>\n"
             f"<style>{style}</style>\n</head>\n")
 
 

@@ -31,8 +31,8 @@ def standing_text(view: TreeView, run: Run) -> str:
         return "No request was refused by this limit."
     stood = ", ".join(f"{grouped(value)} of session {session}"
                       for session, value in first.standing.items() if value)
-    return (f"First refused: {first.order_id} of session {first.session}, root {grouped(first.root)}."
-            f" There stood: {stood}.")
+    return (f"First refused: {first.order_id} of session {first.session}, root"
+            f" {grouped(first.root)}. There stood: {stood}.")
 
 
 def picture(run: Run) -> str:

@@ -55,7 +55,8 @@ def refusing_read(outcome: Outcome | None) -> Read | None:
 
 class Row(NamedTuple):
     """A request or a report. `words` are the numbers of time (52), ClOrdID (11), OrigClOrdID (41),
-    account (1), symbol (55), side (54), quantity, price and the message's name; `read` refused it."""
+    account (1), symbol (55), side (54), quantity, price and the message's name; `read` is what
+    refused it."""
 
     session: int
     frame: int
@@ -103,7 +104,7 @@ class Rows:
         return self.fates[key]
 
     def against(self, read: Read | None) -> tuple[str | int, str | int, str | int, str | int]:
-        """The tree that refused a request, its root, its limit and by how much the root is above."""
+        """The tree that refused a request, its root, its limit, and how much the root is above."""
         if read is None:
             return "", "", "", ""
         tree = self.trees[read.tree]
@@ -151,7 +152,8 @@ class Columns:
         if read is not None:
             self.refusals.setdefault(read.tree, array("L")).append(len(self))
         fate = self.fates.setdefault(row.fate, len(self.fates))
-        for column, value in zip(self.numbers, (row.session, row.frame, fate, *(read or (-1, 0, 0)))):
+        values = (row.session, row.frame, fate, *(read or (-1, 0, 0)))
+        for column, value in zip(self.numbers, values):
             column.append(value)
         for column, number in zip(self.texts, row.words):
             column.append(number)

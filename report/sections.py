@@ -12,7 +12,7 @@ from report.text import counted, grouped, readable
 from report.trees import FirstRefusal, TreeView, first_refusal
 
 SHOWN = 12
-STANDING_SHOWN = 6
+STANDING_SHOWN = 8
 COLUMNS = 480
 COLUMNS_OF_OTHERS = 160
 
@@ -26,7 +26,8 @@ def session_names(run: Run) -> list[str]:
     """The sessions' files: their last parts, where these tell all of them apart."""
     names = [session.name for session in run.sessions]
     last_parts = [PurePath(name).name for name in names]
-    return [file_text(name) for name in (last_parts if len(set(last_parts)) == len(names) else names)]
+    told_apart = len(set(last_parts)) == len(names)
+    return [file_text(name) for name in (last_parts if told_apart else names)]
 
 
 def views_of(run: Run) -> list[TreeView]:
@@ -78,7 +79,8 @@ def card(run: Run, view: TreeView) -> str:
         f'<svg class="plot" role="img" aria-label="{escape(view.summary())}">{view.markup()}</svg>',
         '<p class="axis" aria-hidden="true"><span>0</span>'
         f'<span>{counted(len(view.history), "post")}</span></p>',
-        element("p", thinning_text(view), class_="note") if view.plot.is_thinned() else "", "</div>",
+        element("p", thinning_text(view), class_="note") if view.plot.is_thinned() else "",
+        "</div>",
     ]
     first = first_refusal(view, run.rows)
     if first is not None:
@@ -96,8 +98,8 @@ def heading_text(tree: Tree) -> str:
 def thinning_text(view: TreeView) -> str:
     """What was left out of a picture, and what wasn't."""
     plot = view.plot
-    text = (f"Drawn with {grouped(len(plot.points))} of {grouped(len(view.history.roots))} points: each"
-            " column keeps its first, last, highest and lowest, so no peak is lost.")
+    text = (f"Drawn with {grouped(len(plot.points))} of {grouped(len(view.history.roots))} points:"
+            " each column keeps its first, last, highest and lowest, so no peak is lost.")
     if len(plot.marks) < len(view.refusals):
         text += (f" {counted(len(plot.marks), 'mark stands', 'marks stand')} for"
                  f" {counted(len(view.refusals), 'refusal')}, each at the highest of its column.")
@@ -112,7 +114,9 @@ def first_block(view: TreeView, first: FirstRefusal) -> str:
             f" {grouped(above)} above the limit. There stood:")
     standing = {session: value for session, value in first.standing.items() if value}
     items = "".join(standing_item(session, value, first) for session, value in standing.items())
-    scrolls = ' tabindex="0" aria-label="what stood there"' if len(standing) > STANDING_SHOWN else ""
+    scrolls = ""
+    if len(standing) > STANDING_SHOWN:
+        scrolls = ' tabindex="0" aria-label="what stood there"'
     button = element("button", f"Show the {counted(len(view.refusals), 'refusal')}", type="button",
                      class_="quiet needs-script", data_tree=view.tree.number)
     return (f'<div class="first">{element("p", lead)}<ul class="standing"{scrolls}>{items}</ul>'
@@ -143,10 +147,11 @@ def sessions_table(run: Run) -> str:
     firm = run.histories[0]
     standing = firm.standing(len(firm))
     heads = [("session", "key"), ("file", "wide"), ("client (49)", ""), ("ended", "wide"),
-             ("requests", "number"), ("sent", "number"), ("refused", "number"), ("reports", "number"),
-             ("other frames", "wide"), ("posted at the end, firm", "number")]
-    rows = [session_cells(number, name, run.sessions[number], standing.get(number, 0), firm.tree.limit)
-            for number, name in enumerate(session_names(run))]
+             ("requests", "number"), ("sent", "number"), ("refused", "number"),
+             ("reports", "number"), ("other frames", "wide"), ("posted at the end, firm", "number")]
+    rows = [
+        session_cells(number, name, run.sessions[number], standing.get(number, 0), firm.tree.limit)
+        for number, name in enumerate(session_names(run))]
     return table("What each session did", heads, rows)
 
 
@@ -183,6 +188,7 @@ def trees_table(run: Run, views: list[TreeView]) -> str:
             for view in sorted(views, key=lambda view: view.tree.number)]
     halt = run.histories[-1]
     refused = len(run.rows.refusals.get(halt.tree.number, ()))
-    rows.append([str(halt.tree.number), f"halt: {halted_by(run)}", "none", "–", "–", "–",
+    tripped = f"halt, tripped {halted_by(run)}" if len(halt) else "halt, not tripped"
+    rows.append([str(halt.tree.number), tripped, "none", "–", "–", "–",
                  grouped(halt.roots[-1]), grouped(len(halt)), grouped(refused)])
     return table("How far each limit was used", heads, rows)

@@ -41,8 +41,8 @@ class TreeView:
 
     def summary(self) -> str:
         """The picture in a sentence, for who doesn't see it."""
-        return (f"{self.tree.title()}: limit {grouped(self.tree.limit)}; orders were sent up to a root"
-                f" of {grouped(self.highest_sent)}; the highest root posted is"
+        return (f"{self.tree.title()}: limit {grouped(self.tree.limit)}; orders were sent up to a"
+                f" root of {grouped(self.highest_sent)}; the highest root posted is"
                 f" {grouped(self.highest_posted)}; refused: {grouped(len(self.refusals))}.")
 
 

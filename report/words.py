@@ -4,8 +4,8 @@ from report.text import readable, spreadsheet_cell
 
 
 class Words:
-    """Values of fields by number: `texts` as a page shows them, `cells` as a spreadsheet takes them.
-    Number 0 is the empty text, and that of a field that isn't there."""
+    """Values of fields by number: `texts` as a page shows them, `cells` as a spreadsheet takes
+    them. Number 0 is the empty text, and that of a field that isn't there."""
 
     def __init__(self):
         self.numbers = {b"": 0, None: 0}

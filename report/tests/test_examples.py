@@ -9,9 +9,10 @@ import unittest
 import zlib
 from pathlib import Path
 
+from report import picture
 from report.__main__ import DONE, main
 from report.tests.quiet import quiet
-from report.tests.runs import TIME, example
+from report.tests.runs import TIME, TOP, example
 
 HEADER = ["session", "frame", "time", "ClOrdID", "OrigClOrdID", "account", "symbol", "side",
           "quantity", "price", "outcome", "tree", "root", "limit", "excess", "message"]
@@ -85,18 +86,18 @@ class Examples(unittest.TestCase):
         want = {
             "first": ["0 firm 1,000 1,000 100 % 1,200 1,000 4 1",
                       "1 account ACC 100,000 1,000 1 % 1,200 1,000 4 0",
-                      "2 symbol XYZ 100,000 1,000 1 % 1,200 1,000 4 0", "3 halt: no none – – – 0 0 0"],
+                      "2 symbol XYZ 100,000 1,000 1 % 1,200 1,000 4 0", "3 halt, not tripped none – – – 0 0 0"],
             "desk": ["0 firm 9,000 7,500 83 % 9,500 7,500 9 1",
                      "1 account ALPHA 6,000 3,500 58 % 6,500 3,500 6 1",
                      "2 account BETA 7,000 4,000 57 % 6,500 4,000 3 0",
                      "3 symbol ABC 4,000 3,000 75 % 4,500 3,000 3 1",
                      "4 symbol XYZ 5,000 4,000 80 % 4,000 4,000 3 0",
-                     "5 symbol MNO 8,000 500 6.2 % 2,500 500 3 0", "6 halt: no none – – – 0 0 0"],
+                     "5 symbol MNO 8,000 500 6.2 % 2,500 500 3 0", "6 halt, not tripped none – – – 0 0 0"],
             "firm": ["0 firm 5,000 4,500 90 % 5,500 4,500 12 3",
                      "1 account ALPHA 4,000 3,000 75 % 3,700 3,000 7 0",
                      "2 account BETA 4,000 1,500 37 % 2,500 1,500 5 0",
                      "3 symbol XYZ 100,000 4,500 4.5 % 5,500 4,500 12 0",
-                     "4 halt: by session 2 none – – – 1 1 2"],
+                     "4 halt, tripped by session 2 none – – – 1 1 2"],
         }
         for name, rows in want.items():
             part = re.search(r'id="trees".*?</table>', self.written(name), re.DOTALL)[0]
@@ -151,10 +152,20 @@ class Examples(unittest.TestCase):
             ("41.7", "25.2", "c1 of session 2, root 5,100, 100 above the limit"),
             ("58.3", "23.8", "c2 of session 2, root 5,200, 200 above the limit")])
 
+    def test_stored_picture(self):
+        """The picture that the README shows is the one that the report makes of the firm."""
+        words = example("firm", self.out)
+        picture.main([str(self.out / "firm.svg"), *words])
+        made = (self.out / "firm.svg").read_text(encoding="utf-8")
+        self.assertEqual((TOP / "docs" / "report.svg").read_text(encoding="utf-8"), made)
+        self.assertIn("First refused: b1 of session 1, root 5,500. There stood: 3,000 of session 0, 2,500"
+                      " of session 1.", made)
+
     def test_no_network(self):
         """The page names nothing that it would have to fetch."""
         html = self.written("firm")
-        self.assertEqual(re.findall(r'(?:src|href)="(?!#)[^"]*"|url\(|@import|https?://(?!www\.w3\.org/2000/svg)', html), [])
+        fetches = r'(?:src|href)="(?!#)[^"]*"|url\(|@import|https?://(?!www\.w3\.org/2000/svg)'
+        self.assertEqual(re.findall(fetches, html), [])
         self.assertIn("default-src 'none'", html)
 
 
