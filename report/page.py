@@ -14,6 +14,7 @@ from report.run import Run
 from report.text import counted
 
 LEVEL = 6
+SCRIPTS = ("rows.js", "filters.js", "standing.js", "page.js")
 
 
 def allowed(text: str) -> str:
@@ -68,7 +69,8 @@ def head(style: str, script: str) -> str:
 
 def page(run: Run, limits_name: str) -> Iterator[str]:
     """The pieces of the page, in order."""
-    style, script = asset("plot.css") + asset("page.css"), asset("page.js")
+    style = asset("plot.css") + asset("page.css")
+    script = "".join(map(asset, SCRIPTS))
     views = sections.views_of(run)
     yield head(style, script)
     body = asset("page.html").split("<!-- cut -->")
