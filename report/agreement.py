@@ -141,9 +141,9 @@ class Stream:
         if self.at == len(self.bodies) and self.stopped:
             return
         body = self.bodies[self.at] if self.at < len(self.bodies) else None
-        is_it = body is not None and body.startswith(b"35=" + kind + b"\x01") and (
-            order_id is None or ORDER_ID + order_id + b"\x01" in body) and body.endswith(ending)
-        if not is_it:
+        is_it = body is not None and body.startswith(b"35=%b\x01" % kind) and (
+            order_id is None or b"%b%b\x01" % (ORDER_ID, order_id) in body)
+        if not is_it or not body.endswith(ending):
             raise Apart(f"{self.session}, frame {step.frame}: message {self.at} of {self.name}"
                         " isn't what the gate wrote of it")
         self.at += 1

@@ -57,11 +57,11 @@ def kind_name(kind: bytes | None) -> str:
     return NAMES.get(kind) or f"a message of another type (35={readable(kind)})"
 
 
-def quantity_and_price(kind: bytes, exec_type: bytes | None, fields: Fields) -> tuple:
-    """OrderQty (38) and Price (44), or of a trade LastQty (32) and LastPx (31)."""
+def quantity_and_price(kind: bytes, exec_type: bytes | None) -> tuple[bytes, bytes]:
+    """The tags OrderQty (38) and Price (44), or of a trade LastQty (32) and LastPx (31)."""
     if kind == REPORT and exec_type == b"F":
-        return fields.get(LAST_QUANTITY), fields.get(LAST_PRICE)
-    return fields.get(QUANTITY), fields.get(PRICE)
+        return LAST_QUANTITY, LAST_PRICE
+    return QUANTITY, PRICE
 
 
 def message_name(kind: bytes, exec_type: bytes | None) -> str:

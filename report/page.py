@@ -9,7 +9,6 @@ from typing import Iterator
 
 from report import sections
 from report.assets import asset
-from report.requests import Columns
 from report.run import Run
 from report.text import counted
 
@@ -38,12 +37,12 @@ def requests_json(run: Run) -> Iterator[str]:
     """The rows, a column at a time, with the words, fates, trees and sessions that they name."""
     rows = run.rows
     heads = {
-        "words": rows.words.texts, "fates": list(rows.fates),
+        "words": rows.rows.words.texts, "fates": rows.rows.fates,
         "trees": [[history.tree.title(), history.tree.limit] for history in run.histories],
         "sessions": sections.session_names(run),
     }
     yield json.dumps(heads)[:-1]
-    for name, column in zip(Columns.NUMBERS + Columns.TEXTS, rows.numbers + rows.texts):
+    for name, column in rows.columns():
         yield f',"{name}":' + json.dumps(column.tolist(), separators=(",", ":"))
     yield "}"
 

@@ -1,8 +1,7 @@
 """A row for each request and each report of a run: for the spreadsheet and for the page."""
 
-import csv
 from array import array
-from typing import NamedTuple, TextIO
+from typing import Iterator, NamedTuple, TextIO
 
 from report import verdicts
 from report.agreement import Step
@@ -11,7 +10,7 @@ from report.limits import Tree
 from report.messages import (
     ACCOUNT, EXEC_TYPE, ORDER_ID, ORIGINAL_ID, REPORT, SIDE, SIDES, SYMBOL, TIME, message_name,
     quantity_and_price)
-from report.text import spreadsheet_cell
+from report.text import csv_cell, spreadsheet_cell
 from report.words import Words
 
 HEADER = ("session", "frame", "time", "ClOrdID", "OrigClOrdID", "account", "symbol", "side",
@@ -55,38 +54,40 @@ def refusing_read(outcome: Outcome | None) -> Read | None:
 
 class Row(NamedTuple):
     """A request or a report. `words` are the numbers of time (52), ClOrdID (11), OrigClOrdID (41),
-    account (1), symbol (55), side (54), quantity, price and the message's name; `read` is what
-    refused it."""
+    account (1), symbol (55), side (54), quantity, price and the message's name; `fate` is the
+    number of what became of it; `read` is what refused it."""
 
     session: int
     frame: int
     words: tuple[int, ...]
-    fate: Fate
+    fate: int
     read: Read | None
 
 
 class Rows:
     """Makes rows, with the words and fates that they share."""
 
-    TAGS = (TIME, ORDER_ID, ORIGINAL_ID, ACCOUNT, SYMBOL)
+    TAGS = (TIME, ORDER_ID, ORIGINAL_ID, ACCOUNT, SYMBOL, SIDE)
 
     def __init__(self, trees: list[Tree]):
         self.trees = trees
         self.words = Words()
+        self.fates = []
+        self.fate_numbers = {}
         self.names = {}
-        self.fates = {}
+        number = self.words.number
+        self.sides = {number(value): number(name) for value, name in SIDES.items()}
 
     def row_of(self, session: int, step: Step) -> Row:
         """The row of a request or a report."""
-        fields, number = step.fields, self.words.number
-        exec_type = fields.get(EXEC_TYPE) if step.kind == REPORT else None
-        values = [fields.get(tag) for tag in self.TAGS]
-        side = fields.get(SIDE)
-        values += (SIDES.get(side, side), *quantity_and_price(step.kind, exec_type, fields))
-        texts = *map(number, values), self.name(step.kind, exec_type)
-        outcome = step.outcome
-        return Row(session, step.frame, texts, self.fate(step.is_told, outcome),
-                   None if outcome is None else refusing_read(outcome))
+        outcome, kind = step.outcome, step.kind
+        exec_type = step.fields.get(EXEC_TYPE) if kind == REPORT else None
+        tags = self.TAGS + quantity_and_price(kind, exec_type)
+        *texts, side, quantity, price = self.words.numbers_of(step.fields.body, tags)
+        words = (*texts, self.sides.get(side, side), quantity, price, self.name(kind, exec_type))
+        fate = self.fate(step.is_told, outcome)
+        read = refusing_read(outcome) if self.fates[fate].sort == REFUSED else None
+        return Row(session, step.frame, words, fate, read)
 
     def name(self, kind: bytes, exec_type: bytes | None) -> int:
         """The number of the message's name."""
@@ -96,36 +97,42 @@ class Rows:
             self.names[kind, exec_type] = number
         return number
 
-    def fate(self, is_told: bool, outcome: Outcome | None) -> Fate:
-        """What became of a request or a report, each fate made once."""
-        key = is_told, outcome and outcome[0:1] + outcome[2:5]
-        if key not in self.fates:
-            self.fates[key] = fate_of(*key)
-        return self.fates[key]
+    def fate(self, is_told: bool, outcome: Outcome | None) -> int:
+        """The number of what became of a request or a report."""
+        key = is_told, outcome and (outcome.word, outcome.code, outcome.first, outcome.second)
+        number = self.fate_numbers.get(key)
+        if number is None:
+            number = self.fate_numbers[key] = len(self.fates)
+            self.fates.append(fate_of(*key))
+        return number
 
-    def against(self, read: Read | None) -> tuple[str | int, str | int, str | int, str | int]:
+    def against(self, read: Read) -> tuple[str, int, int | str, int | str]:
         """The tree that refused a request, its root, its limit, and how much the root is above."""
-        if read is None:
-            return "", "", "", ""
         tree = self.trees[read.tree]
         if tree.limit is None:
             return tree.title(), read.value, "", ""
-        return spreadsheet_cell(tree.title()), read.value, tree.limit, read.value - tree.limit
+        return tree.title(), read.value, tree.limit, read.value - tree.limit
 
 
 class RequestsFile:
     """`requests.csv`, written row by row."""
 
     def __init__(self, file: TextIO, rows: Rows):
-        self.writer = csv.writer(file, lineterminator="\n")
+        self.file = file
         self.rows = rows
-        self.writer.writerow(HEADER)
+        self.file.write(",".join(HEADER) + "\n")
 
     def add(self, row: Row) -> None:
         """Writes a row."""
-        *texts, message = map(self.rows.words.cells.__getitem__, row.words)
-        self.writer.writerow((row.session, row.frame, *texts, row.fate.text,
-                              *self.rows.against(row.read), message))
+        cells = self.rows.words.cells
+        *texts, message = [cells[number] for number in row.words]
+        against = ",,,"
+        if row.read is not None:
+            title, *numbers = self.rows.against(row.read)
+            against = ",".join([csv_cell(spreadsheet_cell(title)), *map(str, numbers)])
+        fate = csv_cell(self.rows.fates[row.fate].text)
+        self.file.write(
+            f"{row.session},{row.frame},{','.join(texts)},{fate},{against},{message}\n")
 
 
 class Columns:
@@ -137,31 +144,33 @@ class Columns:
              "message")
 
     def __init__(self, rows: Rows):
-        self.words = rows.words
-        self.fates = {}
-        self.numbers = tuple(array("q") for _ in self.NUMBERS)
-        self.texts = tuple(array("L") for _ in self.TEXTS)
+        self.rows = rows
+        self.numbers = array("q")
+        self.texts = array("L")
         self.refusals = {}
 
     def __len__(self) -> int:
-        return len(self.numbers[0])
+        return len(self.numbers) // len(self.NUMBERS)
 
     def add(self, row: Row) -> None:
         """Appends a row; of a refusal by a tree its place in the columns is kept for that tree."""
         read = row.read
         if read is not None:
             self.refusals.setdefault(read.tree, array("L")).append(len(self))
-        fate = self.fates.setdefault(row.fate, len(self.fates))
-        values = (row.session, row.frame, fate, *(read or (-1, 0, 0)))
-        for column, value in zip(self.numbers, values):
-            column.append(value)
-        for column, number in zip(self.texts, row.words):
-            column.append(number)
+        self.numbers.extend((row.session, row.frame, row.fate, *(read or (-1, 0, 0))))
+        self.texts.extend(row.words)
+
+    def columns(self) -> Iterator[tuple[str, array]]:
+        """Each column with its name."""
+        for names, values in ((self.NUMBERS, self.numbers), (self.TEXTS, self.texts)):
+            for at, name in enumerate(names):
+                yield name, values[at::len(names)]
 
     def text(self, name: str, row: int) -> str:
         """A text of a row, as a page shows it."""
-        return self.words.texts[self.texts[self.TEXTS.index(name)][row]]
+        at = row * len(self.TEXTS) + self.TEXTS.index(name)
+        return self.rows.words.texts[self.texts[at]]
 
     def number(self, name: str, row: int) -> int:
         """A number of a row."""
-        return self.numbers[self.NUMBERS.index(name)][row]
+        return self.numbers[row * len(self.NUMBERS) + self.NUMBERS.index(name)]

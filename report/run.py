@@ -13,7 +13,7 @@ from report.histories import History
 from report.journal import Acts, Journal
 from report.limits import Limits, read_limits
 from report.messages import REQUESTS, SENDER
-from report.requests import Columns, REFUSED, RequestsFile, Row, Rows, SENT
+from report.requests import Columns, REFUSED, RequestsFile, Rows, SENT
 from report.text import readable
 
 STREAM_MOST = 1 << 62
@@ -29,15 +29,15 @@ class SessionSummary:
         self.clients = {}
         self.requests = self.sent = self.refused = self.reports = 0
 
-    def add(self, step: Step, row: Row) -> None:
-        """Counts a request or a report."""
+    def add(self, step: Step, sort: str) -> None:
+        """Counts a request, or a report, with what became of it."""
         if step.kind not in REQUESTS:
             self.reports += 1
             return
         self.requests += 1
-        self.sent += row.fate.sort == SENT
-        self.refused += row.fate.sort == REFUSED
-        self.clients.setdefault(step.fields.get(SENDER))
+        self.sent += sort == SENT
+        self.refused += sort == REFUSED
+        self.clients.setdefault(step.fields.get(SENDER) or b"")
 
     def client(self) -> str:
         """The SenderCompID (49) of its requests; where there are more than three, how many more."""
@@ -97,10 +97,11 @@ def read_session(number: int, path: Path, out: Path, acts: Acts, limits: Limits,
     for step in steps_of(title, bodies, acts, limits, summary.tally):
         follow(step, venue, client)
         row = rows.row_of(number, step)
-        summary.add(step, row)
+        sort = rows.fates[row.fate].sort
+        summary.add(step, sort)
         for sink in sinks:
             sink.add(row)
-        if row.fate.sort == SENT:
+        if sort == SENT:
             for read in step.outcome.reads:
                 highest_sent[read.tree] = max(highest_sent[read.tree], read.value)
     venue.close()

@@ -3,8 +3,9 @@
 import re
 
 NUMBER = re.compile(r"-?[0-9]+(?:\.[0-9]*)?|-?\.[0-9]+")
-FORMULA = ("=", "+", "-", "@", "\t", "\r", "\n")
-FULL_WIDTH = ("\uff1d", "\uff0b", "\uff0d", "\uff20")
+# How a formula begins, in narrow and in wide letters.
+FORMULA = frozenset("=+-@\t\r\n\uff1d\uff0b\uff0d\uff20")
+QUOTED = re.compile(r"[,\"\r\n]")
 
 
 def readable(value: bytes) -> str:
@@ -18,9 +19,14 @@ def readable(value: bytes) -> str:
 def spreadsheet_cell(text: str) -> str:
     """The text for a cell that a spreadsheet doesn't take for a formula: behind a quote where it
     begins like one. A plain number stays a number."""
-    if text.lstrip(" ").startswith(FORMULA + FULL_WIDTH) and not NUMBER.fullmatch(text):
+    if text.lstrip(" ")[:1] in FORMULA and not NUMBER.fullmatch(text):
         return "'" + text
     return text
+
+
+def csv_cell(text: str) -> str:
+    """The text as a cell of comma-separated values: in quotes where it has to be."""
+    return '"' + text.replace('"', '""') + '"' if QUOTED.search(text) else text
 
 
 def grouped(number: int) -> str:
