@@ -26,7 +26,7 @@ class Plot:
         self.limit = history.tree.limit or 0
         self.points = thinned(history.roots, columns)
         self.marks = marks_of(refusals, len(history.roots), columns)
-        self.last = max(len(history), 1)
+        self.places = len(history.roots)
         self.top = max(self.limit, history.peak(), 1) * HEADROOM
 
     def is_thinned(self) -> bool:
@@ -34,8 +34,8 @@ class Plot:
         return len(self.points) < len(self.history.roots)
 
     def x(self, place: int, units: int = UNITS) -> str:
-        """A place of the history, from the left."""
-        return spelled(units * place / self.last)
+        """A place of the history, from the left. Each place has the same width, the last too."""
+        return spelled(units * place / self.places)
 
     def y(self, value: int, units: int = UNITS) -> str:
         """A value, from the top."""

@@ -145,12 +145,12 @@ class Examples(unittest.TestCase):
         marks = re.findall(r'<svg x="([\d.]+)%" y="([\d.]+)%" class="mark"><title>(.*?)</title>', html)
         self.assertIn("firm: limit 5,000; orders were sent up to a root of 4,500; the highest root posted"
                       " is 5,500; refused: 3.", plot)
-        self.assertIn('class="root" d="M0 1000H83.3V560.1H166.7V193.5H250V560.1', html)
+        self.assertIn('class="root" d="M0 1000H76.9V560.1H153.8V193.5H230.8V560.1', html)
         self.assertIn('class="limit" d="M0 266.9H1000"', html)
         self.assertEqual(marks, [
-            ("16.7", "19.4", "b1 of session 1, root 5,500, 500 above the limit"),
-            ("41.7", "25.2", "c1 of session 2, root 5,100, 100 above the limit"),
-            ("58.3", "23.8", "c2 of session 2, root 5,200, 200 above the limit")])
+            ("15.4", "19.4", "b1 of session 1, root 5,500, 500 above the limit"),
+            ("38.5", "25.2", "c1 of session 2, root 5,100, 100 above the limit"),
+            ("53.8", "23.8", "c2 of session 2, root 5,200, 200 above the limit")])
 
     def test_stored_picture(self):
         """The picture that the README shows is the one that the report makes of the firm."""
