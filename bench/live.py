@@ -6,9 +6,9 @@ usage: live.py [--gate PATH] [--orders N] [--seconds S] [--one]      20 orders, 
 Each session's file is a pipe whose writer stays open. An order is written to a session, then one to
 the other, and so on by turns; before the next order is written to a session, the answer to its last
 one has to stand in its file: an order's forward in the venue's, or the refusal of every third, which
-is above the size, in the client's. At the end both pipes are closed, and the program has to end with
-status 0. It prints what it saw, and ends with status 1 where an answer doesn't come in time. With
---one there is one session alone.
+is above the size, in the client's. At the end both pipes are closed, and the program has to end
+with status 0. It prints what it saw, and ends with status 1 where an answer doesn't come in time.
+With --one there is one session alone.
 """
 import argparse
 import os
@@ -29,7 +29,8 @@ def new_order(session, number):
     quantity = 11 if number % 3 == 2 else 5
     return frame([
         (35, "D"), (49, f"C{session}"), (56, "GATE"), (34, number + 1), (52, TIME),
-        (11, f"o{number}"), (1, "ACC"), (55, "XYZ"), (54, 1), (38, quantity), (40, 2), (44, "10.00"), (60, TIME),
+        (11, f"o{number}"), (1, "ACC"), (55, "XYZ"), (54, 1), (38, quantity), (40, 2),
+        (44, "10.00"), (60, TIME),
     ]).encode()
 
 
@@ -137,8 +138,9 @@ def main():
                 gate.kill()
         for line in lines:
             sent, refused = (len(line.wanted[stream]) for stream in ("venue", "client"))
-            print(f"session {line.session}: {sent} orders sent and {refused} refused, each answered "
-                  f"before the next was written, the slowest after {line.slowest * 1000:.1f} ms")
+            print(f"session {line.session}: {sent} orders sent and {refused} refused, each "
+                  f"answered before the next was written, the slowest after "
+                  f"{line.slowest * 1000:.1f} ms")
         if gate.returncode != 0 or not told.endswith("status 0\n"):
             sys.exit(f"status {gate.returncode}: {told}")
         print(f"{len(lines)} open at once; status 0")
