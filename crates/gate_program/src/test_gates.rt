@@ -1,9 +1,10 @@
 //! Gates by which tests hold sessions: one after another, or two at each of their orders.
 
 use gate_ports::Gate;
+use std::hint;
 use std::sync::atomic::{AtomicBool, AtomicU32, Ordering};
 
-/// How many turns a session makes before it gives up.
+/// How many turns a session makes before it gives up: some seconds.
 const TURNS: u32 = 100_000_000;
 
 /// Holds each session's first order until the session before it has taken up its last one.
@@ -38,6 +39,7 @@ impl Gate for InTurn {
             if self.ended.load(Ordering::SeqCst) >= session {
                 return;
             }
+            hint::spin_loop();
         }
     }
 }
@@ -76,6 +78,7 @@ impl Gate for Meeting {
             if self.taken[1 - own][place].load(Ordering::SeqCst) {
                 return;
             }
+            hint::spin_loop();
         }
         self.is_missed.store(true, Ordering::SeqCst);
     }
