@@ -62,15 +62,16 @@ TERMS = "1=ACC|55=XYZ|54=1|38=60|40=2|44=10.00|60=T|"
 INPUTS = [text(f"35=D|49=C1|56=GATE|34=1|52=T|11=a1|{TERMS}"),
           text(f"35=D|49=C2|56=GATE|34=1|52=T|11=b1|{TERMS}")]
 VENUES = [text(f"35=D|49=GATE|56=VENUE|34=1|52=T|11=a1|{TERMS}"), b""]
-CLIENTS = [b"", text("35=8|49=GATE|56=C2|34=1|52=T|37=NONE|11=b1|17=G1|150=8|39=8|103=3|1=ACC|55=XYZ|"
-                     "54=1|38=60|151=0|14=0|6=0|58=FIRM|")]
+CLIENTS = [b"", text("35=8|49=GATE|56=C2|34=1|52=T|37=NONE|11=b1|17=G1|150=8|39=8|103=3|1=ACC|"
+                     "55=XYZ|54=1|38=60|151=0|14=0|6=0|58=FIRM|")]
 
 # What is changed in the journal: a name, the old rows and the new ones.
 CHANGES = (
     ("no header", "kind,session,a,b,c,d\n", ""),
     ("a session without its end", "ended,0,0,,,\n", ""),
     ("an end with a place that it hasn't", "ended,1,0,,,", "ended,1,0,5,,"),
-    ("a session's lines in another order", "line,1,0,2,1,600\nline,1,0,3,2,0", "line,1,0,2,2,0\nline,1,0,3,1,600"),
+    ("a session's lines in another order",
+     "line,1,0,2,1,600\nline,1,0,3,2,0", "line,1,0,2,2,0\nline,1,0,3,1,600"),
     ("a line of another session", "line,1,1,2,1,600", "line,0,1,2,2,600"),
     ("a line with another value", "line,1,2,2,1,600", "line,1,2,2,1,601"),
     ("a line that nobody posted", "line,1,2,3,2,0\n", "line,1,2,3,2,0\nline,1,2,4,3,0\n"),
@@ -111,7 +112,8 @@ class Judged(unittest.TestCase):
         self.assertRaises(Wrong, judged, venues=(VENUES[0][:-1], b""))
         self.assertRaises(Wrong, judged, venues=(VENUES[0], VENUES[0]))
         self.assertRaises(Wrong, judged, clients=(b"", CLIENTS[1].replace(b"FIRM", b"HALT")))
-        self.assertRaises(Wrong, judged, told=TOLD.replace("root 600 limit 1000", "root 601 limit 1000"))
+        told = TOLD.replace("root 600 limit 1000", "root 601 limit 1000")
+        self.assertRaises(Wrong, judged, told=told)
         self.assertRaises(Wrong, judged, status=4)
 
 

@@ -1,11 +1,12 @@
 #!/usr/bin/env python3
 """Runs the built program over sessions of buy limit orders, on all processors and on one by turns.
 
-usage: sessions.py [SESSIONS] [ORDERS] [--gate PATH] [--runs N]      8 sessions of 2,000 orders, 7 runs
+usage: sessions.py [SESSIONS] [ORDERS] [--gate PATH] [--runs N]      8 of 2,000 orders, 7 runs
 
-Prints the seconds from start to end on all processors and on one, where the sessions can only take turns,
-each the median and the range of the runs; how many times as fast all are, by the median of the ratios of
-runs beside each other; the most memory of a run; the bytes read and written; and the load of the machine.
+Prints the seconds from start to end on all processors and on one, where the sessions can only take
+turns, each the median and the range of the runs; how many times as fast all are, by the median of
+the ratios of runs beside each other; the most memory of a run; the bytes read and written; and the
+load of the machine.
 """
 import argparse
 import os
@@ -17,7 +18,8 @@ import time
 
 from orders import order
 
-LIMITS = "firm,,999999999999,,,\naccount,ACC,999999999999,,,\nsymbol,XYZ,999999999999,1,1000,1000000\n"
+LIMITS = ("firm,,999999999999,,,\naccount,ACC,999999999999,,,\n"
+          "symbol,XYZ,999999999999,1,1000,1000000\n")
 HERE = os.path.dirname(os.path.abspath(__file__))
 PROGRAM = os.path.join(HERE, "..", "crates", "gate_program", "out", "gate_program")
 
@@ -36,7 +38,7 @@ def size(folder):
 
 
 def timed(words, out, processors):
-    """The seconds of a run on these processors, and the last line that it told. The outputs are new files."""
+    """The seconds of a run on these processors, with new outputs, and the last line of it."""
     for name in os.listdir(out):
         os.remove(os.path.join(out, name))
     start = time.perf_counter()
@@ -77,9 +79,9 @@ def main():
         ratio = statistics.median(one / own for one, own in zip(on_one, side_by_side))
         most = resource.getrusage(resource.RUSAGE_CHILDREN).ru_maxrss / 1024
         print(f"{asked.sessions} sessions of {asked.orders} orders: {spread(side_by_side)} on "
-              f"{len(all_processors)} processors, {spread(on_one)} on one, {ratio:.2f} times as fast; "
-              f"at most {most:.1f} MB, {size(inputs):,} bytes read, {size(out):,} bytes written, {last}; "
-              f"load {os.getloadavg()[0]:.1f}")
+              f"{len(all_processors)} processors, {spread(on_one)} on one, {ratio:.2f} times as "
+              f"fast; at most {most:.1f} MB, {size(inputs):,} bytes read, {size(out):,} bytes "
+              f"written, {last}; load {os.getloadavg()[0]:.1f}")
 
 
 if __name__ == "__main__":
