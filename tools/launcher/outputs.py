@@ -1,8 +1,8 @@
-"""The outputs that lie in the folder OUT, and which of them are of an earlier run."""
+"""The outputs that lie in the folder OUT, a report among them, and which of them are of an earlier run."""
 import os
 import re
 
-OUTPUT = re.compile(r"s\d\d\.(?:venue|client)|journal\.csv")
+OUTPUT = re.compile(r"s\d\d\.(?:venue|client)|journal\.csv|report\.html|requests\.csv")
 
 
 def marks(out):

@@ -158,11 +158,11 @@ class OtherStatuses(InFolder):
 
 class EarlierRuns(InFolder):
     def test_outputs_of_an_earlier_run_are_named(self):
-        for name in ("s00.venue", "s00.client", "s04.venue", "s04.client", "journal.csv", "notes.txt"):
+        for name in ("s00.venue", "s00.client", "s04.venue", "s04.client", "journal.csv", "report.html", "notes.txt"):
             self.write(f"out/{name}", "old")
         journal = {"files": {"journal.csv": "kind\n", "s00.venue": "", "s00.client": ""}}
         _, _, error = self.gate(*RUN, **journal)
-        self.says(error, "warning: of an earlier run, and not written by this one: out/s04.client, out/s04.venue")
+        self.says(error, "warning: of an earlier run, and not written by this one: out/report.html, out/s04.client, out/s04.venue")
         self.assertNotIn("journal.csv", error)
         self.assertNotIn("notes.txt", error)
 
