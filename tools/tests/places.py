@@ -66,9 +66,17 @@ class InFolder(unittest.TestCase):
         call = {**os.environ, "GATE_PROGRAM": self.program, "FAKE": json.dumps({"status": 0, **told}), **(env or {})}
         call = {key: value for key, value in call.items() if value is not None}
         done = subprocess.run(
-            [os.path.join(top, "gate"), *words], cwd=self.folder, env=call, capture_output=True, stdin=subprocess.DEVNULL
+            [sys.executable, os.path.join(top, "gate"), *words], cwd=self.folder, env=call, capture_output=True, stdin=subprocess.DEVNULL
         )
         return done.returncode, done.stdout.decode(), done.stderr.decode()
+
+    def bare(self):
+        """A PATH on which there is Python and nothing else."""
+        folder = self.path("bare")
+        os.makedirs(folder, exist_ok=True)
+        if not os.path.exists(os.path.join(folder, "python3")):
+            os.symlink(sys.executable, os.path.join(folder, "python3"))
+        return folder
 
     def says(self, told, *parts):
         """That each of these texts stands in what was told."""

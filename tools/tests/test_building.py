@@ -103,14 +103,14 @@ class Building(InFolder):
         os.remove(error.rsplit("all of them are in ", 1)[1].strip())
 
     def test_without_rt_it_says_what_is_missing(self):
-        status, _, error = self.run_gate(env={"PATH": "/usr/bin:/bin"})
+        status, _, error = self.run_gate(env={"PATH": self.bare()})
         self.assertEqual(status, 1)
         self.says(error, "`rt` isn't on the PATH", "rattle-kit-13f", "GATE_PROGRAM=PATH")
         self.assertFalse(os.path.exists(self.path("out")))
 
     def test_a_program_that_is_built_needs_no_rt(self):
         self.run_gate()
-        self.assertEqual(self.run_gate(env={"PATH": "/usr/bin:/bin"}), (0, "ran\n", ""))
+        self.assertEqual(self.run_gate(env={"PATH": self.bare()}), (0, "ran\n", ""))
 
     def test_a_link_to_gate_works(self):
         os.makedirs(self.path("elsewhere"))
@@ -134,7 +134,7 @@ class Building(InFolder):
 
     def test_a_report_is_made_by_the_script_beside_and_needs_no_program(self):
         self.write("copy/report/__main__.py", "import os, sys\nprint(*sys.argv[1:], os.path.basename(os.getcwd()))\nsys.exit(4)\n")
-        status, out, error = self.run_gate("report", "limits.csv", "out", "a.fix", env={"PATH": "/usr/bin:/bin"})
+        status, out, error = self.run_gate("report", "limits.csv", "out", "a.fix", env={"PATH": self.bare()})
         self.assertEqual((status, out, error), (4, f"limits.csv out a.fix {os.path.basename(self.folder)}\n", ""))
         self.assertEqual(self.built(), 0)
 

@@ -34,7 +34,7 @@ class Words(InFolder):
                 self.assertEqual(sorted(os.listdir(self.folder)), before)
 
     def test_a_malformed_call_needs_no_program_and_no_kit(self):
-        status, out, error = self.gate("run", "limits.csv", env={"GATE_PROGRAM": None, "PATH": "/usr/bin:/bin"})
+        status, out, error = self.gate("run", "limits.csv", env={"GATE_PROGRAM": None, "PATH": self.bare()})
         self.assertEqual((status, out), (2, USAGE))
         self.says(error, "`run` lacks")
 
@@ -48,7 +48,7 @@ class Words(InFolder):
 
     def test_help_has_a_line_for_each_status(self):
         for word in ("--help", "-h"):
-            status, out, error = self.gate(word, env={"GATE_PROGRAM": None, "PATH": "/usr/bin:/bin"})
+            status, out, error = self.gate(word, env={"GATE_PROGRAM": None, "PATH": self.bare()})
             self.assertEqual((status, error), (0, ""))
             self.assertEqual(re.findall(r"^  ([0-9])  ", out, re.M), list("01234568") + ["9"])
             self.says(out, "docs/FORMATS.md", "docs/CLAIMS.md", "README.md", "session_from_log.py", "GATE_PROGRAM")
@@ -58,7 +58,7 @@ class Words(InFolder):
         self.assertEqual(status, 0)
         self.assertRegex(out, r"^gate, (commit [0-9a-f]{7,} of \d{4}-\d\d-\d\d|a copy without its history)")
         self.says(out, "rattle-kit-13f logic dac8208d650f15bf")
-        self.says(self.gate("--version", env={"PATH": "/usr/bin:/bin"})[1], "no `rt` on the PATH")
+        self.says(self.gate("--version", env={"PATH": self.bare()})[1], "no `rt` on the PATH")
 
 
 class SameFiles(InFolder):
