@@ -1,4 +1,5 @@
-"""What `.ci/run` ends with: the status of the proofs, or, where they passed, that of the scripts' tests."""
+"""What `.ci/run` ends with: the status of the proofs, or, where they passed, that of the scripts'
+tests."""
 import os
 import shutil
 import subprocess
@@ -19,7 +20,11 @@ class GateRun(InFolder):
                 self.stand_in("rt", f'[ "$*" = ci ] && exit {proved}; exit 9')
                 self.stand_in("python3", f"exit {0 if passed else 1}")
                 path = f"{self.path('bin')}:{os.environ['PATH']}"
-                done = subprocess.run([self.path("copy/.ci/run")], env={**os.environ, "PATH": path}, capture_output=True)
+                done = subprocess.run(
+                    [self.path("copy/.ci/run")],
+                    env={**os.environ, "PATH": path},
+                    capture_output=True,
+                )
                 self.assertEqual(done.returncode, status)
 
     def stand_in(self, name, line):
