@@ -1,5 +1,6 @@
 """Why a run ended with a status other than 0: read from the files themselves, afterwards."""
 import os
+import re
 import signal
 import stat
 
@@ -8,18 +9,28 @@ from launcher.files import is_full, why_not_read, why_not_written
 from launcher.outputs import was_written
 from launcher.say import name
 
-ENDS = {"1": "cut", "2": "broken", "3": "long"}
+# The row of a session's end in the journal, and the ends that aren't that of a whole file.
+ENDED = re.compile(r"ended,([0-9]+),([1-6]),([0-9]*),,\n")
+ENDS = {"1": "cut", "2": "broken", "3": "long", "4": "read", "5": "write", "6": "memory"}
 
 
 def reasons(run, status, before):
     """The lines for standard error about a run that ended with this status. `before` are the marks
     of OUT at its beginning."""
+    try:
+        return reasons_of(run, status, before)
+    except OSError as error:
+        return [f"the cause can't be found any more: {error}"]
+
+
+def reasons_of(run, status, before):
+    """The same, where the files can still be read."""
     if status < 0:
         return [killed(-status)]
     told = {3: of_limits, 4: of_sessions, 5: of_reads, 6: of_writes, 8: of_memory, 9: of_rows}
-    return told[status](run, before) if status in told else [
-        f"the program ended with {status}, which is no status of a run"
-    ]
+    if status not in told:
+        return [f"the program ended with {status}, which is no status of a run"]
+    return told[status](run, before)
 
 
 def killed(number):
@@ -100,14 +111,11 @@ def ends(run, before):
 
 def journal_ends(run):
     """The ends that the journal tells."""
-    words = {**ENDS, "4": "read", "5": "write", "6": "memory"}
     with open(run.journal(), encoding="ascii", errors="replace") as journal:
         for line in journal:
-            row = line.rstrip("\n").split(",")
-            if row[0] == "ended" and len(row) == 6 and row[2] in words and int(row[1]) < len(
-                run.sessions
-            ):
-                yield int(row[1]), (words[row[2]], int(row[3] or 0))
+            row = ENDED.fullmatch(line)
+            if row and int(row.group(1)) < len(run.sessions):
+                yield int(row.group(1)), (ENDS[row.group(2)], int(row.group(3) or 0))
 
 
 def file_ends(run):
@@ -125,11 +133,8 @@ def of_reads(run, before):
     lines = [f"{name(path)} can't be read: {why}" for path, why in unread if why]
     for session, end in ends(run, before) if not lines else ():
         lines += of_session(run, session, end)
-    return lines or [
-        "a read failed, of " + ", ".join(
-            name(path) for path in run.inputs()
-        ) + "; each can be read now"
-    ]
+    names = ", ".join(name(path) for path in run.inputs())
+    return lines or [f"a read failed, of {names}; each can be read now"]
 
 
 def of_writes(run, before):
@@ -164,8 +169,7 @@ def of_rows(run, _):
     for row in limit_file.rows(data):
         if row.kind == b"off":
             return [
-                f"{name(run.limits)}, row {row.number}, line {row.line}: "
-                "`off` rows, which drop a screen, "
-                "aren't served yet: take the row away"
+                f"{name(run.limits)}, row {row.number}, line {row.line}: `off` rows, which drop "
+                "a screen, aren't served yet: take the row away"
             ]
     return [f"{name(run.limits)} has a row that isn't served yet"]

@@ -318,6 +318,13 @@ class OtherStatuses(InFolder):
         self.write("limits.csv", LIMITS + "\noff,size,3,,,\n")
         self.says(self.told(9), "limits.csv, row 4, line 5: `off` rows")
 
+    def test_a_journal_that_is_cut_and_files_that_are_gone(self):
+        error = self.told(
+            6, files={"journal.csv": "kind,session,a,b,c,d\nended,0,x,,,\nended,7,1,0,,\nended,0"}
+        )
+        self.says(error, "standard output couldn't be written")
+        self.says(self.told(9, "run", "gone.csv", "out", "a.fix"), "the cause can't be found any more")
+
     def test_a_program_that_was_killed(self):
         status, _, error = self.gate(*RUN, signal=int(signal.SIGKILL))
         self.assertEqual(status, 128 + signal.SIGKILL)
