@@ -20,14 +20,14 @@ class History:
     def __len__(self) -> int:
         return len(self.values)
 
-    def extend(self, lines: Iterable[tuple], posted: dict[int, array]) -> bool:
+    def extend(self, lines: Iterable[tuple], posted: list[array]) -> bool:
         """Appends lines (kind, session, tree, place, index, value), each of which has to be the
         next post of its session; ends at the first that isn't."""
         counts, root, place = self.counts, self.roots[-1], len(self)
         for _, session, _, at, index, value in lines:
             place, session, value = place + 1, int(session), int(value)
             count = counts.get(session, 0)
-            posts = posted.get(session, ())
+            posts = posted[session] if session < len(posted) else ()
             if int(at) != place or int(index) != count + 1:
                 return False
             if count >= len(posts) or posts[count] != value:

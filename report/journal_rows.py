@@ -3,7 +3,7 @@
 import re
 from itertools import groupby
 from operator import itemgetter
-from typing import BinaryIO, Iterator
+from typing import BinaryIO, Iterator, NamedTuple
 
 from report.faults import Unreadable
 
@@ -21,17 +21,45 @@ COLUMNS = 6
 Cells = tuple[bytes, bytes, bytes, bytes, bytes, bytes]
 
 
-class JournalRows:
-    """The rows that are left of a journal; rows are counted from 1."""
+class Start(NamedTuple):
+    """A place in a journal: the byte, from 0, and how many rows stand before it."""
 
-    def __init__(self, file: BinaryIO):
+    byte: int
+    rows: int
+
+
+def session_starts(file: BinaryIO, sessions: int) -> list[Start]:
+    """Where each of so many sessions begins, and last where the lines begin: behind the header and
+    behind each row `ended`. Where there are fewer, the last stands for those that are missing."""
+    if file.read(len(HEADER)) != HEADER:
+        raise Unreadable("the journal, row 1: it isn't the header of a journal")
+    starts, text, byte, rows = [Start(len(HEADER), 1)], b"\n", len(HEADER) - 1, 1
+    while len(starts) <= sessions and len(text) <= BLOCK and (more := file.read(BLOCK)):
+        text += more
+        at = 0
+        while (ended := text.find(b"\nended,", at)) >= 0:
+            end = text.find(b"\n", ended + 1)
+            if end < 0:
+                break
+            rows += text.count(b"\n", at + 1, end + 1)
+            starts.append(Start(byte + end + 1, rows))
+            at = end
+        last = text.rfind(b"\n")
+        rows += text.count(b"\n", at + 1, last + 1)
+        text, byte = text[last:], byte + last
+    starts += starts[-1:] * (sessions + 1 - len(starts))
+    return starts[:sessions + 1]
+
+
+class JournalRows:
+    """The rows of a journal from a start on; rows are counted from 1."""
+
+    def __init__(self, file: BinaryIO, start: Start):
+        file.seek(start.byte)
         self.file = file
         self.text = b""
-        self.taken = 0
+        self.taken = start.rows
         self.pending = iter(())
-        if file.read(len(HEADER)) != HEADER:
-            raise self.fault("it isn't the header of a journal")
-        self.taken = 1
 
     def fault(self, text: str) -> Unreadable:
         """The fault at the row behind those that were taken."""
@@ -63,21 +91,28 @@ class JournalRows:
         return zip(*[cells] * COLUMNS)
 
     def acts(self) -> Iterator[Cells]:
-        """The acts that are left. A caller that stops goes on behind the act that it took last."""
+        """The acts that come next."""
         while True:
-            yield from self.pending
             rows = self.block()
             first_line = FIRST_LINE.search(rows)
             rows = rows[:first_line.start()] if first_line else rows
             if not rows:
                 return
-            self.pending = self.take(rows, ACTS)
+            self.pending = self.take(self.acts_of_one(rows), ACTS)
+            yield from self.pending
+
+    @staticmethod
+    def acts_of_one(rows: bytes) -> bytes:
+        """The rows up to the first that is `ended`, with it."""
+        at = 0 if rows.startswith(b"ended,") else rows.find(b"\nended,") + 1
+        if not at and not rows.startswith(b"ended,"):
+            return rows
+        return rows[:rows.index(b"\n", at) + 1]
 
     def lines(self) -> Iterator[tuple[bytes, list[Cells]]]:
-        """The lines that are left, those of a tree together, in one or several pieces. No act may
-        be left."""
-        for _, session, *_ in self.pending:
-            raise self.fault_here(f"an act of session {int(session)}, which isn't given")
+        """The lines that are left, those of a tree together, in one or several pieces."""
         while rows := self.block():
+            if ACTS.match(rows).end():
+                raise self.fault("an act of a session that isn't given")
             for tree, lines in groupby(self.take(rows, LINES), itemgetter(2)):
                 yield tree, list(lines)

@@ -73,7 +73,7 @@ class Rows:
         self.trees = trees
         self.words = Words()
         self.fates = []
-        self.fate_numbers = {}
+        self.known = {}
         self.names = {}
         number = self.words.number
         self.sides = {number(value): number(name) for value, name in SIDES.items()}
@@ -100,11 +100,16 @@ class Rows:
     def fate(self, is_told: bool, outcome: Outcome | None) -> int:
         """The number of what became of a request or a report."""
         key = is_told, outcome and (outcome.word, outcome.code, outcome.first, outcome.second)
-        number = self.fate_numbers.get(key)
+        number = self.known.get(key)
         if number is None:
-            number = self.fate_numbers[key] = len(self.fates)
-            self.fates.append(fate_of(*key))
+            number = self.known[key] = self.fate_number(fate_of(*key))
         return number
+
+    def fate_number(self, fate: Fate) -> int:
+        """The number of a fate, a new one where it wasn't met before."""
+        if fate not in self.fates:
+            self.fates.append(fate)
+        return self.fates.index(fate)
 
     def against(self, read: Read) -> tuple[str, int, int | str, int | str]:
         """The tree that refused a request, its root, its limit, and how much the root is above."""
@@ -115,12 +120,11 @@ class Rows:
 
 
 class RequestsFile:
-    """`requests.csv`, written row by row."""
+    """Rows of `requests.csv`, written one by one."""
 
     def __init__(self, file: TextIO, rows: Rows):
         self.file = file
         self.rows = rows
-        self.file.write(",".join(HEADER) + "\n")
 
     def add(self, row: Row) -> None:
         """Writes a row."""
@@ -159,6 +163,17 @@ class Columns:
             self.refusals.setdefault(read.tree, array("L")).append(len(self))
         self.numbers.extend((row.session, row.frame, row.fate, *(read or (-1, 0, 0))))
         self.texts.extend(row.words)
+
+    def take(self, other: "Columns") -> None:
+        """Appends the rows of other columns, which go by their own words and fates."""
+        words = list(map(self.rows.words.number, other.rows.words.numbers))
+        fates = list(map(self.rows.fate_number, other.rows.fates))
+        for tree, rows in other.refusals.items():
+            self.refusals.setdefault(tree, array("L")).extend(len(self) + row for row in rows)
+        width, at = len(self.NUMBERS), self.NUMBERS.index("fate")
+        other.numbers[at::width] = array("q", [fates[fate] for fate in other.numbers[at::width]])
+        self.numbers.extend(other.numbers)
+        self.texts.extend(map(words.__getitem__, other.texts))
 
     def columns(self) -> Iterator[tuple[str, array]]:
         """Each column with its name."""

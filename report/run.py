@@ -1,23 +1,29 @@
 """A run as its files tell it: reads them, sees that they belong together, and keeps what a report
-shows."""
+shows. A large run's sessions are read by several processes."""
 
+import os
 from collections import Counter
+from concurrent.futures import ProcessPoolExecutor
+from contextlib import contextmanager
+from io import StringIO
 from pathlib import Path
-from typing import NamedTuple
+from typing import Iterable, Iterator, NamedTuple, TextIO
 
 from report import verdicts
 from report.agreement import Step, Stream, Tally, agree_on_end, follow, steps_of
 from report.faults import Unreadable
 from report.frames import End, read_frames
 from report.histories import History
-from report.journal import Acts, Journal
+from report.journal import Calls, read_acts, read_histories
+from report.journal_rows import JournalRows, Start, session_starts
 from report.limits import Limits, read_limits
 from report.messages import REQUESTS, SENDER
-from report.requests import Columns, REFUSED, RequestsFile, Rows, SENT
+from report.requests import HEADER, Columns, REFUSED, RequestsFile, Rows, SENT
 from report.text import readable
 
 STREAM_MOST = 1 << 62
 CLIENTS_SHOWN = 3
+LARGE = 8 << 20
 
 
 class SessionSummary:
@@ -46,6 +52,17 @@ class SessionSummary:
         return ", ".join(names[:CLIENTS_SHOWN]) + (f" and {more} more" if more > 0 else "")
 
 
+class Part(NamedTuple):
+    """What is read of one session: its summary, its rows as the page and as the spreadsheet have
+    them, its calls, and of each tree the highest root at which it sent an order."""
+
+    summary: SessionSummary
+    rows: Columns
+    table: str
+    calls: Calls
+    highest_sent: Counter
+
+
 class Run(NamedTuple):
     """A run: its trees with their histories, its sessions, its requests and reports, and of each
     tree the highest root at which an order was sent."""
@@ -57,56 +74,88 @@ class Run(NamedTuple):
     highest_sent: Counter
 
 
-def read_bytes(path: Path) -> bytes:
-    """The bytes of a file."""
+class Job(NamedTuple):
+    """A session that is to be read: its number, its file, the folder of the outputs, where its acts
+    begin, and the limits."""
+
+    number: int
+    path: Path
+    out: Path
+    start: Start
+    limits: Limits
+
+
+@contextmanager
+def faults_of(path: Path) -> Iterator[None]:
+    """A fault of the file becomes one of the report."""
     try:
-        return path.read_bytes()
+        yield
     except OSError as fault:
         raise Unreadable(f"{path}: {fault.strerror or fault}") from fault
 
 
-def read_run(limits_path: Path, out: Path, session_paths: list[Path], text_file) -> Run:
-    """The run of these files; its requests go to `text_file` as they are read."""
-    limits = read_limits(read_bytes(limits_path))
-    rows, highest_sent = Rows(limits.trees), Counter()
-    sinks = RequestsFile(text_file, rows), Columns(rows)
-    try:
-        with open(out / "journal.csv", "rb", buffering=1 << 20) as file:
-            journal = Journal(file, limits.trees)
-            sessions = []
-            for number, path in enumerate(session_paths):
-                acts = journal.session_acts(number)
-                sessions.append(read_session(number, path, out, acts, limits, highest_sent,
-                                             rows, sinks))
-            histories = journal.histories()
-    except OSError as fault:
-        raise Unreadable(f"{out / 'journal.csv'}: {fault.strerror or fault}") from fault
-    return Run(limits, histories, sessions, sinks[1], highest_sent)
+def read_bytes(path: Path) -> bytes:
+    """The bytes of a file."""
+    with faults_of(path):
+        return path.read_bytes()
 
 
-def read_session(number: int, path: Path, out: Path, acts: Acts, limits: Limits,
-                 highest_sent: Counter, rows: Rows, sinks: tuple) -> SessionSummary:
-    """Reads a session's file and its two streams along its acts."""
-    title = f"session {number} ({readable(str(path).encode('utf-8', 'surrogateescape'))})"
-    bodies, end = read_frames(read_bytes(path))
+def read_run(limits_path: Path, out: Path, session_paths: list[Path], table: TextIO) -> Run:
+    """The run of these files; its requests go to the table as they are read."""
+    limits, journal = read_limits(read_bytes(limits_path)), out / "journal.csv"
+    rows, sessions, calls, highest_sent = Columns(Rows(limits.trees)), [], [], Counter()
+    table.write(",".join(HEADER) + "\n")
+    with faults_of(journal), open(journal, "rb") as file:
+        starts, size = session_starts(file, len(session_paths)), os.fstat(file.fileno()).st_size
+    jobs = [Job(number, path, out, starts[number], limits)
+            for number, path in enumerate(session_paths)]
+    for part in parts_of(jobs, is_large=size > LARGE):
+        sessions.append(part.summary)
+        calls.append(part.calls)
+        rows.take(part.rows)
+        table.write(part.table)
+        highest_sent |= part.highest_sent
+    with faults_of(journal), open(journal, "rb") as file:
+        histories = read_histories(JournalRows(file, starts[-1]), limits.trees, calls)
+    return Run(limits, histories, sessions, rows, highest_sent)
+
+
+def parts_of(jobs: list[Job], is_large: bool) -> Iterable[Part]:
+    """The sessions in order, those of a large run read by as many processes as there are
+    processors."""
+    if not is_large:
+        yield from map(read_session, jobs)
+        return
+    with ProcessPoolExecutor() as pool:
+        yield from pool.map(read_session, jobs)
+
+
+def read_session(job: Job) -> Part:
+    """Reads a session's acts, and its file and its two streams along them."""
+    title = f"session {job.number} ({readable(os.fsencode(job.path))})"
+    journal, trees = job.out / "journal.csv", job.limits.trees
+    with faults_of(journal), open(journal, "rb") as file:
+        acts = read_acts(JournalRows(file, job.start), job.number, len(trees))
+    bodies, end = read_frames(read_bytes(job.path))
     agree_on_end(title, end, acts)
     stopped = acts.end.number in verdicts.STOPPED
-    venue, client = (open_stream(title, out / f"s{number:02d}.{name}", stopped)
+    venue, client = (open_stream(title, job.out / f"s{job.number:02d}.{name}", stopped)
                      for name in ("venue", "client"))
-    summary = SessionSummary(str(path), acts.end, Tally())
-    for step in steps_of(title, bodies, acts, limits, summary.tally):
+    summary, rows, text = SessionSummary(str(job.path), acts.end, Tally()), Rows(trees), StringIO()
+    table, columns, highest_sent = RequestsFile(text, rows), Columns(rows), Counter()
+    for step in steps_of(title, bodies, acts, job.limits, summary.tally):
         follow(step, venue, client)
-        row = rows.row_of(number, step)
+        row = rows.row_of(job.number, step)
         sort = rows.fates[row.fate].sort
         summary.add(step, sort)
-        for sink in sinks:
-            sink.add(row)
+        table.add(row)
+        columns.add(row)
         if sort == SENT:
-            for read in step.outcome.reads:
-                highest_sent[read.tree] = max(highest_sent[read.tree], read.value)
+            for tree, _, value in step.outcome.reads:
+                highest_sent[tree] = max(highest_sent[tree], value)
     venue.close()
     client.close()
-    return summary
+    return Part(summary, columns, text.getvalue(), acts.calls, highest_sent)
 
 
 def open_stream(session: str, path: Path, stopped: bool) -> Stream:

@@ -34,7 +34,7 @@ JOURNALS = [
      "row 9: the journal ends before session 0 does"),
     ("a session left out", without(*range(11, 31)), "row 11: an act of session 1 has to stand here"),
     ("a session more", FIRM_JOURNAL.replace("ended,3,0,,,\n", "ended,3,0,,,\nended,4,0,,,\n"),
-     "row 78: an act of session 4, which isn't given"),
+     "row 78: an act of a session that isn't given"),
     ("a post left out", without(3), "line 1 of tree 1 isn't the next post of its session"),
     ("a post's number", FIRM_JOURNAL.replace("post,1,0,2,", "post,1,0,3,"),
      "row 18: post 2 of the session in tree 0 comes next"),
@@ -107,7 +107,7 @@ class Apart(unittest.TestCase):
         """A session too few, or too many."""
         files = self.words[2:]
         self.words[2:] = files[:3]
-        self.expect("too few", UNREADABLE, "an act of session 3, which isn't given")
+        self.expect("too few", UNREADABLE, "row 66: an act of a session that isn't given")
         self.words[2:] = files + files[:1]
         self.expect("too many", UNREADABLE, "the journal ends before session 4 does")
 
