@@ -122,12 +122,21 @@ def read_run(limits_path: Path, out: Path, session_paths: list[Path], table: Tex
 
 def parts_of(jobs: list[Job], is_large: bool) -> Iterable[Part]:
     """The sessions in order, those of a large run read by as many processes as there are
-    processors."""
-    if not is_large:
+    processors, where the machine lets us have processes."""
+    pool = process_pool() if is_large else None
+    if pool is None:
         yield from map(read_session, jobs)
         return
-    with ProcessPoolExecutor() as pool:
+    with pool:
         yield from pool.map(read_session, jobs)
+
+
+def process_pool() -> ProcessPoolExecutor | None:
+    """Processes that share the work, or none where the machine has no means for them."""
+    try:
+        return ProcessPoolExecutor()
+    except (OSError, NotImplementedError, ImportError):
+        return None
 
 
 def read_session(job: Job) -> Part:
