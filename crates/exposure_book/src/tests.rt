@@ -6,7 +6,7 @@ use crate::plain_book::PlainBook;
 use crate::proposing::{new_order, with_replace};
 use crate::sequences::{SEQUENCES, Step, Want};
 use crate::{Applied, Book, Pending};
-use fix_orders::{Cancel, CancelReject, Exec, Head, Id, NewOrder, OrderKind, Replace, Report};
+use fix_orders::{Cancel, CancelReject, Exec, Head, IdText, NewOrder, OrderKind, Replace, Report};
 use limit_table::{Limits, read_limits};
 use std::alloc::Global;
 use std::process::Abort;
@@ -21,15 +21,15 @@ symbol,ABC,1000000,1,20,100000
 ";
 
 /// The id of this text.
-fn id(text: &[u8]) -> Result<Id, Fail> {
-    match Id::read(text) {
+fn id(text: &[u8]) -> Result<IdText, Fail> {
+    match IdText::read(text) {
         Ok(id) => Ok(id),
         Err(_) => Err("no id")?,
     }
 }
 
 /// A head that no book looks at.
-fn head() -> Result<Head, Fail> {
+fn head() -> Result<Head<'static>, Fail> {
     Ok(Head {
         sender: id(b"C1")?,
         target: id(b"GATE")?,
@@ -109,8 +109,10 @@ fn take_cancel(book: &mut Book, plain: &mut PlainBook, request: &Cancel) -> Resu
     match book.propose_cancel(request) {
         Ok(()) => {
             book.commit_cancel(request);
-            let pending = Pending::Cancel { id: request.id };
-            plain.ask(&request.id, &request.orig, pending)?;
+            let pending = Pending::Cancel {
+                id: request.id.owned(),
+            };
+            plain.ask(&request.id.owned(), &request.orig.owned(), pending)?;
             Ok(Want::Taken)
         }
         Err(fault) => Ok(Want::Refused(fault)),
@@ -135,10 +137,11 @@ fn take_replace(
     match book.propose_replace(request, limits) {
         Ok(values) => {
             book.commit_replace(request, limits);
-            let order = plain.order(&request.orig).ok_or("an order")?;
+            let orig = request.orig.owned();
+            let order = plain.order(&orig).ok_or("an order")?;
             if order.account < 2 && order.symbol < 2 {
                 let pending = with_replace(request, limits, &order).pending;
-                plain.ask(&request.id, &request.orig, pending)?;
+                plain.ask(&request.id.owned(), &orig, pending)?;
             }
             Ok(wanted(values.firm, values.account, values.symbol))
         }
@@ -161,13 +164,18 @@ fn order(text: &[u8], side: u8, quantity: u64, price: u64) -> Result<NewOrder, F
 }
 
 /// A G of these ids, account and symbol.
-fn replace(names: [&[u8]; 4], side: u8, quantity: u64, price: u64) -> Result<Replace, Fail> {
+fn replace<'a>(
+    names: [&'a [u8]; 4],
+    side: u8,
+    quantity: u64,
+    price: u64,
+) -> Result<Replace<'a>, Fail> {
     let [own, orig, account, symbol] = names;
     Ok(Replace {
         head: head()?,
         id: id(own)?,
         orig: id(orig)?,
-        account: Id::read(account).ok(),
+        account: IdText::read(account).ok(),
         symbol: id(symbol)?,
         side,
         quantity,
@@ -188,14 +196,14 @@ fn take_report(
     ensures accounts { book.new.accounts ≡ 2 }
     ensures symbols { book.new.symbols ≡ 2 }
 {
-    let own = Id::read(text).ok();
-    let applied = book.apply(&Report {
+    let report = Report {
         head: head()?,
-        id: own,
+        id: IdText::read(text).ok(),
         exec,
-    });
-    if let (Some(own), Applied::Applied(_)) = (own, applied) {
-        plain.report(&own, exec);
+    };
+    let applied = book.apply(&report);
+    if let (Some(own), Applied::Applied(_)) = (&report.id, applied) {
+        plain.report(&own.owned(), exec);
     }
     Ok(reported(applied))
 }
@@ -211,7 +219,7 @@ fn take_reject(book: &mut Book, plain: &mut PlainBook, text: &[u8]) -> Result<Wa
         head: head()?,
         id: id(text)?,
     };
-    plain.reject(&reject.id);
+    plain.reject(&reject.id.owned());
     Ok(reported(book.apply_reject(&reject)))
 }
 

@@ -1,7 +1,7 @@
 -- The field in front of a text, and where it stands there.
 use Rattle.std.specs.Prelude.{◌≡◌, ◌≢◌, ℕ, ◌+◌, ◌<◌, ◌≤◌, List, ◌∷◌, ◌++◌, length, drop, decimal}
 use Rattle.std.specs.Prelude.{slice_index}
-use Rattle.fix_fields.specs.Fields.{FieldValue, field_text, IsField, AreFields}
+use Rattle.fix_fields.specs.Fields.{FieldValue, field_text, IsField, AreFields, tag_most}
 use Rattle.fix_fields.specs.Places.{field_at}
 use Rattle.fix_fields.specs.declared.walk.Field.{Field}
 
@@ -15,7 +15,7 @@ pub record IsTagCut (text : List ℕ) (count : ℕ) : Type 0 where
 -- the text begins with this tag and the equals sign, and its value begins at `from`
 pub record BeginsTag (text : List ℕ) (tag from : ℕ) : Type 0 where
   pub least : 1 ≤ tag
-  pub most : tag ≤ 999999
+  pub most : tag ≤ tag_most
   pub place : from ≡ length (decimal tag) + 1
   pub inside : from ≤ length text
   pub spelled : text ≡ decimal tag ++ 61 ∷ drop from text

@@ -27,10 +27,14 @@ fields_text fields = flat_map field_text fields
 abbrev pub is_value_byte : ℕ → Bool
 is_value_byte byte = not (byte == soh)
 
+-- the largest tag: one of six digits
+abbrev pub tag_most : ℕ
+tag_most = 999999
+
 -- a tag of one to six digits of which the first isn't 0, and a value without SOH
 pub record IsField (f : FieldValue) : Type 0 where
   pub least : 1 ≤ f.tag
-  pub most : f.tag ≤ 999999
+  pub most : f.tag ≤ tag_most
   pub without_soh : IsTrue (list_all is_value_byte f.value)
 
 -- the text is these fields, one after another

@@ -3,7 +3,7 @@ use Rattle.std.specs.Prelude.{ℕ, ◌+◌, ◌/◌, ◌%◌, List, [], ◌∷�
 use Rattle.fix_fields.specs.Fields.{FieldValue, fields_text, checksum_of}
 use Rattle.fix_fields.specs.Frames.{head_text, trailer_text}
 
--- a number below 1000 in three digits
+-- a number of at most three digits, in three digits
 abbrev pub three_digits : ℕ → List ℕ
 three_digits n = (48 + n / 100) ∷ (48 + n / 10 % 10) ∷ (48 + n % 10) ∷ []
 

@@ -57,19 +57,31 @@ scaled_number places most text =
     || is_outside most (scaled places text)
     then Err Range else Ok (scaled places text))
 
--- ten-thousandths of a currency unit, up to 999,999.9999
+-- the largest price, 999,999.9999, in ten-thousandths of a currency unit
+abbrev pub price_most : ℕ
+price_most = 9999999999
+
+-- a price in ten-thousandths of a currency unit
 abbrev pub price_of : List ℕ → Result ℕ Spelling
-price_of = scaled_number 4 9999999999
+price_of = scaled_number 4 price_most
 
--- whole units, up to 1,000,000,000
+-- the largest quantity in whole units
+abbrev pub quantity_most : ℕ
+quantity_most = 1000000000
+
+-- a quantity in whole units
 abbrev pub quantity_of : List ℕ → Result ℕ Spelling
-quantity_of = scaled_number 0 1000000000
+quantity_of = scaled_number 0 quantity_most
 
--- digits alone, for 1 to 999,999,999
+-- the largest sequence number
+abbrev pub sequence_most : ℕ
+sequence_most = 999999999
+
+-- a sequence number, in digits alone
 abbrev pub sequence_of : List ℕ → Result ℕ Spelling
 sequence_of text =
     if not (list_all is_ascii_digit text && nat_lt 0 (length text)) then Err Form
-    else (if nat_lt 32 (length text) || is_outside 999999999 (digits_value 10 text)
+    else (if nat_lt 32 (length text) || is_outside sequence_most (digits_value 10 text)
     then Err Range else Ok (digits_value 10 text))
 
 -- a byte of 32 to 126

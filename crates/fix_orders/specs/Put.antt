@@ -6,6 +6,7 @@ use Rattle.fix_fields.specs.Fields.{FieldValue, field, fields_text, is_value_byt
 use Rattle.fix_fields.specs.IdText.{IsId}
 use Rattle.fix_fields.specs.Places.{HasFieldsIn}
 use Rattle.fix_fields.specs.declared.frame.Frame.{Frame}
+use Rattle.fix_fields.specs.declared.writer.TheConstants.{WRITTEN_MOST}
 use Rattle.fix_orders.specs.declared.message.Message.{Message}
 use Rattle.fix_orders.specs.declared.message.Message.TheVariants as message
 use Rattle.fix_orders.specs.declared.message.Stamp.{Stamp}
@@ -18,10 +19,14 @@ pub record IsShort (text : List ℕ) : Type 0 where
   pub without_soh : IsTrue (list_all is_value_byte text)
   pub few : length text ≤ 64
 
+-- the largest number of a message that is written: one of eight digits
+abbrev pub seq_most : ℕ
+seq_most = 99999999
+
 -- a number of a message: one of at most eight digits
 pub record IsSeq (seq : ℕ) : Type 0 where
   pub least : 1 ≤ seq
-  pub most : seq ≤ 99999999
+  pub most : seq ≤ seq_most
 
 -- a number of a message, and two ids
 pub record IsStamp (stamp : Stamp) : Type 0 where
@@ -41,7 +46,7 @@ HasPut fields writer = writer ≡ Some (fields_text fields)
 abbrev pub HasRoom : List FieldValue → Option (List ℕ) → Type 0
 HasRoom more writer =
     (fields : List FieldValue) × HasPut fields writer
-    × (length (fields_text fields) + length (fields_text more) ≤ 8400)
+    × (length (fields_text fields) + length (fields_text more) ≤ WRITTEN_MOST)
 
 -- the value of MsgType (35) of some sound frame
 abbrev pub IsTypeText : List ℕ → Type 0

@@ -3,6 +3,7 @@ ghost use Rattle.std.specs.Prelude.{◌≡◌, ℕ, ◌+◌, ◌≤◌, List, []
 ghost use Rattle.std.specs.Prelude.{length, filter, not};
 ghost use Rattle.fix_fields.specs.Fields.{FieldValue, IsField, field, field_text, fields_text};
 ghost use Rattle.fix_fields.specs.Places.{HasFieldsIn, IsSoundIn, IsPlace, field_at};
+ghost use Rattle.fix_fields.specs.declared.writer.TheConstants.{WRITTEN_MOST};
 ghost use Rattle.fix_orders.specs.Faults.{value_of};
 ghost use Rattle.fix_orders.specs.Put.{HasPut, IsSeq, IsPassedOn};
 ghost use Rattle.fix_orders.specs.Writing.{forward_fields, is_own_field};
@@ -26,7 +27,7 @@ fn put_other(to: &mut Writer, bytes: &[u8], field: Field)
     requires place { IsPlace bytes.now field }
     requires is_field { IsField (field_at bytes.now field) }
     requires room { IfSome to.old
-        (λ body. length body + length (field_text (field_at bytes.now field)) ≤ 8400) }
+        (λ body. length body + length (field_text (field_at bytes.now field)) ≤ WRITTEN_MOST) }
     ensures { IfSome to.old (λ body. to.new ≡ Some (body
         ++ fields_text (filter (λ f. not (is_own_field f)) (field_at bytes.now field ∷ [])))) }
 {

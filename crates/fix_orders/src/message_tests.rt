@@ -9,7 +9,7 @@ use crate::{
     Message, NewOrder, Stamp, read_envelope, read_message, write_forward, write_reject_cancel,
     write_reject_order, write_reject_session,
 };
-use fix_fields::{Frame, Id, Writer};
+use fix_fields::{Frame, Id, IdText, Writer};
 use std::alloc::{AllocError, Global};
 use std::test::*;
 
@@ -32,7 +32,7 @@ fn stamp_to(target: &[u8]) -> Option<Stamp>
 }
 
 /// The order in a sound frame.
-fn order_in(bytes: &[u8], frame: &Frame) -> Option<NewOrder>
+fn order_in<'a>(bytes: &'a [u8], frame: &Frame) -> Option<NewOrder<'a>>
     requires { IsSoundIn bytes.now frame.now }
     ensures { IfSome result (λ order. IsReadAs bytes.now frame.now (Message.New order)) }
 {
@@ -63,8 +63,8 @@ fn refusal<'a>(to: &'a mut Writer, bytes: &[u8]) -> Option<&'a [u8]> {
 /// The message that refuses a request of an unknown order.
 fn request_refusal(to: &mut Writer) -> Option<&[u8]> {
     let stamp = stamp_to(b"C1")?;
-    let request = id(b"b1")?;
-    let orig = id(b"zz")?;
+    let request = IdText::read(b"b1").ok()?;
+    let orig = IdText::read(b"zz").ok()?;
     write_reject_cancel(to, &request, &orig, &stamp, 2, 1, b"UNKNOWN");
     Some(to.finish())
 }

@@ -289,10 +289,10 @@ pub(crate) fn sound_frame(bytes: &[u8]) -> Option<Frame>
     }
 }
 
-/// What is read of the message in front, where it is sound.
-fn read(bytes: &[u8]) -> Option<Result<Message, FieldFault>> {
+/// The field fault of the message in front, where it is sound and has one.
+fn fault_in(bytes: &[u8]) -> Option<FieldFault> {
     let frame = sound_frame(bytes)?;
-    Some(read_message(bytes, &frame))
+    read_message(bytes, &frame).err()
 }
 
 /// Each cause of one field gives its fault.
@@ -311,8 +311,8 @@ fn check_field(
             reason: *reason,
         };
         assert_eq!(rt;
-            read(bytes.as_slice()),
-            Some(Err(fault)),
+            fault_in(bytes.as_slice()),
+            Some(fault),
             "{name} {tag} {cause}"
         );
     }

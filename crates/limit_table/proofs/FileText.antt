@@ -24,6 +24,7 @@ use Rattle.limit_table.specs.Ranges.{IsInRange, IsPrice}
 use Rattle.limit_table.specs.declared.kind.Entry.{Entry}
 use Rattle.limit_table.specs.declared.kind.Entry.TheVariants as entry
 use Rattle.limit_table.specs.declared.limits.Limits.{Limits}
+use Rattle.limit_table.specs.Entries.{amount_most}
 
 -- a row that is written is read with the same columns
 same_row : (e : Entry) → read_back (row_of e) ≡ row_of e
@@ -128,7 +129,7 @@ row_size first rest short =
       length-append blank (10 ∷ []),
     )
 
-number_size : (n : ℕ) → n ≤ 999999999999 → length (decimal n) ≤ 64
+number_size : (n : ℕ) → n ≤ amount_most → length (decimal n) ≤ 64
 number_size n small =
     let short = length-decimal-le 12 n (omega arith) (omega arith) (omega arith) in
     omega (arith, short)
@@ -142,13 +143,13 @@ price_size price range =
       length-append (decimal (price / 10000)) (46 ∷ four_digits (price % 10000)),
     )
 
-count_size : (kind : List ℕ) (n : ℕ) → length kind ≤ 64 → n ≤ 999999999999
+count_size : (kind : List ℕ) (n : ℕ) → length kind ≤ 64 → n ≤ amount_most
     → length (row_text default_writer (count_row kind n)) ≤ 788
 count_size kind n short small =
     row_size kind ([] ∷ decimal n ∷ [] ∷ [] ∷ [] ∷ [])
     (short, (omega arith, (number_size n small, (omega arith, (omega arith, (omega arith, tt))))))
 
-named_size : (kind name : List ℕ) (n : ℕ) → length kind ≤ 64 → length name ≤ 64 → n ≤ 999999999999
+named_size : (kind name : List ℕ) (n : ℕ) → length kind ≤ 64 → length name ≤ 64 → n ≤ amount_most
     → length (row_text default_writer (named_row kind name n)) ≤ 788
 named_size kind name n short named small =
     row_size kind (name ∷ decimal n ∷ [] ∷ [] ∷ [] ∷ [])

@@ -27,6 +27,8 @@ use Rattle.limit_table.specs.declared.kind.Entry.TheVariants as entry
 use Rattle.limit_table.specs.declared.kind.Cause.{Cause}
 use Rattle.limit_table.specs.declared.kind.Cause.TheVariants as cause
 use Rattle.limit_table.proofs.Spelled.{number_back, price_back, name_back}
+use Rattle.limit_table.specs.Entries.{size_most, trip_most, quota_most, off_most}
+use Rattle.fix_fields.specs.Numbers.{price_most}
 
 number_by : (a b c : Bool) (v n : ℕ)
     → (if a && b && c then Ok v else Err cause.Number) ≡ Ok n
@@ -60,10 +62,10 @@ price_within : (n : ℕ) (text : List ℕ) → price_in text ≡ Ok n → IsPric
 price_within n text h =
     let value = scaled 4 text in
     let parts = price_parts (is_decimal text) (begins_with_minus text) (nat_lt 32 (length text))
-    (is_finer 4 text) (is_outside 9999999999 value) value n h in
-    let sides = or_parts (nat_lt value 1) (nat_lt 9999999999 value) parts.0 in
+    (is_finer 4 text) (is_outside price_most value) value n h in
+    let sides = or_parts (nat_lt value 1) (nat_lt price_most value) parts.0 in
     let low = ltb-false value 1 sides.0 in
-    let high = ltb-false 9999999999 value sides.1 in
+    let high = ltb-false price_most value sides.1 in
     (omega (arith, low, parts.1), omega (arith, high, parts.1))
 
 name_parts : (a b c : Bool) (text name : List ℕ)
@@ -122,11 +124,11 @@ off_range : (row : Texts) (e : Entry) → off_in row ≡ Ok e → IsInRange e
 off_range row e h =
     let set : ℕ → List ℕ → Entry =
     λ from name. entry.Off (record { name = name; from = from }) in
-    let a = bind_ok (number_in 0 1000000000 row.limit)
+    let a = bind_ok (number_in 0 off_most row.limit)
     (λ from. name_in row.name >>= λ name. Ok (set from name)) e h in
     let b = bind_ok (name_in row.name) (λ name. Ok (set a.0 name)) e a.2 in
     subst IsInRange (ok_same (set a.0 b.0) e b.2)
-    (number_within 0 1000000000 a.0 row.limit a.1, name_within b.0 row.name b.1)
+    (number_within 0 off_most a.0 row.limit a.1, name_within b.0 row.name b.1)
 
 -- a symbol with these columns
 abbrev symbol_set : ℕ → ℕ → ℕ → ℕ → List ℕ → Entry
@@ -136,14 +138,14 @@ symbol_set limit low high size name =
 symbol_range : (row : Texts) (e : Entry) → symbol_in row ≡ Ok e → is_crossed e ≡ false → IsInRange e
 symbol_range row e h uncrossed =
     let a = bind_ok (number_in 0 amount_most row.limit) (λ limit. price_in row.low >>= λ low.
-    price_in row.high >>= λ high. number_in 1 1000000000 row.size >>= λ size.
+    price_in row.high >>= λ high. number_in 1 size_most row.size >>= λ size.
     name_in row.name >>= λ name. Ok (symbol_set limit low high size name)) e h in
     let b = bind_ok (price_in row.low) (λ low.
-    price_in row.high >>= λ high. number_in 1 1000000000 row.size >>= λ size.
+    price_in row.high >>= λ high. number_in 1 size_most row.size >>= λ size.
     name_in row.name >>= λ name. Ok (symbol_set a.0 low high size name)) e a.2 in
-    let c = bind_ok (price_in row.high) (λ high. number_in 1 1000000000 row.size >>= λ size.
+    let c = bind_ok (price_in row.high) (λ high. number_in 1 size_most row.size >>= λ size.
     name_in row.name >>= λ name. Ok (symbol_set a.0 b.0 high size name)) e b.2 in
-    let d = bind_ok (number_in 1 1000000000 row.size) (λ size.
+    let d = bind_ok (number_in 1 size_most row.size) (λ size.
     name_in row.name >>= λ name. Ok (symbol_set a.0 b.0 c.0 size name)) e c.2 in
     let f = bind_ok (name_in row.name) (λ name. Ok (symbol_set a.0 b.0 c.0 d.0 name)) e d.2 in
     let same = ok_same (symbol_set a.0 b.0 c.0 d.0 f.0) e f.2 in
@@ -152,7 +154,7 @@ symbol_range row e h uncrossed =
       number_within 0 amount_most a.0 row.limit a.1,
       price_within b.0 row.low b.1,
       price_within c.0 row.high c.1,
-      number_within 1 1000000000 d.0 row.size d.1,
+      number_within 1 size_most d.0 row.size d.1,
       name_within f.0 row.name f.1,
       ordered,
     )
@@ -162,8 +164,8 @@ by_kind : (k : Kind) (row : Texts) (e : Entry) → entry_by k row ≡ Ok e → i
 by_kind kind.Firm row e h u = count_range 0 amount_most (λ n. entry.Firm n) row e h (λ n r. r)
 by_kind kind.Account row e h u = account_range row e h
 by_kind kind.Symbol row e h u = symbol_range row e h u
-by_kind kind.Trip row e h u = count_range 1 1000000 (λ n. entry.Trip n) row e h (λ n r. r)
-by_kind kind.Quota row e h u = count_range 1 200000 (λ n. entry.Quota n) row e h (λ n r. r)
+by_kind kind.Trip row e h u = count_range 1 trip_most (λ n. entry.Trip n) row e h (λ n r. r)
+by_kind kind.Quota row e h u = count_range 1 quota_most (λ n. entry.Quota n) row e h (λ n r. r)
 by_kind kind.Repeat row e h u = count_range 0 64 (λ n. entry.Repeat n) row e h (λ n r. r)
 by_kind kind.Off row e h u = off_range row e h
 
@@ -187,16 +189,13 @@ read_in_range row e h u =
     by_name named (columns_of row) e (past_test (not (length row == 6)) cause.RowShape
     (entry_named named (columns_of row)) e h) u
 
-small_most : amount_most ≤ 999999999999
-small_most = omega arith
-
-count_back : (least most n : ℕ) (make : ℕ → Entry) → IsFromTo least most n → most ≤ 999999999999
+count_back : (least most n : ℕ) (make : ℕ → Entry) → IsFromTo least most n → most ≤ amount_most
     → (number_in least most (decimal n) >>= λ m. Ok (make m)) ≡ Ok (make n)
 count_back least most n make range cap =
     ap (λ (r : Result ℕ Cause). r >>= λ m. Ok (make m)) (number_back least most n range cap)
 
 named_back : (least most n : ℕ) (name : List ℕ) (make : ℕ → List ℕ → Entry) → IsFromTo least most n
-    → most ≤ 999999999999 → IsId name
+    → most ≤ amount_most → IsId name
     → (number_in least most (decimal n) >>= λ m. name_in name >>= λ t. Ok (make m t))
     ≡ Ok (make n name)
 named_back least most n name make range cap is =
@@ -205,37 +204,37 @@ named_back least most n name make range cap is =
     ∙ ap (λ (r : Result (List ℕ) Cause). r >>= λ t. Ok (make n t)) (name_back name is)
 
 symbol_back : (limit low high size : ℕ) (name : List ℕ) → IsFromTo 0 amount_most limit → IsPrice low
-    → IsPrice high → IsFromTo 1 1000000000 size → IsId name
+    → IsPrice high → IsFromTo 1 size_most size → IsId name
     → (number_in 0 amount_most (decimal limit) >>= λ l. price_in (price_text low) >>= λ a.
-    price_in (price_text high) >>= λ b. number_in 1 1000000000 (decimal size) >>= λ s.
+    price_in (price_text high) >>= λ b. number_in 1 size_most (decimal size) >>= λ s.
     name_in name >>= λ t. Ok (symbol_set l a b s t)) ≡ Ok (symbol_set limit low high size name)
 symbol_back limit low high size name in_limit in_low in_high in_size is =
     ap (λ (r : Result ℕ Cause). r >>= λ l. price_in (price_text low) >>= λ a.
-    price_in (price_text high) >>= λ b. number_in 1 1000000000 (decimal size) >>= λ s.
+    price_in (price_text high) >>= λ b. number_in 1 size_most (decimal size) >>= λ s.
     name_in name >>= λ t. Ok (symbol_set l a b s t))
-    (number_back 0 amount_most limit in_limit small_most)
+    (number_back 0 amount_most limit in_limit (omega arith))
     ∙ ap (λ (r : Result ℕ Cause). r >>= λ a. price_in (price_text high) >>= λ b.
-    number_in 1 1000000000 (decimal size) >>= λ s. name_in name >>= λ t.
+    number_in 1 size_most (decimal size) >>= λ s. name_in name >>= λ t.
     Ok (symbol_set limit a b s t)) (price_back low in_low)
-    ∙ ap (λ (r : Result ℕ Cause). r >>= λ b. number_in 1 1000000000 (decimal size) >>= λ s.
+    ∙ ap (λ (r : Result ℕ Cause). r >>= λ b. number_in 1 size_most (decimal size) >>= λ s.
     name_in name >>= λ t. Ok (symbol_set limit low b s t)) (price_back high in_high)
     ∙ ap (λ (r : Result ℕ Cause). r >>= λ s. name_in name >>= λ t.
-    Ok (symbol_set limit low high s t)) (number_back 1 1000000000 size in_size (omega arith))
+    Ok (symbol_set limit low high s t)) (number_back 1 size_most size in_size (omega arith))
     ∙ ap (λ (r : Result (List ℕ) Cause). r >>= λ t. Ok (symbol_set limit low high size t))
     (name_back name is)
 
 -- the row that is written for what is in range sets that
 pub written_sets : (e : Entry) → IsInRange e → entry_of (row_of e) ≡ Ok e
 unfolding field_at
-written_sets (entry.Firm n) r = count_back 0 amount_most n (λ m. entry.Firm m) r small_most
+written_sets (entry.Firm n) r = count_back 0 amount_most n (λ m. entry.Firm m) r (omega arith)
 written_sets (entry.Account row) r =
     named_back 0 amount_most row.limit row.name
-    (λ m t. entry.Account (record { name = t; limit = m })) r.0 small_most r.1
+    (λ m t. entry.Account (record { name = t; limit = m })) r.0 (omega arith) r.1
 written_sets (entry.Symbol row) r =
     symbol_back row.limit row.low row.high row.size row.name r.0 r.1 r.2 r.3 r.4
-written_sets (entry.Trip n) r = count_back 1 1000000 n (λ m. entry.Trip m) r (omega arith)
-written_sets (entry.Quota n) r = count_back 1 200000 n (λ m. entry.Quota m) r (omega arith)
+written_sets (entry.Trip n) r = count_back 1 trip_most n (λ m. entry.Trip m) r (omega arith)
+written_sets (entry.Quota n) r = count_back 1 quota_most n (λ m. entry.Quota m) r (omega arith)
 written_sets (entry.Repeat n) r = count_back 0 64 n (λ m. entry.Repeat m) r (omega arith)
 written_sets (entry.Off row) r =
-    named_back 0 1000000000 row.from row.name
+    named_back 0 off_most row.from row.name
     (λ m t. entry.Off (record { name = t; from = m })) r.0 (omega arith) r.1

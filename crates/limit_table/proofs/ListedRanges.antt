@@ -19,6 +19,8 @@ use Rattle.limit_table.specs.declared.limits.Limits.{Limits}
 use Rattle.limit_table.proofs.Listed.{AreSet, account_rows, symbol_rows, off_rows, last_rows}
 use Rattle.limit_table.proofs.Listed.{of_accounts, of_symbols, of_off}
 use Rattle.limit_table.proofs.SoundAfter.{of_kind}
+use Rattle.limit_table.specs.Entries.{quota_most}
+use Rattle.limit_table.specs.Tables.{quota_default}
 
 none_found : (e : Entry) → None ≡ Some e → ⊥
 none_found e h = cc h
@@ -65,10 +67,10 @@ trip_in_range (Some (entry.Quota x)) r = All-nil IsInRange
 trip_in_range (Some (entry.Repeat x)) r = All-nil IsInRange
 trip_in_range (Some (entry.Off x)) r = All-nil IsInRange
 
-default_quota : IsFromTo 1 200000 50000
+default_quota : IsFromTo 1 quota_most quota_default
 default_quota = (omega arith, omega arith)
 
-quota_in_range : (o : Option Entry) → Given o → IsFromTo 1 200000 (unwrap_or (quota_in o) 50000)
+quota_in_range : (o : Option Entry) → Given o → IsFromTo 1 quota_most (unwrap_or (quota_in o) quota_default)
 quota_in_range None r = default_quota
 quota_in_range (Some (entry.Quota x)) r = r (entry.Quota x) refl
 quota_in_range (Some (entry.Firm x)) r = default_quota
@@ -112,8 +114,8 @@ listed_in_range es l set r =
     let trip : All IsInRange (trip_rows l.trip) =
     subst (λ (x : Limits). All IsInRange (trip_rows x.trip)) set.same
     (trip_in_range (first_of kind.Trip es) (first kind.Trip)) in
-    let quota : IsFromTo 1 200000 l.quota =
-    subst (λ (x : Limits). IsFromTo 1 200000 x.quota) set.same
+    let quota : IsFromTo 1 quota_most l.quota =
+    subst (λ (x : Limits). IsFromTo 1 quota_most x.quota) set.same
     (quota_in_range (first_of kind.Quota es) (first kind.Quota)) in
     let repeat : IsFromTo 0 64 l.repeat =
     subst (λ (x : Limits). IsFromTo 0 64 x.repeat) set.same

@@ -17,6 +17,7 @@ use Rattle.limit_table.specs.declared.kind.Entry.{Entry}
 use Rattle.limit_table.specs.declared.kind.Entry.TheVariants as entry
 use Rattle.limit_table.specs.declared.limits.Limits.{Limits}
 use Rattle.limit_table.proofs.Listed.{account_rows, symbol_rows, last_rows, joined}
+use Rattle.limit_table.specs.Tables.{quota_default}
 
 gather_all : {X Y : Type 0} (g : Y → Option X) (f : X → Y) (xs : List X)
     → ((x : X) → g (f x) ≡ Some x) → filter_map g (map f xs) ≡ xs
@@ -124,7 +125,7 @@ trip_listed l = ap trip_in (first_past kind.Trip l refl refl refl) ∙ trip_firs
 
 quota_listed : (l : Limits) → quota_of (entries_in l) ≡ l.quota
 quota_listed l =
-    ap (λ (o : Option ℕ). unwrap_or o 50000)
+    ap (λ (o : Option ℕ). unwrap_or o quota_default)
     (ap quota_in (first_past kind.Quota l refl refl refl) ∙ quota_first l l.trip)
 
 repeat_listed : (l : Limits) → repeat_of (entries_in l) ≡ l.repeat

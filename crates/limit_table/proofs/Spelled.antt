@@ -17,8 +17,10 @@ use Rattle.fix_fields.proofs.Scaled.{after-append}
 use Rattle.limit_table.specs.Columns.{number_in, price_in, name_in}
 use Rattle.limit_table.specs.Printing.{four_digits, price_text}
 use Rattle.limit_table.specs.Ranges.{IsFromTo, IsPrice}
+use Rattle.limit_table.specs.Entries.{amount_most}
+use Rattle.fix_fields.specs.Numbers.{price_most}
 
-pub number_back : (least most n : ℕ) → IsFromTo least most n → most ≤ 999999999999
+pub number_back : (least most n : ℕ) → IsFromTo least most n → most ≤ amount_most
     → number_in least most (decimal n) ≡ Ok n
 number_back least most n range cap =
     let all = decimal_is_digits n (omega arith) in
@@ -113,7 +115,7 @@ price_by text whole fraction price is_whole is_fraction digits more some sign sh
       fine,
       is,
       le-ltb price 1 range.0,
-      le-ltb 9999999999 price range.1,
+      le-ltb price_most price range.1,
     ) refl
 
 pub price_back : (price : ℕ) → IsPrice price → price_in (price_text price) ≡ Ok price

@@ -12,6 +12,7 @@ use Rattle.limit_table.specs.Files.{IsHeldByFile}
 use Rattle.limit_table.specs.Printing.{entries_in, trip_rows}
 use Rattle.limit_table.specs.Ranges.{IsInRange}
 use Rattle.limit_table.proofs.FileLimits.{held_is_file_limits}
+use Rattle.fix_fields.specs.Numbers.{price_most}
 
 -- the entry of a symbol's row
 symbol_entry : (rows : List SymbolRow) (place : ℕ) (other : SymbolRow) (d : Entry)
@@ -26,7 +27,7 @@ symbol_entry (row ∷ rows) (suc place) other d inside =
 -- the highest price of a symbol's row is a price
 pub held_high : (limits : Limits) (place : ℕ) (other : SymbolRow) → IsHeldByFile limits
     → place < length limits.symbols
-    → (slice_index_or limits.symbols place other).high ≤ 9999999999
+    → (slice_index_or limits.symbols place other).high ≤ price_most
 held_high limits place other held inside =
     let accounts : List Entry = map (λ (row : AccountRow). entry.Account row) limits.accounts in
     let symbols : List Entry = map (λ (row : SymbolRow). entry.Symbol row) limits.symbols in

@@ -20,6 +20,26 @@ abbrev pub ◌>>=◌ : {A B : Type 0} → Result A Cause → (A → Result B Cau
 abbrev pub amount_most : ℕ
 amount_most = 999999999999
 
+-- the largest size of an order, in shares
+abbrev pub size_most : ℕ
+size_most = 1000000000
+
+-- the largest number of refusals that trips the halt
+abbrev pub trip_most : ℕ
+trip_most = 1000000
+
+-- the largest quota that a file may set
+abbrev pub quota_most : ℕ
+quota_most = 200000
+
+-- the longest window of the screen of repeats, in orders
+abbrev pub repeat_most : ℕ
+repeat_most = 64
+
+-- the last order from which a screen may be dropped
+abbrev pub off_most : ℕ
+off_most = 1000000000
+
 -- the columns of an account
 abbrev pub account_in : Texts → Result Entry Cause
 account_in row = do
@@ -33,14 +53,14 @@ symbol_in row = do
   limit ← number_in 0 amount_most row.limit
   low ← price_in row.low
   high ← price_in row.high
-  size ← number_in 1 1000000000 row.size
+  size ← number_in 1 size_most row.size
   name ← name_in row.name
   Ok (entry.Symbol (record { name = name; limit = limit; low = low; high = high; size = size }))
 
 -- the columns of a screen that is dropped
 abbrev pub off_in : Texts → Result Entry Cause
 off_in row = do
-  from ← number_in 0 1000000000 row.limit
+  from ← number_in 0 off_most row.limit
   name ← name_in row.name
   Ok (entry.Off (record { name = name; from = from }))
 
@@ -55,9 +75,9 @@ abbrev pub entry_by : Kind → Texts → Result Entry Cause
 entry_by kind.Firm row = count_in 0 amount_most (λ limit. entry.Firm limit) row
 entry_by kind.Account row = account_in row
 entry_by kind.Symbol row = symbol_in row
-entry_by kind.Trip row = count_in 1 1000000 (λ count. entry.Trip count) row
-entry_by kind.Quota row = count_in 1 200000 (λ count. entry.Quota count) row
-entry_by kind.Repeat row = count_in 0 64 (λ count. entry.Repeat count) row
+entry_by kind.Trip row = count_in 1 trip_most (λ count. entry.Trip count) row
+entry_by kind.Quota row = count_in 1 quota_most (λ count. entry.Quota count) row
+entry_by kind.Repeat row = count_in 0 repeat_most (λ count. entry.Repeat count) row
 entry_by kind.Off row = off_in row
 
 -- the columns of a row whose first column names this kind

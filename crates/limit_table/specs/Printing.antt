@@ -17,14 +17,18 @@ count_row kind count = kind ∷ [] ∷ decimal count ∷ [] ∷ [] ∷ [] ∷ []
 abbrev pub named_row : List ℕ → List ℕ → ℕ → List (List ℕ)
 named_row kind name count = kind ∷ name ∷ decimal count ∷ [] ∷ [] ∷ [] ∷ []
 
--- the four digits of a number below 10,000
+-- ten-thousandths in a currency unit
+abbrev pub price_unit : ℕ
+price_unit = 10000
+
+-- the four digits of a number of at most four digits
 abbrev pub four_digits : ℕ → List ℕ
 four_digits n =
     (48 + n / 1000) ∷ (48 + n / 100 % 10) ∷ (48 + n / 10 % 10) ∷ (48 + n % 10) ∷ []
 
 -- ten-thousandths of a currency unit: the whole part, a point and four digits
 abbrev pub price_text : ℕ → List ℕ
-price_text price = decimal (price / 10000) ++ 46 ∷ four_digits (price % 10000)
+price_text price = decimal (price / price_unit) ++ 46 ∷ four_digits (price % price_unit)
 
 -- the six columns of a row that sets this
 abbrev pub row_of : Entry → List (List ℕ)

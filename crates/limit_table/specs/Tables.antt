@@ -58,9 +58,13 @@ firm_of entries = firm_in (first_of kind.Firm entries)
 abbrev pub trip_of : List Entry → Option ℕ
 trip_of entries = trip_in (first_of kind.Trip entries)
 
+-- the quota that a file sets which has no row of it
+abbrev pub quota_default : ℕ
+quota_default = 50000
+
 -- the quota, which is 50,000 where no row sets it
 abbrev pub quota_of : List Entry → ℕ
-quota_of entries = unwrap_or (quota_in (first_of kind.Quota entries)) 50000
+quota_of entries = unwrap_or (quota_in (first_of kind.Quota entries)) quota_default
 
 -- the setting of the screen of repeats, which is 0 where no row sets it
 abbrev pub repeat_of : List Entry → ℕ

@@ -15,6 +15,21 @@ use csv::ByteRecord;
 /// The largest limit in currency units.
 const AMOUNT_MOST: u64 = 999_999_999_999;
 
+/// The largest size of an order, in shares.
+const SIZE_MOST: u64 = 1_000_000_000;
+
+/// The largest number of refusals that trips the halt.
+const TRIP_MOST: u32 = 1_000_000;
+
+/// The largest quota that a file may set.
+const QUOTA_MOST: u32 = 200_000;
+
+/// The longest window of the screen of repeats, in orders.
+const REPEAT_MOST: u32 = 64;
+
+/// The last order from which a screen may be dropped.
+const OFF_MOST: u32 = 1_000_000_000;
+
 /// The columns of an account.
 fn read_account(row: &Columns<'_>) -> Result<Entry, Cause>
     ensures { result ≡ account_in (texts_in row.now) }
@@ -31,7 +46,7 @@ fn read_symbol(row: &Columns<'_>) -> Result<Entry, Cause>
     let limit = read_number(row.limit, 0, AMOUNT_MOST)?;
     let low = read_band_price(row.low)?;
     let high = read_band_price(row.high)?;
-    let size = read_number(row.size, 1, 1_000_000_000)?;
+    let size = read_number(row.size, 1, SIZE_MOST)?;
     let name = read_name(row.name)?;
     Ok(Entry::Symbol(SymbolRow {
         name,
@@ -46,7 +61,7 @@ fn read_symbol(row: &Columns<'_>) -> Result<Entry, Cause>
 fn read_off(row: &Columns<'_>) -> Result<Entry, Cause>
     ensures { result ≡ off_in (texts_in row.now) }
 {
-    let from = read_count(row.limit, 0, 1_000_000_000)?;
+    let from = read_count(row.limit, 0, OFF_MOST)?;
     let name = read_name(row.name)?;
     Ok(Entry::Off(OffRow { name, from }))
 }
@@ -59,9 +74,9 @@ fn read_by(kind: Kind, row: &Columns<'_>) -> Result<Entry, Cause>
         Kind::Firm => Ok(Entry::Firm(read_number(row.limit, 0, AMOUNT_MOST)?)),
         Kind::Account => read_account(row),
         Kind::Symbol => read_symbol(row),
-        Kind::Trip => Ok(Entry::Trip(read_count(row.limit, 1, 1_000_000)?)),
-        Kind::Quota => Ok(Entry::Quota(read_count(row.limit, 1, 200_000)?)),
-        Kind::Repeat => Ok(Entry::Repeat(read_count(row.limit, 0, 64)?)),
+        Kind::Trip => Ok(Entry::Trip(read_count(row.limit, 1, TRIP_MOST)?)),
+        Kind::Quota => Ok(Entry::Quota(read_count(row.limit, 1, QUOTA_MOST)?)),
+        Kind::Repeat => Ok(Entry::Repeat(read_count(row.limit, 0, REPEAT_MOST)?)),
         Kind::Off => read_off(row),
     }
 }

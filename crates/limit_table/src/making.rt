@@ -12,6 +12,9 @@ use crate::limits::Limits;
 use crate::lists::{Accounts, OffRows, Symbols};
 use std::alloc::{AllocError, Global};
 
+/// The quota that a file sets which has no row of it.
+const QUOTA_DEFAULT: u32 = 50_000;
+
 /// The first row of a kind.
 fn find_first(entries: &[Entry], kind: Kind) -> Option<&Entry>
     ensures { option_map (λ entry. entry.now) result ≡ first_of kind entries.now }
@@ -45,7 +48,7 @@ fn find_quota(entries: &[Entry]) -> u32
 {
     match find_first(entries, Kind::Quota) {
         Some(Entry::Quota(count)) => *count,
-        _ => 50_000,
+        _ => QUOTA_DEFAULT,
     }
 }
 

@@ -1,7 +1,7 @@
 //! What no clause says: how the columns of a limit file are spelled, at both sides of each limit, and
 //! that each call runs.
 use crate::{LimitFault, read_limits};
-use fix_fields::Id;
+use fix_fields::IdText;
 use std::alloc::{AllocError, Global};
 use std::test::*;
 
@@ -356,7 +356,7 @@ fn names_have_places(rt: HostRuntime) -> Result<(), Fail> {
         (b"S", None, None),
     ];
     for (text, account, symbol) in names {
-        let Ok(name) = Id::read(text) else {
+        let Ok(name) = IdText::read(text) else {
             panic!(rt; "no name");
         };
         assert_eq!(rt; limits.account(&name), account);

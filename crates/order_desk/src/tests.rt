@@ -12,7 +12,7 @@ use crate::sequences::{Answer, Posted, SEQUENCES, Sequence, Step, Turn};
 use crate::{Refusal, decide_cancel, decide_new, decide_replace, settle_reject, settle_report};
 use exposure_book::Book;
 use fix_orders::{
-    Cancel, CancelReject, Exec, Head, Id, Message, NewOrder, OrderKind, Replace, Report,
+    Cancel, CancelReject, Exec, Head, IdText, Message, NewOrder, OrderKind, Replace, Report,
 };
 use fold_law::{Max, QUOTA, Sum};
 use hand_acts::{Hands, Told, first_lasts, reserve_frame};
@@ -24,15 +24,15 @@ use std::process::Abort;
 use std::test::*;
 
 /// The id of this text.
-fn id(text: &[u8]) -> Result<Id, Fail> {
-    match Id::read(text) {
+fn id(text: &[u8]) -> Result<IdText, Fail> {
+    match IdText::read(text) {
         Ok(id) => Ok(id),
         Err(_) => Err("no id")?,
     }
 }
 
 /// A head that nothing here looks at.
-fn head() -> Result<Head, Fail> {
+fn head() -> Result<Head<'static>, Fail> {
     Ok(Head {
         sender: id(b"C1")?,
         target: id(b"GATE")?,
@@ -42,7 +42,12 @@ fn head() -> Result<Head, Fail> {
 }
 
 /// A limit order of these ids, account and symbol.
-fn order(names: [&[u8]; 3], side: u8, quantity: u64, price: u64) -> Result<Message, Fail> {
+fn order<'a>(
+    names: [&'a [u8]; 3],
+    side: u8,
+    quantity: u64,
+    price: u64,
+) -> Result<Message<'a>, Fail> {
     let [own, account, symbol] = names;
     Ok(Message::New(NewOrder {
         head: head()?,
@@ -57,13 +62,18 @@ fn order(names: [&[u8]; 3], side: u8, quantity: u64, price: u64) -> Result<Messa
 }
 
 /// A replace by a limit order of these ids, account and symbol. An empty account isn't there.
-fn replace(names: [&[u8]; 4], side: u8, quantity: u64, price: u64) -> Result<Message, Fail> {
+fn replace<'a>(
+    names: [&'a [u8]; 4],
+    side: u8,
+    quantity: u64,
+    price: u64,
+) -> Result<Message<'a>, Fail> {
     let [own, orig, account, symbol] = names;
     Ok(Message::Replace(Replace {
         head: head()?,
         id: id(own)?,
         orig: id(orig)?,
-        account: Id::read(account).ok(),
+        account: IdText::read(account).ok(),
         symbol: id(symbol)?,
         side,
         quantity,
@@ -73,7 +83,7 @@ fn replace(names: [&[u8]; 4], side: u8, quantity: u64, price: u64) -> Result<Mes
 }
 
 /// A report, without an id where there is none.
-fn report(own: Option<Id>, exec: Exec) -> Result<Message, Fail> {
+fn report(own: Option<IdText>, exec: Exec) -> Result<Message, Fail> {
     Ok(Message::Report(Report {
         head: head()?,
         id: own,
@@ -82,7 +92,7 @@ fn report(own: Option<Id>, exec: Exec) -> Result<Message, Fail> {
 }
 
 /// The message of a step.
-fn message(step: Step) -> Result<Message, Fail> {
+fn message(step: Step) -> Result<Message<'static>, Fail> {
     match step {
         Step::Buy(own, quantity, price) => order([own, b"ACC", b"XYZ"], b'1', quantity, price),
         Step::New(own, account, symbol, side, quantity, price) => {

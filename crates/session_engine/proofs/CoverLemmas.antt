@@ -26,11 +26,12 @@ use Rattle.session_engine.specs.declared.note.Note.{Note}
 use Rattle.session_engine.specs.declared.note.Note.TheVariants as note
 use Rattle.session_engine.specs.Admitted.{CoversOrders}
 use Rattle.session_engine.specs.Answers.{Wording, order_refusal, cancel_refusal, replace_refusal}
-use Rattle.session_engine.specs.Answers.{code_of, fault_code, note_code}
+use Rattle.session_engine.specs.Answers.{refused_act, fault_code, note_code}
 use Rattle.session_engine.specs.Session.{LimitsValue, SessionValue, opening, tape_of, after_answer}
 use Rattle.session_engine.specs.Session.{decided, after_trip, after_decision, after_noting}
 use Rattle.session_engine.specs.Session.{after_effect, after_settling, after_fault, named, asks}
 use Rattle.session_engine.specs.Session.{after_message, after_result, after_content, after_frame}
+use Rattle.session_engine.specs.Session.{taken_up}
 use Rattle.session_engine.specs.Session.{after_frames, with_asked}
 use Rattle.session_engine.proofs.TripLemmas.{covers_refused}
 
@@ -47,7 +48,7 @@ covers_answered limits wording fields None session own =
     covers_noted limits session.acts session.book (Sent session.frames) tt own
 covers_answered limits wording fields (Some why) session own =
     covers_noted limits session.acts session.book
-    (Refused session.frames (code_of why) 0 0) tt own
+    (refused_act session.frames why) tt own
 
 covers_decided : (limits : LimitsValue) (wording : Wording) (fields : List FieldValue)
     (decision : Decision) (session : SessionValue)
@@ -130,7 +131,7 @@ covers_content : (limits : LimitsValue) (fields : Option (List FieldValue))
 covers_content limits None session own = covers_note limits note.NotSound session own
 covers_content limits (Some fields) session own =
     covers_result limits (asks fields) fields (read_of fields)
-    (named (asks fields) fields session) own
+    (named (asks fields) fields (taken_up fields session)) own
 
 -- a frame keeps the orders of the book covered
 pub covers_frame : (limits : LimitsValue) (fields : Option (List FieldValue))

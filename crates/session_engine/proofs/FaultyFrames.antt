@@ -13,6 +13,7 @@ use Rattle.session_engine.specs.declared.counts.Counts.{Counts}
 use Rattle.session_engine.specs.declared.note.Note.TheVariants as note
 use Rattle.session_engine.specs.Answers.{reject_text, note_code, fault_code}
 use Rattle.session_engine.specs.Session.{LimitsValue, SessionValue, asks, client_after}
+use Rattle.session_engine.specs.Session.{after_sound, with_frame}
 use Rattle.session_engine.specs.Reaches.{with_reads}
 use Rattle.session_engine.specs.Taken.{Kept, StandsAs, Takes, counted_client, counted_venue}
 use Rattle.session_engine.proofs.QuietActs.{reads_of-quiet}
@@ -37,7 +38,7 @@ pub takes_rejected : (limits : LimitsValue) (fields : List FieldValue) (fault : 
     (session : SessionValue) (before after : Kept) → asks fields ≡ true
     → read_of fields ≡ Err fault → StandsAs before session
     → Rejects fields fault before after
-    → (next : SessionValue) × Takes limits (Some fields) session next before after
+    → (next : SessionValue) × Takes (with_frame (after_sound limits fields)) 0 session next before after
 takes_rejected limits fields fault session before after asks_are read own rejects =
     let s = own.stands in
     let act : ℕ → Act = λ n. Refused n fault_code fault.tag fault.reason in
@@ -53,19 +54,20 @@ takes_rejected limits fields fault session before after asks_are read own reject
     λ receiver. Appends before.client after.client (text receiver (length session.client + 1)) in
     let Q : ℕ → Type 0 =
     λ n. Appends before.client after.client (text after.client_id n) in
-    takes_next limits (Some fields) session before after acts session.book session.screens
+    takes_next (with_frame (after_sound limits fields)) 0 session before after acts session.book session.screens
     client_id None None message own
     (ap (λ l. l ++ act session.frames ∷ []) s.acts_are
     ∙ ap (λ n. before.acts ++ act n ∷ []) (sym s.frames) ∙ sym rejects.acts)
     (s.book_is ∙ sym rejects.book) (own.screens_are ∙ sym rejects.screens) client_is
     (record {
       frames = ap (λ (c : Counts). c.frames) rejects.counts;
+      orders = ap (λ (c : Counts). c.orders) rejects.counts;
       venue = omega (arith, ap (λ (c : Counts). c.venue) rejects.counts);
       client = ap (λ (c : Counts). c.client) rejects.counts;
       firms = ap (λ (c : Counts). c.firms) rejects.counts;
     }) (appends_nothing before.venue after.venue rejects.venue)
     (subst P (sym client_is) (subst Q number rejects.client))
-    (steps_quiet limits (Some fields) session
+    (steps_quiet (with_frame (after_sound limits fields)) session
     (next_by acts session.book session.screens client_id None None message session)
     (reads_of-quiet session.acts (act session.frames ∷ []) refl)
     (λ more. frame_by limits fields true (Err fault) (with_reads more session) asks_are read))
@@ -88,7 +90,7 @@ pub takes_returned : (limits : LimitsValue) (fields : List FieldValue) (fault : 
     (session : SessionValue) (before after : Kept) → asks fields ≡ false
     → read_of fields ≡ Err fault → StandsAs before session
     → Returns fields fault before after
-    → (next : SessionValue) × Takes limits (Some fields) session next before after
+    → (next : SessionValue) × Takes (with_frame (after_sound limits fields)) 0 session next before after
 takes_returned limits fields fault session before after asks_are read own returns =
     let s = own.stands in
     let act : ℕ → Act = λ n. Noted n (note_code note.FaultyField) fault.tag fault.reason in
@@ -98,7 +100,7 @@ takes_returned limits fields fault session before after asks_are read own return
     let number : after.counts.venue ≡ length session.venue + 1 =
     ap (λ (c : Counts). c.venue) returns.counts ∙ ap (λ n. n + 1) s.venue in
     let P : ℕ → Type 0 = λ n. Appends before.venue after.venue (text n) in
-    takes_next limits (Some fields) session before after acts session.book session.screens
+    takes_next (with_frame (after_sound limits fields)) 0 session before after acts session.book session.screens
     session.client_id None message None own
     (ap (λ l. l ++ act session.frames ∷ []) s.acts_are
     ∙ ap (λ n. before.acts ++ act n ∷ []) (sym s.frames) ∙ sym returns.acts)
@@ -106,12 +108,13 @@ takes_returned limits fields fault session before after asks_are read own return
     (own.client_is ∙ sym returns.client_id)
     (record {
       frames = ap (λ (c : Counts). c.frames) returns.counts;
+      orders = ap (λ (c : Counts). c.orders) returns.counts;
       venue = ap (λ (c : Counts). c.venue) returns.counts;
       client = omega (arith, ap (λ (c : Counts). c.client) returns.counts);
       firms = ap (λ (c : Counts). c.firms) returns.counts;
     }) (subst P number returns.venue)
     (appends_nothing before.client after.client returns.client)
-    (steps_quiet limits (Some fields) session
+    (steps_quiet (with_frame (after_sound limits fields)) session
     (next_by acts session.book session.screens session.client_id None message None session)
     (reads_of-quiet session.acts (act session.frames ∷ []) refl)
     (λ more. frame_by limits fields false (Err fault) (with_reads more session) asks_are read))

@@ -3,6 +3,7 @@ use Rattle.std.proofs.Common.{◌≡◌, ℕ, List, [], ◌∷◌, ◌++◌, ref
 use Rattle.std.specs.Prelude.{Option, Some, None, Ok}
 use Rattle.std.proofs.lemmas.Bool.{false≢true}
 use Rattle.fix_fields.specs.Fields.{FieldValue}
+use Rattle.fix_fields.specs.Places.{HasFieldsIn}
 use Rattle.fix_fields.specs.declared.frame.Frame.{Frame}
 use Rattle.fix_orders.specs.declared.message.Message.TheVariants as message
 use Rattle.fix_orders.specs.Reading.{read_of}
@@ -11,13 +12,14 @@ use Rattle.risk_journal.specs.declared.acts.Act.{Act}
 use Rattle.session_engine.specs.declared.counts.Counts.{Counts}
 use Rattle.session_engine.specs.declared.note.Note.{Note}
 use Rattle.session_engine.specs.declared.note.Note.TheVariants as note
-use Rattle.session_engine.specs.Session.{LimitsValue, SessionValue, asks}
+use Rattle.session_engine.specs.Session.{LimitsValue, SessionValue, asks, after_frame, after_sound}
+use Rattle.session_engine.specs.Session.{orders_with, with_frame}
 use Rattle.session_engine.specs.Reaches.{with_reads, Steps}
 use Rattle.session_engine.specs.Taken.{Kept, StandsAs, IsFrameOf, Takes, TakesFrom, TakesSound}
 use Rattle.session_engine.specs.Taken.{counted, noted_act}
 use Rattle.session_engine.proofs.QuietActs.{reads_of-quiet}
 use Rattle.session_engine.proofs.TakenLemmas.{frame_by, steps_quiet, next_by, takes_next}
-use Rattle.session_engine.proofs.TakenLemmas.{appends_nothing}
+use Rattle.session_engine.proofs.TakenLemmas.{appends_nothing, takes_up, with_orders}
 
 -- what is kept after such a frame
 pub record Passes (before after : Kept) : Type 0 where
@@ -28,19 +30,20 @@ pub record Passes (before after : Kept) : Type 0 where
   pub venue : after.venue ≡ before.venue
   pub client : after.client ≡ before.client
 
-module _ (limits : LimitsValue) (fields : Option (List FieldValue)) (session : SessionValue)
+module _ (step : SessionValue → SessionValue) (most : ℕ) (session : SessionValue)
     (before after : Kept) (own : StandsAs before session) (passes : Passes before after) where
   -- the session with these acts, and as before
   takes_passed : (acts : List Act) → acts ≡ after.acts
-      → Steps limits fields session
+      → Steps step session
       (next_by acts session.book session.screens session.client_id None None None session)
-      → (next : SessionValue) × Takes limits fields session next before after
+      → (next : SessionValue) × Takes step most session next before after
   takes_passed acts acts_are steps =
-      takes_next limits fields session before after acts session.book session.screens
+      takes_next step most session before after acts session.book session.screens
       session.client_id None None None own acts_are (own.stands.book_is ∙ sym passes.book)
       (own.screens_are ∙ sym passes.screens) (own.client_is ∙ sym passes.client_id)
       (record {
         frames = ap (λ (c : Counts). c.frames) passes.counts;
+        orders = ap (λ (c : Counts). c.orders) passes.counts;
         venue = omega (arith, ap (λ (c : Counts). c.venue) passes.counts);
         client = omega (arith, ap (λ (c : Counts). c.client) passes.counts);
         firms = ap (λ (c : Counts). c.firms) passes.counts;
@@ -58,12 +61,12 @@ module _ (limits : LimitsValue) (fields : Option (List FieldValue)) (session : S
 takes_unsound : (limits : LimitsValue) (session : SessionValue) (before after : Kept)
     → StandsAs before session → Passes before after
     → after.acts ≡ before.acts ++ noted_act note.NotSound before.counts.frames ∷ []
-    → (next : SessionValue) × Takes limits None session next before after
+    → (next : SessionValue) × Takes (after_frame limits None) 1 session next before after
 takes_unsound limits session before after own passes acts =
     let noted = session.acts ++ noted_act note.NotSound session.frames ∷ [] in
-    takes_passed limits None session before after own passes noted
-    (noted_are limits None session before after own passes note.NotSound acts)
-    (steps_quiet limits None session
+    takes_passed (after_frame limits None) 1 session before after own passes noted
+    (noted_are (after_frame limits None) 1 session before after own passes note.NotSound acts)
+    (steps_quiet (after_frame limits None) session
     (next_by noted session.book session.screens session.client_id None None None session)
     (reads_of-quiet session.acts (noted_act note.NotSound session.frames ∷ []) refl)
     (λ more. refl))
@@ -73,12 +76,12 @@ pub takes_other : (limits : LimitsValue) (fields : List FieldValue) (session : S
     (before after : Kept) → asks fields ≡ false → read_of fields ≡ Ok message.Other
     → StandsAs before session → Passes before after
     → after.acts ≡ before.acts ++ noted_act note.OtherType before.counts.frames ∷ []
-    → (next : SessionValue) × Takes limits (Some fields) session next before after
+    → (next : SessionValue) × Takes (with_frame (after_sound limits fields)) 0 session next before after
 takes_other limits fields session before after asks_are read own passes acts =
     let noted = session.acts ++ noted_act note.OtherType session.frames ∷ [] in
-    takes_passed limits (Some fields) session before after own passes noted
-    (noted_are limits (Some fields) session before after own passes note.OtherType acts)
-    (steps_quiet limits (Some fields) session
+    takes_passed (with_frame (after_sound limits fields)) 0 session before after own passes noted
+    (noted_are (with_frame (after_sound limits fields)) 0 session before after own passes note.OtherType acts)
+    (steps_quiet (with_frame (after_sound limits fields)) session
     (next_by noted session.book session.screens session.client_id None None None session)
     (reads_of-quiet session.acts (noted_act note.OtherType session.frames ∷ []) refl)
     (λ more. frame_by limits fields false (Ok message.Other) (with_reads more session) asks_are
@@ -88,31 +91,37 @@ takes_other limits fields session before after asks_are read own passes acts =
 pub takes_admin : (limits : LimitsValue) (fields : List FieldValue) (session : SessionValue)
     (before after : Kept) → asks fields ≡ false → read_of fields ≡ Ok message.Admin
     → StandsAs before session → Passes before after → after.acts ≡ before.acts
-    → (next : SessionValue) × Takes limits (Some fields) session next before after
+    → (next : SessionValue) × Takes (with_frame (after_sound limits fields)) 0 session next before after
 takes_admin limits fields session before after asks_are read own passes acts =
-    takes_passed limits (Some fields) session before after own passes session.acts
+    takes_passed (with_frame (after_sound limits fields)) 0 session before after own passes session.acts
     (own.stands.acts_are ∙ sym acts)
-    (steps_quiet limits (Some fields) session
+    (steps_quiet (with_frame (after_sound limits fields)) session
     (next_by session.acts session.book session.screens session.client_id None None None session)
     refl
     (λ more. frame_by limits fields false (Ok message.Admin) (with_reads more session) asks_are
     read))
 
--- a sound frame is taken whatever its fields are
+-- a sound frame is taken up and taken, whatever its fields are
 pub sound_takes : (limits : LimitsValue) (bytes : List ℕ) (frame : Frame) (before after : Kept)
-    (fields : Option (List FieldValue)) → TakesSound limits bytes frame before after
-    → frame.sound ≡ true → IsFrameOf bytes frame fields → TakesFrom limits fields before after
-sound_takes limits bytes frame before after None takes sound (from, stands, is) =
-    absurd (false≢true (sym is ∙ sound))
-sound_takes limits bytes frame before after (Some listed) takes sound (from, stands, is) =
-    takes listed (from, stands)
+    (orders : ℕ) (fields : Option (List FieldValue))
+    → ((listed : List FieldValue) → HasFieldsIn bytes frame listed
+    → orders ≡ orders_with listed before.counts.orders)
+    → TakesSound limits bytes frame (with_orders orders before) after
+    → frame.sound ≡ true → IsFrameOf bytes frame fields
+    → TakesFrom (after_frame limits fields) 1 before after
+sound_takes limits bytes frame before after orders None is takes sound (from, stands, has) =
+    absurd (false≢true (sym has ∙ sound))
+sound_takes limits bytes frame before after orders (Some listed) is takes sound
+    (from, stands, has) =
+    takes_up limits listed before after orders (is listed (from, stands))
+    (takes listed (from, stands))
 
 -- a frame that isn't sound is noted
 pub unsound_takes : (limits : LimitsValue) (bytes : List ℕ) (frame : Frame) (before after : Kept)
     (fields : Option (List FieldValue)) (session : SessionValue) → frame.sound ≡ false
     → IsFrameOf bytes frame fields → StandsAs before session → Passes before after
     → after.acts ≡ before.acts ++ noted_act note.NotSound before.counts.frames ∷ []
-    → (next : SessionValue) × Takes limits fields session next before after
+    → (next : SessionValue) × Takes (after_frame limits fields) 1 session next before after
 unsound_takes limits bytes frame before after None session sound frame_is own passes acts =
     takes_unsound limits session before after own passes acts
 unsound_takes limits bytes frame before after (Some listed) session sound (from, stands, is) own

@@ -73,7 +73,7 @@ pub reaches_next : (limits : LimitsValue) (screens : List ScreenValue) (bytes : 
     (place : ℕ) (frame : Frame)
     (fields : Option (List FieldValue)) (session next : SessionValue)
     → Reaches limits screens bytes place session → StandsAt bytes place frame fields
-    → Steps limits fields session next → Reaches limits screens bytes frame.end next
+    → Steps (after_frame limits fields) session next → Reaches limits screens bytes frame.end next
 reaches_next limits screens bytes place frame fields session next reaches stands steps =
     let one = frame_value frame fields in
     let P : ℕ → Type 0 = λ p. IsFrameAt bytes p one frame.body_from frame.body_to in

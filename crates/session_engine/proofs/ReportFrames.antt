@@ -16,8 +16,9 @@ use Rattle.session_engine.specs.declared.counts.Counts.{Counts}
 use Rattle.session_engine.specs.declared.venue_report.VenueReport.{VenueReport}
 use Rattle.session_engine.specs.declared.venue_report.VenueReport.TheVariants as from_venue
 use Rattle.session_engine.specs.Answers.{forward_text}
-use Rattle.session_engine.specs.Session.{LimitsValue, SessionValue, after_frame, after_message}
+use Rattle.session_engine.specs.Session.{LimitsValue, SessionValue, after_sound, after_message}
 use Rattle.session_engine.specs.Session.{after_settling, after_effect, after_passing, named}
+use Rattle.session_engine.specs.Session.{with_frame}
 use Rattle.session_engine.specs.Reaches.{with_reads}
 use Rattle.session_engine.specs.Taken.{Kept, StandsAs, Takes, counted_client, note_acts, note_by}
 use Rattle.session_engine.specs.VenueReports.{report_message, venue_settled}
@@ -65,7 +66,7 @@ pub takes_report : (limits : LimitsValue) (fields : List FieldValue) (report : V
     → read_of fields ≡ Ok (report_message report) → (before after : Kept)
     → StandsAs before session → (own : Effect) (told : List Act)
     → Settles limits fields report own told before after
-    → (next : SessionValue) × Takes limits (Some fields) session next before after
+    → (next : SessionValue) × Takes (with_frame (after_sound limits fields)) 0 session next before after
 takes_report limits fields report session facts read before after stands own told settles =
     let s = stands.stands in
     let notes : ℕ → List Act = λ frame. note_acts frame (note_by own) in
@@ -85,7 +86,7 @@ takes_report limits fields report session facts read before after stands own tol
     let Q : ℕ → Type 0 =
     λ n. Appends before.client after.client (text after.client_id n) in
     let from : List SeenAt → SessionValue = λ more. named false fields (with_reads more session) in
-    let stepped : (more : List SeenAt) → after_frame limits (Some fields) (with_reads more session)
+    let stepped : (more : List SeenAt) → with_frame (after_sound limits fields) (with_reads more session)
     ≡ with_reads more (next_by acts
     (roomless after.book) session.screens session.client_id None None message session) =
     λ more. frame_by limits fields false (Ok (report_message report)) (with_reads more session)
@@ -94,18 +95,19 @@ takes_report limits fields report session facts read before after stands own tol
     ∙ ap (λ d. counted session.frames (after_settling fields d (from more))) settled_is
     ∙ ap (λ n. counted session.frames (after_passing fields n))
     (noted_effect own (record (from more) { acts = told; book = roomless after.book })) in
-    takes_next limits (Some fields) session before after acts (roomless after.book)
+    takes_next (with_frame (after_sound limits fields)) 0 session before after acts (roomless after.book)
     session.screens session.client_id None None message stands
     (ap (λ n. told ++ notes n) (sym s.frames) ∙ sym settles.acts) refl
     (stands.screens_are ∙ sym settles.screens) receiver
     (record {
       frames = ap (λ (c : Counts). c.frames) settles.counts;
+      orders = ap (λ (c : Counts). c.orders) settles.counts;
       venue = omega (arith, ap (λ (c : Counts). c.venue) settles.counts);
       client = ap (λ (c : Counts). c.client) settles.counts;
       firms = ap (λ (c : Counts). c.firms) settles.counts;
     }) (appends_nothing before.venue after.venue settles.venue)
     (subst P (sym receiver) (subst Q number settles.client))
-    (steps_quiet limits (Some fields) session
+    (steps_quiet (with_frame (after_sound limits fields)) session
     (next_by acts (roomless after.book) session.screens session.client_id None None message
     session)
     (reads_of-quiet told (notes session.frames) (notes_unread session.frames (note_by own))

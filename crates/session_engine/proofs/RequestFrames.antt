@@ -26,8 +26,9 @@ use Rattle.session_engine.specs.declared.request.Request.TheVariants as request
 use Rattle.session_engine.specs.Answers.{forward_text}
 use Rattle.session_engine.specs.Requests.{request_message, request_head, request_wording}
 use Rattle.session_engine.specs.Requests.{request_decided, request_to_screen}
-use Rattle.session_engine.specs.Session.{LimitsValue, SessionValue, after_frame, after_message}
+use Rattle.session_engine.specs.Session.{LimitsValue, SessionValue, after_sound, after_message}
 use Rattle.session_engine.specs.Session.{after_decision, client_after, named, tape_of, with_asked}
+use Rattle.session_engine.specs.Session.{with_frame}
 use Rattle.session_engine.specs.Reaches.{with_reads}
 use Rattle.session_engine.specs.Taken.{Kept, StandsAs, Takes, IsAnswered, CountsTrips}
 use Rattle.session_engine.specs.Taken.{answer_act, counts_answered, counts_decided, answer_number}
@@ -101,7 +102,7 @@ module _ (limits : LimitsValue) (fields : List FieldValue) (asked : Request)
   decided_frame : (seen more : List SeenAt) (decision : Decision)
       → request_decided limits asked session.screens session.book
       (tape session.acts (seen ++ more)) ≡ decision
-      → after_frame limits (Some fields) (with_reads (seen ++ more) session)
+      → with_frame (after_sound limits fields) (with_reads (seen ++ more) session)
       ≡ counted session.frames (after_decision limits (request_wording asked) fields decision
       (with_asked (request_to_screen limits asked session.book)
       (named true fields (with_reads (seen ++ more) session))))
@@ -171,7 +172,8 @@ module _ (limits : LimitsValue) (fields : List FieldValue) (asked : Request)
     -- a request that was sent or refused, and answered
     pub takes_request : (refusal : Option Refusal)
         → Answers limits fields asked refusal told before after
-        → (next : SessionValue) × Takes limits (Some fields) session next before after
+        → (next : SessionValue)
+        × Takes (with_frame (after_sound limits fields)) 0 session next before after
     takes_request None answers =
         let text : ℕ → List ℕ = λ n. forward_text (codes "VENUE") n fields in
         let message : Option (List ℕ) = Some (text (length session.venue + 1)) in
@@ -180,11 +182,12 @@ module _ (limits : LimitsValue) (fields : List FieldValue) (asked : Request)
         let number : after.counts.venue ≡ length session.venue + 1 =
         ap (λ (c : Counts). c.venue) answers.counts ∙ ap (λ n. n + 1) own.stands.venue in
         let P : ℕ → Type 0 = λ n. Appends before.venue after.venue (text n) in
-        takes_next limits (Some fields) session before after acts (roomless after.book) screens
+        takes_next (with_frame (after_sound limits fields)) 0 session before after acts (roomless after.book) screens
         client_id None message None own (acts_are None answers.acts) refl
         (screens_are answers.screens) (client_is answers.client_id)
         (record {
           frames = ap (λ (c : Counts). c.frames) answers.counts;
+          orders = ap (λ (c : Counts). c.orders) answers.counts;
           venue = ap (λ (c : Counts). c.venue) answers.counts;
           client = omega (arith, ap (λ (c : Counts). c.client) answers.counts);
           firms = ap (λ (c : Counts). c.firms) answers.counts;
@@ -209,11 +212,12 @@ module _ (limits : LimitsValue) (fields : List FieldValue) (asked : Request)
         (text to (length session.client + 1)) in
         let Q : ℕ → Type 0 =
         λ n. Appends before.client after.client (text after.client_id n) in
-        takes_next limits (Some fields) session before after acts (roomless after.book) screens
+        takes_next (with_frame (after_sound limits fields)) 0 session before after acts (roomless after.book) screens
         client_id (Some why) None message own (acts_are (Some why) answers.acts) refl
         (screens_are answers.screens) receiver
         (record {
           frames = ap (λ (c : Counts). c.frames) answers.counts;
+          orders = ap (λ (c : Counts). c.orders) answers.counts;
           venue = omega (arith, ap (λ (c : Counts). c.venue) answers.counts);
           client = ap (λ (c : Counts). c.client) answers.counts;
           firms = ap (λ (c : Counts). c.firms) answers.counts;

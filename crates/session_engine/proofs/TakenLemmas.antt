@@ -1,6 +1,6 @@
 -- What taking a frame does, whatever its kind.
-use Rattle.std.proofs.Common.{◌≡◌, ℕ, ◌+◌, List, [], ◌∷◌, length, refl, sym, ap, ◌∙◌}
-use Rattle.std.proofs.Common.{subst, Bool, arith}
+use Rattle.std.proofs.Common.{◌≡◌, ℕ, ◌+◌, ◌≤◌, List, [], ◌∷◌, length, refl, sym, ap, ◌∙◌}
+use Rattle.std.proofs.Common.{subst, Bool, true, false, arith}
 use Rattle.std.specs.Prelude.{Option, Some, None, Result}
 use Rattle.std.specs.Io.KnownBytes.{Appends}
 use Rattle.std.proofs.lemmas.List.{append-nil, length-append}
@@ -8,6 +8,8 @@ use Rattle.exposure_book.specs.Books.{BookValue}
 use Rattle.fix_fields.specs.Fields.{FieldValue}
 use Rattle.fix_orders.specs.declared.message.FieldFault.{FieldFault}
 use Rattle.fix_orders.specs.declared.message.Message.{Message}
+use Rattle.fix_orders.specs.Faults.{value_of}
+use Rattle.fix_orders.specs.Kinds.{kind_of}
 use Rattle.fix_orders.specs.Reading.{read_of}
 use Rattle.order_desk.specs.declared.refusal.Refusal.{Refusal}
 use Rattle.order_desk.specs.Values.{roomless}
@@ -16,9 +18,10 @@ use Rattle.risk_journal.specs.declared.acts.Act.{Act}
 use Rattle.risk_journal.specs.ActLists.{SeenAt, reads_of}
 use Rattle.session_engine.specs.declared.counts.Counts.{Counts}
 use Rattle.session_engine.specs.Session.{LimitsValue, SessionValue}
-use Rattle.session_engine.specs.Session.{after_frame, after_result, asks, named}
+use Rattle.session_engine.specs.Session.{after_frame, after_sound, after_result, asks, named}
+use Rattle.session_engine.specs.Session.{is_order, orders_after, orders_with, taken_up, with_frame}
 use Rattle.session_engine.specs.Reaches.{with_reads, Steps}
-use Rattle.session_engine.specs.Taken.{Takes, Kept, StandsAs, with_message, text_in}
+use Rattle.session_engine.specs.Taken.{Takes, TakesFrom, Kept, StandsAs, with_message, text_in}
 use Rattle.session_engine.specs.Trips.{firms_after}
 use Rattle.session_engine.proofs.TripLemmas.{firms_most}
 
@@ -37,7 +40,7 @@ counted frames session = record session { frames = frames + 1 }
 pub frame_by : (limits : LimitsValue) (fields : List FieldValue) (request : Bool)
     (read : Result Message FieldFault) (session : SessionValue) → asks fields ≡ request
     → read_of fields ≡ read
-    → after_frame limits (Some fields) session
+    → with_frame (after_sound limits fields) session
     ≡ counted session.frames
     (after_result limits request fields read (named request fields session))
 frame_by limits fields request read session asks_are read_is =
@@ -47,11 +50,11 @@ frame_by limits fields request read session asks_are read_is =
     (after_result limits b fields read (named b fields session))) asks_are
 
 -- a step that reads nothing
-pub steps_quiet : (limits : LimitsValue) (fields : Option (List FieldValue))
-    (session next : SessionValue) → reads_of next.acts ≡ reads_of session.acts
-    → ((more : List SeenAt) → after_frame limits fields (with_reads more session)
-    ≡ with_reads more next) → Steps limits fields session next
-steps_quiet limits fields session next reads stepped = record {
+pub steps_quiet : (step : SessionValue → SessionValue) (session next : SessionValue)
+    → reads_of next.acts ≡ reads_of session.acts
+    → ((more : List SeenAt) → step (with_reads more session) ≡ with_reads more next)
+    → Steps step session next
+steps_quiet step session next reads stepped = record {
   seen = [];
   reads_are = reads ∙ sym (append-nil (reads_of session.acts));
   stepped = stepped;
@@ -69,6 +72,7 @@ next_by acts book screens client_id refusal to_venue to_client session = record 
   screens = screens;
   client_id = client_id;
   frames = session.frames + 1;
+  orders = session.orders;
   firms = firms_after refusal session.firms;
   reads = session.reads;
 }
@@ -83,6 +87,7 @@ one_of (Some text) = 1
 pub record CountsGo (counts after : Counts) (refusal : Option Refusal)
     (to_venue to_client : Option (List ℕ)) : Type 0 where
   pub frames : after.frames ≡ counts.frames + 1
+  pub orders : after.orders ≡ counts.orders
   pub venue : after.venue ≡ counts.venue + one_of to_venue
   pub client : after.client ≡ counts.client + one_of to_client
   pub firms : after.firms ≡ firms_after refusal counts.firms
@@ -93,8 +98,7 @@ length-with None messages = omega arith
 length-with (Some text) messages = length-append messages (text ∷ [])
 
 -- a frame was taken, by the session to which it leads
-pub takes_next : (limits : LimitsValue) (fields : Option (List FieldValue))
-    (session : SessionValue) (before after : Kept) (acts : List Act) (book : BookValue)
+pub takes_next : (step : SessionValue → SessionValue) (most : ℕ) (session : SessionValue) (before after : Kept) (acts : List Act) (book : BookValue)
     (screens : List ScreenValue) (client_id : List ℕ) (refusal : Option Refusal)
     (to_venue to_client : Option (List ℕ))
     → StandsAs before session
@@ -103,10 +107,10 @@ pub takes_next : (limits : LimitsValue) (fields : Option (List FieldValue))
     → CountsGo before.counts after.counts refusal to_venue to_client
     → Appends before.venue after.venue (text_in to_venue)
     → Appends before.client after.client (text_in to_client)
-    → Steps limits fields session
+    → Steps step session
     (next_by acts book screens client_id refusal to_venue to_client session)
-    → (next : SessionValue) × Takes limits fields session next before after
-takes_next limits fields session before after acts book screens client_id refusal to_venue
+    → (next : SessionValue) × Takes step most session next before after
+takes_next step most session before after acts book screens client_id refusal to_venue
     to_client own acts_are book_is screens_are client_is counts venue_grows client_grows steps = (
       next_by acts book screens client_id refusal to_venue to_client session,
       record {
@@ -116,6 +120,7 @@ takes_next limits fields session before after acts book screens client_id refusa
             acts_are = acts_are;
             book_is = book_is;
             frames = counts.frames ∙ ap (λ n. n + 1) own.stands.frames;
+            orders = counts.orders ∙ own.stands.orders;
             venue = counts.venue ∙ ap (λ n. n + one_of to_venue) own.stands.venue
                 ∙ sym (length-with to_venue session.venue);
             client = counts.client ∙ ap (λ n. n + one_of to_client) own.stands.client
@@ -131,6 +136,56 @@ takes_next limits fields session before after acts book screens client_id refusa
         client_is = refl;
         venue_grows = venue_grows;
         client_grows = client_grows;
+        orders_most = omega arith;
         firms_most = firms_most refusal session.firms;
+      },
+    )
+
+-- one order more at most
+orders_most : (order : Bool) (orders : ℕ) → orders_after order orders ≤ orders + 1
+orders_most true orders = omega arith
+orders_most false orders = omega arith
+
+-- what is kept with so many orders taken up
+abbrev pub with_orders : ℕ → Kept → Kept
+with_orders orders kept = record kept { counts = record (kept.counts) { orders = orders } }
+
+-- a sound frame was taken up, and then taken
+pub takes_up : (limits : LimitsValue) (fields : List FieldValue) (before after : Kept) (orders : ℕ)
+    → orders ≡ orders_with fields before.counts.orders
+    → TakesFrom (with_frame (after_sound limits fields)) 0 (with_orders orders before) after
+    → TakesFrom (after_frame limits (Some fields)) 1 before after
+takes_up limits fields before after orders is takes session own =
+    let order = is_order (kind_of (value_of 35 fields)) in
+    let took = takes (taken_up fields session) (record {
+      stands = record {
+        acts_are = own.stands.acts_are;
+        book_is = own.stands.book_is;
+        frames = own.stands.frames;
+        orders = is ∙ ap (orders_with fields) own.stands.orders;
+        venue = own.stands.venue;
+        client = own.stands.client;
+        firms = own.stands.firms;
+      };
+      client_is = own.client_is;
+      screens_are = own.screens_are;
+    }) in
+    let one = took.1 in (
+      took.0,
+      record {
+        steps = record {
+          seen = one.steps.seen;
+          reads_are = one.steps.reads_are;
+          stepped = one.steps.stepped;
+        };
+        stands = one.stands;
+        to_venue = one.to_venue;
+        to_client = one.to_client;
+        venue_is = one.venue_is;
+        client_is = one.client_is;
+        venue_grows = one.venue_grows;
+        client_grows = one.client_grows;
+        orders_most = omega (arith, one.orders_most, orders_most order session.orders);
+        firms_most = one.firms_most;
       },
     )

@@ -28,11 +28,12 @@ use Rattle.session_engine.specs.declared.note.Note.{Note}
 use Rattle.session_engine.specs.declared.note.Note.TheVariants as note
 use Rattle.session_engine.specs.Admitted.{CoversOrders, TripsOnce}
 use Rattle.session_engine.specs.Answers.{Wording, order_refusal, cancel_refusal, replace_refusal}
-use Rattle.session_engine.specs.Answers.{code_of, fault_code, note_code}
+use Rattle.session_engine.specs.Answers.{refused_act, fault_code, note_code}
 use Rattle.session_engine.specs.Session.{LimitsValue, SessionValue, opening, tape_of, after_answer}
 use Rattle.session_engine.specs.Session.{decided, after_trip, after_decision, after_noting}
 use Rattle.session_engine.specs.Session.{after_effect, after_settling, after_fault, named, asks}
 use Rattle.session_engine.specs.Session.{after_message, after_result, after_content, after_frame}
+use Rattle.session_engine.specs.Session.{taken_up}
 use Rattle.session_engine.specs.Session.{after_frames, with_asked}
 use Rattle.session_engine.proofs.CoverLemmas.{covers_frame}
 use Rattle.session_engine.proofs.TripLemmas.{no_trip, tripped_posts}
@@ -50,7 +51,7 @@ trips_answered limits wording fields None session own =
     (noted_keeps (halt_tree limits) session.acts (Sent session.frames) tt).posts ∙ own
 trips_answered limits wording fields (Some why) session own =
     (noted_keeps (halt_tree limits) session.acts
-    (Refused session.frames (code_of why) 0 0) tt).posts ∙ own
+    (refused_act session.frames why) tt).posts ∙ own
 
 trips_decided : (limits : LimitsValue) (wording : Wording) (fields : List FieldValue)
     (decision : Decision) (session : SessionValue)
@@ -133,7 +134,7 @@ trips_content : (limits : LimitsValue) (fields : Option (List FieldValue))
 trips_content limits None session covers own = trips_note limits note.NotSound session own
 trips_content limits (Some fields) session covers own =
     trips_result limits (asks fields) fields (read_of fields)
-    (named (asks fields) fields session) covers own
+    (named (asks fields) fields (taken_up fields session)) covers own
 
 trips_frames : (limits : LimitsValue) (frames : List FrameValue) (session : SessionValue)
     → CoversOrders limits session → TripsOnce limits session

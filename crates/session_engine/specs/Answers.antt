@@ -9,6 +9,8 @@ use Rattle.fix_orders.specs.Envelopes.{envelope_of}
 use Rattle.fix_orders.specs.Faults.{value_of}
 use Rattle.fix_orders.specs.Writing.{forward_fields, order_reject_fields}
 use Rattle.fix_orders.specs.Writing.{cancel_reject_fields, session_reject_fields}
+use Rattle.risk_journal.specs.declared.acts.Act.{Act}
+use Rattle.risk_journal.specs.declared.acts.Act.TheVariants.{Refused}
 use Rattle.order_desk.specs.declared.refusal.Refusal.{Refusal}
 use Rattle.order_desk.specs.declared.refusal.Refusal.TheVariants.{Firm, Account, Symbol, Halt}
 use Rattle.order_desk.specs.declared.refusal.Refusal.TheVariants.{Quota, Cap, Duplicate}
@@ -45,6 +47,15 @@ code_of Pending = 13
 code_of Mismatch = 14
 code_of Quantity = 15
 code_of (Screen code) = 10
+
+-- what the journal tells further of a refusal: the code of the screen that refuses
+abbrev pub screen_code_of : Refusal → ℕ
+screen_code_of (Screen code) = code
+screen_code_of other = 0
+
+-- the act that tells that the request of this frame is refused
+abbrev pub refused_act : ℕ → Refusal → Act
+refused_act frame why = Refused frame (code_of why) (screen_code_of why) 0
 
 -- OrdRejReason (103): 0 broker or exchange option, 1 unknown symbol, 3 order exceeds limit, 6
 -- duplicate order, 99 other, as which what no order is refused for is told too

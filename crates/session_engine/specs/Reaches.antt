@@ -1,25 +1,22 @@
--- How a session's value goes on with a frame, and what leads to it.
-use Rattle.std.specs.Prelude.{◌≡◌, ℕ, List, [], ◌∷◌, ◌++◌, Option}
-use Rattle.fix_fields.specs.Fields.{FieldValue}
+-- How a session's value goes on with a step, and what leads to it.
+use Rattle.std.specs.Prelude.{◌≡◌, ℕ, List, [], ◌∷◌, ◌++◌}
 use Rattle.fix_fields.specs.Frames.{FrameValue, IsFrameAt}
 use Rattle.fix_fields.specs.Found.{place_after}
 use Rattle.risk_journal.specs.ActLists.{SeenAt, reads_of}
 use Rattle.screen_kit.specs.Screens.{ScreenValue}
-use Rattle.session_engine.specs.Session.{LimitsValue, SessionValue, opening, after_frame}
-use Rattle.session_engine.specs.Session.{after_frames}
+use Rattle.session_engine.specs.Session.{LimitsValue, SessionValue, opening, after_frames}
 
 -- the session with these reads to come
 abbrev pub with_reads : List SeenAt → SessionValue → SessionValue
 with_reads reads session = record session { reads = reads }
 
--- A frame leads from a session to the next, by the reads that its acts have, whatever further reads
+-- A step leads from a session to the next, by the reads that its acts have, whatever further reads
 -- are to come.
-pub record Steps (limits : LimitsValue) (fields : Option (List FieldValue))
-    (session next : SessionValue) : Type 0 where
+pub record Steps (step : SessionValue → SessionValue) (session next : SessionValue) : Type 0 where
   pub seen : List SeenAt
   pub reads_are : reads_of next.acts ≡ reads_of session.acts ++ seen
   pub stepped : (more : List SeenAt)
-      → after_frame limits fields (with_reads (seen ++ more) session) ≡ with_reads more next
+      → step (with_reads (seen ++ more) session) ≡ with_reads more next
 
 -- from a place on, the bytes are these frames
 abbrev pub SplitsTo : List ℕ → ℕ → List FrameValue → Type 0

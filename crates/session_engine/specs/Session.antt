@@ -1,6 +1,6 @@
 -- What a session does with each frame, as a function of the frames and of the reads.
 use Rattle.std.specs.Prelude.{ℕ, ◌+◌, List, [], ◌∷◌, ◌++◌, length, map, Option, Some, None}
-use Rattle.std.specs.Prelude.{Bool, true, false, codes, Result, Ok, Err}
+use Rattle.std.specs.Prelude.{Bool, true, false, codes, Result, Ok, Err, if◌then◌else◌}
 use Rattle.std.specs.Option.{unwrap_or}
 use Rattle.fix_fields.specs.Fields.{FieldValue}
 use Rattle.fix_fields.specs.Frames.{FrameValue}
@@ -33,11 +33,12 @@ use Rattle.order_desk.specs.Values.{first_book}
 use Rattle.session_engine.specs.declared.note.Note.{Note}
 use Rattle.session_engine.specs.declared.note.Note.TheVariants as note
 use Rattle.session_engine.specs.Answers.{Wording, order_refusal, cancel_refusal, replace_refusal}
-use Rattle.session_engine.specs.Answers.{forward_text, reject_text, code_of, fault_code, note_code}
+use Rattle.session_engine.specs.Answers.{forward_text, reject_text, refused_act, fault_code}
+use Rattle.session_engine.specs.Answers.{note_code}
 use Rattle.session_engine.specs.Trips.{acts_tripped, firms_after}
 
--- a session after some frames: what it did and wrote, its book, its screens, how many requests it
--- refused as Firm, and the reads that are still to come
+-- a session after some frames: what it did and wrote, its book, its screens, how many orders it took
+-- up, how many requests it refused as Firm, and the reads that are still to come
 pub record SessionValue : Type 0 where
   pub acts : List Act
   pub venue : List (List ℕ)
@@ -46,6 +47,7 @@ pub record SessionValue : Type 0 where
   pub screens : List ScreenValue
   pub client_id : List ℕ
   pub frames : ℕ
+  pub orders : ℕ
   pub firms : ℕ
   pub reads : List SeenAt
 
@@ -71,6 +73,7 @@ opening limits screens reads = record {
   screens = screens;
   client_id = unnamed_client;
   frames = 0;
+  orders = 0;
   firms = 0;
   reads = reads;
 }
@@ -95,7 +98,7 @@ after_sending fields session =
 abbrev pub after_refusing : Wording → List FieldValue → Refusal → SessionValue → SessionValue
 after_refusing wording fields why session =
     let number = length session.client + 1 in
-    record (with_act (Refused session.frames (code_of why) 0 0) session) {
+    record (with_act (refused_act session.frames why) session) {
       client = session.client ++ wording session.client_id number fields why ∷ [];
     }
 
@@ -228,16 +231,41 @@ after_result limits request fields (Err fault) session = after_fault request fie
 abbrev pub asks : List FieldValue → Bool
 asks fields = is_request (kind_of (value_of 35 fields))
 
+-- an order: a message of one of the two types that may ask for more than was posted
+abbrev pub is_order : Kind → Bool
+is_order kind.NewOrderSingle = true
+is_order kind.OrderCancelReplaceRequest = true
+is_order other = false
+
+-- how many orders were taken up, with a message that is an order or isn't one
+abbrev pub orders_after : Bool → ℕ → ℕ
+orders_after order orders = if order then orders + 1 else orders
+
+-- how many orders were taken up, with a sound frame of these fields: its type alone counts
+abbrev pub orders_with : List FieldValue → ℕ → ℕ
+orders_with fields orders = orders_after (is_order (kind_of (value_of 35 fields))) orders
+
+-- a sound frame is taken up: an order is counted
+abbrev pub taken_up : List FieldValue → SessionValue → SessionValue
+taken_up fields session = record session { orders = orders_with fields session.orders }
+
+-- a sound frame that was taken up
+abbrev pub after_sound : LimitsValue → List FieldValue → SessionValue → SessionValue
+after_sound limits fields session =
+    after_result limits (asks fields) fields (read_of fields) (named (asks fields) fields session)
+
+-- a frame that is counted
+abbrev pub with_frame : (SessionValue → SessionValue) → SessionValue → SessionValue
+with_frame step session = record (step session) { frames = session.frames + 1 }
+
 -- a frame, before it is counted
 abbrev pub after_content : LimitsValue → Option (List FieldValue) → SessionValue → SessionValue
 after_content limits None session = after_noting note.NotSound session
-after_content limits (Some fields) session =
-    after_result limits (asks fields) fields (read_of fields) (named (asks fields) fields session)
+after_content limits (Some fields) session = after_sound limits fields (taken_up fields session)
 
 -- a frame
 abbrev pub after_frame : LimitsValue → Option (List FieldValue) → SessionValue → SessionValue
-after_frame limits fields session =
-    record (after_content limits fields session) { frames = session.frames + 1 }
+after_frame limits fields session = with_frame (after_content limits fields) session
 
 -- the session after these frames
 abbrev pub after_frames : LimitsValue → SessionValue → List FrameValue → SessionValue

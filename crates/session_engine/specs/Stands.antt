@@ -12,6 +12,7 @@ pub record StandsFor (acts : List Act) (book : BookValue) (counts : Counts)
   pub acts_are : session.acts ≡ acts
   pub book_is : session.book ≡ roomless book
   pub frames : counts.frames ≡ session.frames
+  pub orders : counts.orders ≡ session.orders
   pub venue : counts.venue ≡ length session.venue
   pub client : counts.client ≡ length session.client
   pub firms : counts.firms ≡ session.firms

@@ -8,12 +8,12 @@ use Rattle.fix_fields.specs.Places.{HasFieldsIn, IsSoundIn}
 use Rattle.fix_fields.specs.Found.{StandsAt}
 use Rattle.fix_fields.specs.declared.frame.Frame.{Frame}
 use Rattle.fix_orders.specs.declared.message.Message.{Message}
-use Rattle.fix_orders.specs.Put.{HasPut}
+use Rattle.fix_orders.specs.Put.{HasPut, seq_most}
 use Rattle.fix_orders.specs.Reading.{read_of}
 use Rattle.exposure_book.specs.Books.{BookValue}
 use Rattle.screen_kit.specs.Screens.{ScreenValue}
 use Rattle.risk_journal.specs.declared.acts.Act.{Act}
-use Rattle.risk_journal.specs.declared.acts.Act.TheVariants.{Sent, Refused, Noted}
+use Rattle.risk_journal.specs.declared.acts.Act.TheVariants.{Sent, Noted}
 use Rattle.risk_journal.specs.ActLists.{posts_in}
 use Rattle.hand_acts.specs.Trees.{halt_tree}
 use Rattle.order_desk.specs.declared.effect.Effect.{Effect}
@@ -24,8 +24,9 @@ use Rattle.session_engine.specs.declared.counts.Counts.{Counts}
 use Rattle.session_engine.specs.declared.note.Note.{Note}
 use Rattle.session_engine.specs.declared.note.Note.TheVariants as note
 use Rattle.session_engine.specs.declared.state.State.{State}
-use Rattle.session_engine.specs.Answers.{Wording, forward_text, code_of, note_code}
-use Rattle.session_engine.specs.Session.{LimitsValue, SessionValue}
+use Rattle.session_engine.specs.Answers.{Wording, forward_text, refused_act, note_code}
+use Rattle.session_engine.specs.Session.{LimitsValue, SessionValue, after_frame, after_sound}
+use Rattle.session_engine.specs.Session.{with_frame}
 use Rattle.session_engine.specs.Stands.{StandsFor}
 use Rattle.session_engine.specs.Reaches.{Steps}
 use Rattle.session_engine.specs.Trips.{firms_after, trips_by}
@@ -76,9 +77,9 @@ pub record ReadsAs (bytes : List ℕ) (frame : Frame) (whole : Message) : Type 0
 -- one frame more is counted, and one more message has a number of at most eight digits in either
 -- stream
 pub record HasSmallCounts (counts : Counts) : Type 0 where
-  pub frames : counts.frames < 99999999
-  pub venue : counts.venue < 99999999
-  pub client : counts.client < 99999999
+  pub frames : counts.frames < seq_most
+  pub venue : counts.venue < seq_most
+  pub client : counts.client < seq_most
 
 -- the counts after a frame that has no message
 abbrev pub counted : Counts → Counts
@@ -106,12 +107,12 @@ counts_decided refusal counts = record counts { firms = firms_after refusal coun
 -- counted, and one more of these can be counted.
 pub record CountsTrips (limits : LimitsValue) (acts : List Act) (counts : Counts) : Type 0 where
   pub posts : posts_in (halt_tree limits) acts ≡ trips_by limits.trip counts.firms
-  pub firms : counts.firms < 99999999
+  pub firms : counts.firms < seq_most
 
 -- the act that tells what was decided on the request of this frame
 abbrev pub answer_act : ℕ → Option Refusal → Act
 answer_act frame None = Sent frame
-answer_act frame (Some why) = Refused frame (code_of why) 0 0
+answer_act frame (Some why) = refused_act frame why
 
 -- the counts after a request that was sent or refused
 abbrev pub counts_answered : Option Refusal → Counts → Counts
@@ -164,10 +165,11 @@ abbrev pub text_in : Option (List ℕ) → List ℕ
 text_in None = []
 text_in (Some text) = text
 
--- A frame was taken: the session goes on with it, and at most one message was given to either sink.
-pub record Takes (limits : LimitsValue) (fields : Option (List FieldValue))
-    (session next : SessionValue) (before after : Kept) : Type 0 where
-  pub steps : Steps limits fields session next
+-- A step was made: the session goes on with it, at most so many orders were taken up, and at most one
+-- message was given to either sink.
+pub record Takes (step : SessionValue → SessionValue) (most : ℕ) (session next : SessionValue)
+    (before after : Kept) : Type 0 where
+  pub steps : Steps step session next
   pub stands : StandsAs after next
   pub to_venue : Option (List ℕ)
   pub to_client : Option (List ℕ)
@@ -175,22 +177,23 @@ pub record Takes (limits : LimitsValue) (fields : Option (List FieldValue))
   pub client_is : next.client ≡ with_message to_client session.client
   pub venue_grows : Appends before.venue after.venue (text_in to_venue)
   pub client_grows : Appends before.client after.client (text_in to_client)
+  pub orders_most : next.orders ≤ session.orders + most
   pub firms_most : next.firms ≤ session.firms + 1
 
--- Whatever session stands for what was kept before, a frame of these fields was taken in it.
-abbrev pub TakesFrom : LimitsValue → Option (List FieldValue) → Kept → Kept → Type 0
-TakesFrom limits fields before after =
+-- Whatever session stands for what was kept before, the step was made in it.
+abbrev pub TakesFrom : (SessionValue → SessionValue) → ℕ → Kept → Kept → Type 0
+TakesFrom step most before after =
     (session : SessionValue) → StandsAs before session
-    → (next : SessionValue) × Takes limits fields session next before after
+    → (next : SessionValue) × Takes step most session next before after
 
 -- Whatever its fields are, the frame was taken.
 abbrev pub TakesAny : LimitsValue → List ℕ → Frame → Kept → Kept → Type 0
 TakesAny limits bytes frame before after =
     (fields : Option (List FieldValue)) → IsFrameOf bytes frame fields
-    → TakesFrom limits fields before after
+    → TakesFrom (after_frame limits fields) 1 before after
 
--- Whatever its fields are, the sound frame was taken.
+-- Whatever its fields are, the sound frame, which was taken up, was taken.
 abbrev pub TakesSound : LimitsValue → List ℕ → Frame → Kept → Kept → Type 0
 TakesSound limits bytes frame before after =
     (fields : List FieldValue) → HasFieldsIn bytes frame fields
-    → TakesFrom limits (Some fields) before after
+    → TakesFrom (with_frame (after_sound limits fields)) 0 before after

@@ -2,7 +2,7 @@
 ghost use Rattle.std.specs.Prelude.{◌≡◌, ◌+◌, ◌≤◌, ◌++◌, length, take, drop, codes, decimal};
 ghost use Rattle.fix_orders.specs.Put.{IsShort};
 ghost use Rattle.session_engine.specs.Answers.{code_of, order_reason_of, request_reason_of};
-ghost use Rattle.session_engine.specs.Answers.{text_of};
+ghost use Rattle.session_engine.specs.Answers.{screen_code_of, text_of};
 
 use itoa::Buffer;
 use order_desk::Refusal;
@@ -28,6 +28,16 @@ pub(crate) fn code_of(refusal: Refusal) -> u8
         Refusal::Mismatch => 14,
         Refusal::Quantity => 15,
         Refusal::Screen(_) => 10,
+    }
+}
+
+/// What the journal tells further of a refusal: the code of the screen that refuses, and else 0.
+pub(crate) fn screen_code_of(refusal: Refusal) -> u32
+    ensures { result ≡ screen_code_of refusal }
+{
+    match refusal {
+        Refusal::Screen(code) => u32::from(code),
+        _ => 0,
     }
 }
 

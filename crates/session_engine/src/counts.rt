@@ -7,6 +7,8 @@ ghost use Rattle.session_engine.specs.Counted.{no_counts};
 pub(crate) struct Counts {
     /// How many frames were taken.
     pub frames: u32,
+    /// How many orders were taken up: sound frames of type D or G.
+    pub orders: u32,
     /// How many messages the venue has.
     pub venue: u32,
     /// How many messages the client has.
@@ -22,6 +24,7 @@ impl Counts {
     {
         Counts {
             frames: 0,
+            orders: 0,
             venue: 0,
             client: 0,
             firms: 0,

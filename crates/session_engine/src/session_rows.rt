@@ -6,7 +6,7 @@ ghost use Rattle.limit_table.specs.Files.{IsHeldByFile};
 use crate::{Hands, run_session};
 use fix_fields::checksum;
 use fold_law::{Max, QUOTA, Sum};
-use gate_ports::{MemSink, MemSource};
+use gate_ports::{MemSink, MemSource, OpenGate};
 use itoa::Buffer;
 use limit_table::{Limits, read_limits};
 use risk_board::{Hand, PlainBoard};
@@ -236,7 +236,17 @@ fn run_row(
         venue,
         client,
     } = ports;
-    let done = run_session(alloc, limits, hands, screens, source, venue, client);
+    let done = run_session(
+        alloc,
+        0,
+        limits,
+        hands,
+        screens,
+        source,
+        venue,
+        client,
+        &OpenGate,
+    );
     Ok(Run {
         acts: done.acts,
         venue: done.venue,

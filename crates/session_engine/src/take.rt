@@ -15,6 +15,7 @@ ghost use Rattle.session_engine.specs.VenueReports.{report_message};
 use crate::answer::{Sinks, Step, answer_request, forward};
 use crate::decide::decide;
 use crate::note::Note;
+use crate::order_gate::{OrderGate, take_up};
 use crate::reject::reject_message;
 use crate::request::Request;
 use crate::settle::settle;
@@ -24,7 +25,7 @@ use crate::tripping::count_refusal;
 use crate::venue_report::VenueReport;
 use fix_fields::Frame;
 use fix_orders::{Message, Stamp, read_message};
-use gate_ports::Sink;
+use gate_ports::{Gate, Sink};
 use hand_acts::{Hands, reserve_frame};
 use limit_table::Limits;
 use risk_board::Hand;
@@ -143,7 +144,7 @@ fn take_report<H: Hand, M: Hand, V: Sink, C: Sink>(
     forward(&mut sinks.client, &mut state.writer, bytes, frame, &stamp)
 }
 
-/// Takes a sound frame.
+/// Takes a sound frame that was taken up.
 fn take_sound<H: Hand, M: Hand, K: Screen, V: Sink, C: Sink>(
     limits: &Limits,
     hands: &mut Hands<H, M>,
@@ -219,8 +220,9 @@ fn take_sound<H: Hand, M: Hand, K: Screen, V: Sink, C: Sink>(
 }
 
 /// Takes a frame.
-pub(crate) fn take_frame<H: Hand, M: Hand, K: Screen, V: Sink, C: Sink>(
+pub(crate) fn take_frame<H: Hand, M: Hand, K: Screen, V: Sink, C: Sink, G: Gate>(
     limits: &Limits,
+    before: &OrderGate<'_, G>,
     hands: &mut Hands<H, M>,
     screens: &mut Vec<K>,
     state: &mut State,
@@ -235,6 +237,7 @@ pub(crate) fn take_frame<H: Hand, M: Hand, K: Screen, V: Sink, C: Sink>(
         state.old.told.acts.items state.old.told.lasts.items }
     requires room { vec_len state.old.told.acts < vec_capacity state.old.told.acts }
     requires counts { HasSmallCounts state.old.counts }
+    requires orders { state.old.counts.orders ≤ state.old.counts.frames }
     requires trips { CountsTrips limits.now state.old.told.acts.items state.old.counts }
     ensures step { InStep limits.now (H.meaning hands.new.sum) (M.meaning hands.new.halt)
         state.new.told.acts.items state.new.told.lasts.items }
@@ -264,6 +267,7 @@ pub(crate) fn take_frame<H: Hand, M: Hand, K: Screen, V: Sink, C: Sink>(
         return Step::Fault(End::Memory);
     }
     if frame.sound {
+        take_up(before, &mut state.counts.orders, bytes, frame);
         return take_sound(limits, hands, screens, state, sinks, bytes, frame);
     }
     note_frame(&mut state.told.acts, &mut state.counts, Note::NotSound);

@@ -4,7 +4,7 @@ ghost use Rattle.session_engine.specs.Taken.{HasSmallCounts, counted, counted_cl
 ghost use Rattle.session_engine.specs.Taken.{noted_act, note_by, note_acts};
 ghost use Rattle.session_engine.specs.Taken.{answer_act, counts_answered, answer_number};
 
-use crate::codes::code_of;
+use crate::codes::{code_of, screen_code_of};
 use crate::counts::Counts;
 use crate::note::Note;
 use order_desk::{Effect, Refusal};
@@ -44,7 +44,7 @@ fn answer_of(frame: u32, refusal: Option<Refusal>) -> Act
         Some(why) => Act::Refused {
             frame,
             code: code_of(why),
-            first: 0,
+            first: screen_code_of(why),
             second: 0,
         },
     }

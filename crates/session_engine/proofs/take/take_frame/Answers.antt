@@ -3,6 +3,7 @@ use Rattle.std.proofs.Common.{refl, sym, List, subst, map}
 use Rattle.exposure_book.specs.Books.{BookValue}
 use Rattle.order_desk.specs.Values.{roomless}
 use Rattle.risk_journal.specs.declared.acts.Act.{Act}
+use Rattle.session_engine.specs.Session.{after_frame}
 use Rattle.session_engine.specs.Taken.{Kept, kept_by, TakesFrom}
 use Rattle.order_desk.proofs.Deciding.{same_roomless}
 use Rattle.session_engine.proofs.PassedFrames.{sound_takes, unsound_takes}
@@ -18,8 +19,9 @@ returns-then-frame-clause-taken g c = λ taken fields frame.
     c.take_sound.new.state c.take_sound.new.sinks.client_id
     (g.V.Sink.held c.take_sound.new.sinks.venue) (g.C.Sink.held c.take_sound.new.sinks.client) in
     let P : List Act → Type 0 =
-    λ acts. TakesFrom c.args.limits.now fields (record before { acts = acts }) after in
-    let Q : BookValue → Type 0 = λ book. TakesFrom c.args.limits.now fields
+    λ acts. TakesFrom (after_frame c.args.limits.now fields) 1
+    (record before { acts = acts }) after in
+    let Q : BookValue → Type 0 = λ book. TakesFrom (after_frame c.args.limits.now fields) 1
     (record before { acts = c.reserve_frame.new.acts.items; book = book }) after in
     subst P c.reserve_frame.ensures.acts
     (subst Q (same_roomless _ _ c.reserve_one.ensures.same)
@@ -27,7 +29,8 @@ returns-then-frame-clause-taken g c = λ taken fields frame.
     (record before {
       acts = c.reserve_frame.new.acts.items;
       book = roomless c.reserve_one.new.self;
-    }) after fields (c.take_sound.ensures.taken taken) c.if-frame.true frame))
+    }) after c.take_up.new.orders fields c.take_up.ensures (c.take_sound.ensures.taken taken)
+    c.if-frame.true frame))
 
 pub returns-clause-step : goal.returns-clause-step
 returns-clause-step g c =
