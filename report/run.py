@@ -24,6 +24,7 @@ from report.text import readable
 STREAM_MOST = 1 << 62
 CLIENTS_SHOWN = 3
 LARGE = 8 << 20
+PROCESSES_MOST = 4
 
 
 class SessionSummary:
@@ -121,13 +122,22 @@ def read_run(limits_path: Path, out: Path, session_paths: list[Path], table: Tex
 
 
 def parts_of(jobs: list[Job], is_large: bool) -> Iterable[Part]:
-    """The sessions in order, those of a large run read by as many processes as there are
-    processors."""
-    if not is_large:
+    """The sessions in order, those of a large run read by several processes, where the machine has
+    means for them."""
+    pool = process_pool() if is_large else None
+    if pool is None:
         yield from map(read_session, jobs)
         return
-    with ProcessPoolExecutor() as pool:
+    with pool:
         yield from pool.map(read_session, jobs)
+
+
+def process_pool() -> ProcessPoolExecutor | None:
+    """Processes that share the work, or none where the machine has no means for them."""
+    try:
+        return ProcessPoolExecutor(min(PROCESSES_MOST, os.cpu_count() or 1))
+    except (OSError, NotImplementedError, ImportError):
+        return None
 
 
 def read_session(job: Job) -> Part:

@@ -146,9 +146,9 @@ def sessions_table(run: Run) -> str:
     """A row for each session."""
     firm = run.histories[0]
     standing = firm.standing(len(firm))
-    heads = [("session", "key"), ("file", "wide"), ("client (49)", ""), ("ended", "wide"),
+    heads = [("session", "key"), ("file", "two"), ("client (49)", ""), ("ended", "two"),
              ("requests", "number"), ("sent", "number"), ("refused", "number"),
-             ("reports", "number"), ("other frames", "wide"), ("posted at the end, firm", "number")]
+             ("reports", "number"), ("other frames", "two"), ("posted at the end, firm", "number")]
     rows = [
         session_cells(number, name, run.sessions[number], standing.get(number, 0), firm.tree.limit)
         for number, name in enumerate(session_names(run))]
@@ -178,7 +178,7 @@ def other_frames(session: SessionSummary) -> str:
 
 def trees_table(run: Run, views: list[TreeView]) -> str:
     """A row for each tree, the halt tree last."""
-    heads = [("tree", "key"), ("of", "wide"), ("limit", "number"), ("highest sent", "number"),
+    heads = [("tree", "key"), ("of", "two"), ("limit", "number"), ("highest sent", "number"),
              ("used at most", "number"), ("highest posted", "number"), ("at the end", "number"),
              ("posts", "number"), ("refused", "number")]
     rows = [[str(view.tree.number), escape(view.tree.title()), grouped(view.tree.limit),

@@ -23,7 +23,8 @@ class Browser:
         script = 'exec "$0" "$@" 3<&%d 4>&%d' % (to_read, to_write)
         self.process = subprocess.Popen(
             ["bash", "-c", script, CHROMIUM, "--headless", "--no-sandbox", "--disable-gpu",
-             "--disable-dev-shm-usage", "--no-first-run", "--hide-scrollbars", "--remote-debugging-pipe",
+             "--disable-dev-shm-usage", "--no-first-run", "--hide-scrollbars",
+             "--remote-debugging-pipe",
              f"--user-data-dir={self.folder.name}", "about:blank"],
             pass_fds=(to_read, to_write), stdin=subprocess.DEVNULL,
             stdout=subprocess.DEVNULL, stderr=subprocess.DEVNULL)
@@ -31,7 +32,8 @@ class Browser:
         os.close(to_write)
         self.number, self.rest, self.session, self.events = 0, b"", None, []
         target = self.call("Target.createTarget", url="about:blank")["targetId"]
-        self.session = self.call("Target.attachToTarget", targetId=target, flatten=True)["sessionId"]
+        self.session = self.call("Target.attachToTarget", targetId=target,
+                                 flatten=True)["sessionId"]
         for domain in ("Page", "Network", "Log", "Runtime"):
             self.call(f"{domain}.enable")
         return self
@@ -69,7 +71,8 @@ class Browser:
     def open(self, path: Path, width: int, dark: bool = False, media: str = "screen") -> None:
         """Opens a page at a width, and waits until its script has filled it."""
         self.events.clear()
-        self.call("Emulation.setDeviceMetricsOverride", width=width, height=900, deviceScaleFactor=1,
+        self.call("Emulation.setDeviceMetricsOverride", width=width, height=900,
+                  deviceScaleFactor=1,
                   mobile=False)
         scheme = {"name": "prefers-color-scheme", "value": "dark" if dark else "light"}
         self.call("Emulation.setEmulatedMedia", media=media, features=[scheme])
@@ -84,7 +87,8 @@ class Browser:
 
     def run(self, script: str):
         """The value of an expression in the page."""
-        result = self.call("Runtime.evaluate", expression=script, awaitPromise=True, returnByValue=True)
+        result = self.call("Runtime.evaluate", expression=script, awaitPromise=True,
+                           returnByValue=True)
         if "exceptionDetails" in result:
             raise RuntimeError(str(result["exceptionDetails"]))
         return result["result"].get("value")
@@ -96,5 +100,6 @@ class Browser:
 
     def picture(self, path: Path) -> None:
         """Saves the whole page as a PNG."""
-        data = self.call("Page.captureScreenshot", captureBeyondViewport=True, fromSurface=True)["data"]
+        data = self.call("Page.captureScreenshot", captureBeyondViewport=True,
+                         fromSurface=True)["data"]
         path.write_bytes(base64.b64decode(data))

@@ -50,7 +50,8 @@ class Session:
             account, symbol = self.draw.randrange(ACCOUNTS), self.draw.randrange(SYMBOLS)
             quantity, price = 1 + self.draw.randrange(50), 1 + self.draw.randrange(90)
             of = (f"o{self.number:02d}-{frame_number}", f"A{account}", f"S{symbol}", str(quantity))
-            self.file.append(frame(order(frame_number + 1, f"C{self.number:02d}", *of, f"{price}.00")))
+            self.file.append(frame(order(frame_number + 1, f"C{self.number:02d}", *of,
+                                         f"{price}.00")))
             trees = [self.trees[0], self.trees[1 + account], self.trees[1 + ACCOUNTS + symbol]]
             before = [tree.last.get(self.number, 0) for tree in trees]
             yield from self.post(trees, [value + quantity * price for value in before])
@@ -62,7 +63,8 @@ class Session:
             yield from self.post(trees, before)
             code, text = CODES[above.index(True)]
             self.acts.append(f"refused,{self.number},{frame_number},{code},0,0")
-            self.client.append(refusal(len(self.client) + 1, f"C{self.number:02d}", of[0], 3, *of[1:], text))
+            self.client.append(refusal(len(self.client) + 1, f"C{self.number:02d}", of[0], 3,
+                                       *of[1:], text))
         self.acts.append(f"ended,{self.number},0,,,")
 
     def post(self, trees: list[Tree], values: list[int]):
@@ -72,7 +74,7 @@ class Session:
             yield
 
     def read(self, trees: list[Tree]):
-        """A read of the halt tree and of each tree, a step each; which roots are above their limits."""
+        """A read of the halt tree and of each tree, a step each; which roots are above."""
         self.acts.append(f"read,{self.number},{len(self.trees)},0,0,0")
         above = []
         for tree in trees:
@@ -94,7 +96,8 @@ def make(number: int, sessions: int, orders: int, folder: Path) -> list[str]:
         at = draw.randrange(len(left))
         if next(left[at].steps, left) is left:
             left.pop(at)
-    rows = [act for player in players for act in player.acts] + [line for tree in trees for line in tree.lines]
+    rows = [act for player in players for act in player.acts]
+    rows += [line for tree in trees for line in tree.lines]
     (folder / "journal.csv").write_text("\n".join(["kind,session,a,b,c,d", *rows, ""]))
     (folder / "limits.csv").write_text(limit_file())
     for player in players:

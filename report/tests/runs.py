@@ -23,18 +23,19 @@ def order(number: int, client: str, order_id: str, account: str, symbol: str, qu
             f"|54=1|38={quantity}|40=2|44={price}|60={TIME}|")
 
 
-def forward(number: int, order_id: str, account: str, symbol: str, quantity: str, price: str) -> bytes:
+def forward(number: int, order_id: str, account: str, symbol: str, quantity: str,
+            price: str) -> bytes:
     """The message that passes a buy limit order on to the venue."""
-    return frame(f"35=D|49=GATE|56=VENUE|34={number}|52={TIME}|11={order_id}|1={account}|55={symbol}"
-                 f"|54=1|38={quantity}|40=2|44={price}|60={TIME}|")
+    return frame(f"35=D|49=GATE|56=VENUE|34={number}|52={TIME}|11={order_id}|1={account}"
+                 f"|55={symbol}|54=1|38={quantity}|40=2|44={price}|60={TIME}|")
 
 
 def refusal(number: int, client: str, order_id: str, reason: int, account: str, symbol: str,
             quantity: str, text: str) -> bytes:
     """The ExecutionReport that refuses a buy order."""
-    return frame(f"35=8|49=GATE|56={client}|34={number}|52={TIME}|37=NONE|11={order_id}|17=G{number}"
-                 f"|150=8|39=8|103={reason}|1={account}|55={symbol}|54=1|38={quantity}|151=0|14=0|6=0"
-                 f"|58={text}|")
+    return frame(f"35=8|49=GATE|56={client}|34={number}|52={TIME}|37=NONE|11={order_id}"
+                 f"|17=G{number}|150=8|39=8|103={reason}|1={account}|55={symbol}|54=1"
+                 f"|38={quantity}|151=0|14=0|6=0|58={text}|")
 
 
 def journal(text: str) -> str:
@@ -63,27 +64,33 @@ def lines(tree: int, posts: str) -> str:
 
 FIRST_POSTS = "0:1:600 0:2:1200 0:3:600 0:4:1000"
 FIRST_JOURNAL = journal(" ".join([
-    asks(0, (0, 1, 2), (1, 1, 1), (600,) * 3, "3,0,0,0 0,1,1,600 1,1,1,600 2,1,1,600"), "sent,0,0,,,",
+    asks(0, (0, 1, 2), (1, 1, 1), (600,) * 3, "3,0,0,0 0,1,1,600 1,1,1,600 2,1,1,600"),
+    "sent,0,0,,,",
     asks(0, (0, 1, 2), (2, 2, 2), (1200,) * 3, "3,0,0,0 0,2,2,1200 1,2,2,1200 2,2,2,1200"),
     back(0, (0, 1, 2), (3, 3, 3), (600,) * 3), "refused,0,1,1,0,0",
-    asks(0, (0, 1, 2), (4, 4, 4), (1000,) * 3, "3,0,0,0 0,4,4,1000 1,4,4,1000 2,4,4,1000"), "sent,0,2,,,",
+    asks(0, (0, 1, 2), (4, 4, 4), (1000,) * 3, "3,0,0,0 0,4,4,1000 1,4,4,1000 2,4,4,1000"),
+    "sent,0,2,,,",
     "ended,0,0,,,", lines(0, FIRST_POSTS), lines(1, FIRST_POSTS), lines(2, FIRST_POSTS)]))
 FIRST_STREAMS = {
-    "s00.venue": forward(1, "a1", "ACC", "XYZ", "60", "10.00") + forward(2, "a3", "ACC", "XYZ", "40", "9.995"),
+    "s00.venue": forward(1, "a1", "ACC", "XYZ", "60", "10.00") + forward(2, "a3", "ACC", "XYZ",
+                                                                         "40", "9.995"),
     "s00.client": refusal(1, "C1", "a2", 3, "ACC", "XYZ", "60", "FIRM"),
 }
 
 DESK_JOURNAL = journal(" ".join([
-    asks(0, (0, 1, 3), (1, 1, 1), (3000,) * 3, "6,0,0,0 0,1,1,3000 1,1,1,3000 3,1,1,3000"), "sent,0,0,,,",
+    asks(0, (0, 1, 3), (1, 1, 1), (3000,) * 3, "6,0,0,0 0,1,1,3000 1,1,1,3000 3,1,1,3000"),
+    "sent,0,0,,,",
     asks(0, (0, 1, 3), (2, 2, 2), (4500,) * 3, "6,0,0,0 0,2,2,4500 1,2,2,4500 3,2,2,4500"),
     back(0, (0, 1, 3), (3, 3, 3), (3000,) * 3), "refused,0,1,3,0,0",
     asks(0, (0, 1, 4), (4, 4, 1), (6500, 6500, 3500), "6,0,0,0 0,4,4,6500 1,4,4,6500 4,1,1,3500"),
     back(0, (0, 1, 4), (5, 5, 2), (3000, 3000, 0)), "refused,0,2,2,0,0",
-    asks(0, (0, 2, 4), (6, 1, 3), (7000, 4000, 4000), "6,0,0,0 0,6,6,7000 2,1,1,4000 4,3,3,4000"), "sent,0,3,,,",
+    asks(0, (0, 2, 4), (6, 1, 3), (7000, 4000, 4000), "6,0,0,0 0,6,6,7000 2,1,1,4000 4,3,3,4000"),
+    "sent,0,3,,,",
     asks(0, (0, 2, 5), (7, 2, 1), (9500, 6500, 2500), "6,0,0,0 0,7,7,9500 2,2,2,6500 5,1,1,2500"),
     back(0, (0, 2, 5), (8, 3, 2), (7000, 4000, 0)), "refused,0,4,1,0,0",
     "refused,0,5,8,0,0 refused,0,6,9,0,0 refused,0,7,6,0,0",
-    asks(0, (0, 1, 5), (9, 6, 3), (7500, 3500, 500), "6,0,0,0 0,9,9,7500 1,6,6,3500 5,3,3,500"), "sent,0,8,,,",
+    asks(0, (0, 1, 5), (9, 6, 3), (7500, 3500, 500), "6,0,0,0 0,9,9,7500 1,6,6,3500 5,3,3,500"),
+    "sent,0,8,,,",
     "refused,0,9,5,0,0 ended,0,0,,,",
     lines(0, "0:1:3000 0:2:4500 0:3:3000 0:4:6500 0:5:3000 0:6:7000 0:7:9500 0:8:7000 0:9:7500"),
     lines(1, "0:1:3000 0:2:4500 0:3:3000 0:4:6500 0:5:3000 0:6:3500"),
@@ -91,7 +98,8 @@ DESK_JOURNAL = journal(" ".join([
     lines(4, "0:1:3500 0:2:0 0:3:4000"), lines(5, "0:1:2500 0:2:0 0:3:500")]))
 DESK_STREAMS = {
     "s00.venue": forward(1, "a1", "ALPHA", "ABC", "300", "10.00")
-    + forward(2, "a4", "BETA", "XYZ", "400", "10.00") + forward(3, "a9", "ALPHA", "MNO", "50", "9.995"),
+    + forward(2, "a4", "BETA", "XYZ", "400", "10.00") + forward(3, "a9", "ALPHA", "MNO", "50",
+                                                                "9.995"),
     "s00.client": refusal(1, "DESK1", "a2", 3, "ALPHA", "ABC", "150", "SYMBOL")
     + refusal(2, "DESK1", "a3", 3, "ALPHA", "XYZ", "350", "ACCOUNT")
     + refusal(3, "DESK1", "a5", 3, "BETA", "MNO", "250", "FIRM")
@@ -101,6 +109,8 @@ DESK_STREAMS = {
     + refusal(7, "DESK1", "a10", 0, "ALPHA", "ABC", "10", "QUOTA"),
 }
 
+FIRM_POSTS = ("0:1:3000 1:1:2500 1:2:0 1:3:1500 2:1:600 2:2:0 2:3:700 2:4:0 2:5:100 2:6:0 3:1:100"
+              " 3:2:0")
 FIRM_JOURNAL = journal(" ".join([
     asks(0, (0, 1, 3), (1, 1, 1), (3000,) * 3, "4,0,0,0 0,1,1,3000 1,1,1,3000 3,1,1,3000"),
     "sent,0,0,,, ended,0,0,,,",
@@ -116,11 +126,10 @@ FIRM_JOURNAL = journal(" ".join([
     back(2, (0, 1, 3), (6, 6, 6), (0,) * 3), "refused,2,2,4,0,0 ended,2,0,,,",
     asks(3, (0, 2, 3), (1, 1, 1), (100,) * 3, "4,1,1,1 0,11,11,4600 2,4,4,1600 3,11,11,4600"),
     back(3, (0, 2, 3), (2, 2, 2), (0,) * 3), "refused,3,0,4,0,0 ended,3,0,,,",
-    *(lines(tree, "0:1:3000 1:1:2500 1:2:0 1:3:1500 2:1:600 2:2:0 2:3:700 2:4:0 2:5:100 2:6:0 3:1:100 3:2:0")
-      for tree in (0,)),
+    lines(0, FIRM_POSTS),
     lines(1, "0:1:3000 2:1:600 2:2:0 2:3:700 2:4:0 2:5:100 2:6:0"),
     lines(2, "1:1:2500 1:2:0 1:3:1500 3:1:100 3:2:0"),
-    lines(3, "0:1:3000 1:1:2500 1:2:0 1:3:1500 2:1:600 2:2:0 2:3:700 2:4:0 2:5:100 2:6:0 3:1:100 3:2:0"),
+    lines(3, FIRM_POSTS),
     "line,2,4,1,1,1"]))
 FIRM_STREAMS = {
     "s00.venue": forward(1, "a1", "ALPHA", "XYZ", "300", "10.00"), "s00.client": b"",
@@ -147,7 +156,8 @@ def example(name: str, out: Path) -> list[str]:
     for stream, data in streams.items():
         (out / stream).write_bytes(data)
     folder = EXAMPLES / name
-    return [str(folder / "limits.csv"), str(out), *(str(folder / f"{session}.fix") for session in sessions)]
+    return [str(folder / "limits.csv"), str(out),
+            *(str(folder / f"{session}.fix") for session in sessions)]
 
 
 def small_run(out: Path, messages: list[bytes], journal_text: str, streams: dict[str, bytes],

@@ -1,5 +1,5 @@
-"""Files that don't belong together, or aren't what they should be: what is said, and that nothing is
-written."""
+"""Files that don't belong together, or aren't what they should be: what is said, and that nothing
+is written."""
 
 import shutil
 import tempfile
@@ -32,7 +32,8 @@ JOURNALS = [
     ("a number beyond all", FIRM_JOURNAL.replace("3000", "9" * 40, 1), "row 2: it isn't a row"),
     ("a line among acts", FIRM_JOURNAL.replace("sent,0,0", "line,0,0,1,1,5\nsent,0,0"),
      "row 9: the journal ends before session 0 does"),
-    ("a session left out", without(*range(11, 31)), "row 11: an act of session 1 has to stand here"),
+    ("a session left out", without(*range(11, 31)),
+     "row 11: an act of session 1 has to stand here"),
     ("a session more", FIRM_JOURNAL.replace("ended,3,0,,,\n", "ended,3,0,,,\nended,4,0,,,\n"),
      "row 78: an act of a session that isn't given"),
     ("a post left out", without(3), "line 1 of tree 1 isn't the next post of its session"),
@@ -45,25 +46,28 @@ JOURNALS = [
      "a read of tree 0 at place 2 gives 5600, which isn't the root there"),
     ("a read's place", FIRM_JOURNAL.replace("read,1,0,2,2,5500", "read,1,0,2,99,5500"),
      "a read of tree 0 at place 99 gives 5500"),
-    ("a tree too many", FIRM_JOURNAL.replace("post,0,0,1", "post,0,9,1"), "row 2: the limit file has no tree 9"),
+    ("a tree too many", FIRM_JOURNAL.replace("post,0,0,1", "post,0,9,1"),
+     "row 2: the limit file has no tree 9"),
 ]
 FIRM_FILES = ["alpha1", "beta1", "alpha2", "beta2"]
 ORDERS = [
     ("the first two change places", ["beta1", "alpha1", "alpha2", "beta2"],
-     "session 0 (beta1.fix), frame 0: the journal's trees aren't those of the order's account and symbol"),
+     "session 0 (beta1.fix), frame 0: the journal's trees aren't those of the order's account and"),
     ("the first and the third", ["alpha2", "beta1", "alpha1", "beta2"],
      "session 0 (alpha2.fix), frame 0: message 0 of s00.venue isn't what the gate wrote of it"),
     ("the last two", ["alpha1", "beta1", "beta2", "alpha2"],
-     "session 2 (beta2.fix), frame 0: the journal's trees aren't those of the order's account and symbol"),
+     "session 2 (beta2.fix), frame 0: the journal's trees aren't those of the order's account and"),
 ]
 LIMIT_FILES = [
     ("a lower limit of the firm", "firm,,5000,", "firm,,4000,", APART,
      "session 1 (beta1.fix), frame 1: by the limit file the order isn't sent as the journal says"),
     ("a higher limit of the firm", "firm,,5000,", "firm,,6000,", APART,
-     "session 1 (beta1.fix), frame 0: by the limit file the order isn't refused as the journal says"),
-    ("the accounts change places", "account,ALPHA,4000,,,\naccount,BETA", "account,BETA,4000,,,\naccount,ALPHA",
+     "session 1 (beta1.fix), frame 0: by the limit file the order isn't refused as the journal"),
+    ("the accounts change places", "account,ALPHA,4000,,,\naccount,BETA",
+     "account,BETA,4000,,,\naccount,ALPHA",
      APART, "frame 0: the journal's trees aren't those of the order's account and symbol"),
-    ("an account more", "trip,,2,,,", "account,GAMMA,1,,,", APART, "the reads aren't those of the halt tree"),
+    ("an account more", "trip,,2,,,", "account,GAMMA,1,,,", APART,
+     "the reads aren't those of the halt tree"),
     ("no firm", "firm,,5000,,,\n", "", UNREADABLE, "the limit file has no row of the firm"),
     ("another word", "trip", "tripp", UNREADABLE, "row 5 isn't one of a limit file"),
     ("five columns", "trip,,2,,,", "trip,,2,,", UNREADABLE, "row 5 isn't one of a limit file"),
@@ -88,7 +92,8 @@ class Apart(unittest.TestCase):
         self.assertEqual(found, status, f"{name}: {shown}")
         self.assertIn(text, shown, name)
         self.assertNotIn("Traceback", shown, name)
-        left = {path.name for path in self.out.iterdir()} - {"journal.csv", "limits.csv", "session.fix"}
+        left = {path.name for path in self.out.iterdir()} - {"journal.csv", "limits.csv",
+                                                             "session.fix"}
         self.assertEqual({name for name in left if not name.startswith("s0")}, set(), name)
 
     def test_journals(self):
@@ -126,11 +131,14 @@ class Apart(unittest.TestCase):
         data = path.read_bytes()
         second = data.index(b"8=FIX", 1)
         cases = [
-            ("another text", data.replace(b"58=FIRM", b"58=HALT", 1), "frame 0: message 0 of s02.client"),
-            ("the first two change places", data[second:second * 2] + data[:second] + data[second * 2:],
+            ("another text", data.replace(b"58=FIRM", b"58=HALT", 1),
+             "frame 0: message 0 of s02.client"),
+            ("the first two change places",
+             data[second:second * 2] + data[:second] + data[second * 2:],
              "frame 0: message 0 of s02.client"),
             ("one too few", data[:data.rindex(b"8=FIX")], "frame 2: message 2 of s02.client"),
-            ("one too many", data + frame("35=0|"), "s02.client has more than the journal tells of"),
+            ("one too many", data + frame("35=0|"),
+             "s02.client has more than the journal tells of"),
             ("cut", data[:-1], "frame 2: message 2 of s02.client"),
         ]
         for name, changed, said in cases:
@@ -139,12 +147,15 @@ class Apart(unittest.TestCase):
 
     def test_frames_and_acts(self):
         """A frame has another act than one of its kind can have, or none."""
-        kinds = {"heartbeat": "35=0|", "quote": "35=Q|", "order": "35=D|11=a|", "cancel": "35=F|11=a|",
+        kinds = {"heartbeat": "35=0|", "quote": "35=Q|", "order": "35=D|11=a|",
+                 "cancel": "35=F|11=a|",
                  "report": "35=8|11=a|"}
         cases = [
-            ("heartbeat", "sent,0,0,,,", "the file has a message of the session (35=0), the journal has 'sent'"),
+            ("heartbeat", "sent,0,0,,,",
+             "the file has a message of the session (35=0), the journal has 'sent'"),
             ("heartbeat", "noted,0,0,1,0,0", "the journal has 'noted' with code 1"),
-            ("quote", "", "the file has a message of another type (35=Q), the journal has no act of it"),
+            ("quote", "",
+             "the file has a message of another type (35=Q), the journal has no act of it"),
             ("order", "", "the file has NewOrderSingle, the journal has no act of it"),
             ("order", "noted,0,0,3,0,0", "the journal has 'noted' with code 3"),
             ("order", "sent,0,0,,,", "the journal has no reads for it"),
@@ -157,14 +168,17 @@ class Apart(unittest.TestCase):
         ]
         for kind, act, said in cases:
             client = {"s00.client": frame("35=8|11=a|58=DUPLICATE|")}
-            self.words = small_run(self.out, [frame(kinds[kind])], journal(f"{act} ended,0,0,,,"), client, LIMITS)
+            self.words = small_run(self.out, [frame(kinds[kind])], journal(f"{act} ended,0,0,,,"),
+                                   client, LIMITS)
             self.expect(f"{kind} {act}", APART, said)
 
     def test_ends(self):
         """A session ended otherwise than its file does."""
         data = frame("35=0|")
-        for end, said in [("ended,0,0,,,", "a frame is cut, at byte 0; by the journal it ended so: took its"),
-                          ("ended,0,1,5,,", "by the journal it ended so: a frame is cut, at byte 5")]:
+        for end, said in [("ended,0,0,,,",
+                           "a frame is cut, at byte 0; by the journal it ended so: took its"),
+                          ("ended,0,1,5,,",
+                           "by the journal it ended so: a frame is cut, at byte 5")]:
             self.words = small_run(self.out, [data[:-1]], journal(end), {}, LIMITS)
             self.expect(end, APART, said)
 

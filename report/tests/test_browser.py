@@ -1,5 +1,5 @@
-"""The page in a real browser, at two widths, in light and dark, by keyboard, printed. Skipped where no
-chromium is there."""
+"""The page in a real browser, at two widths, in light and dark, by keyboard, printed. Skipped where
+no chromium is there."""
 
 import base64
 import tempfile
@@ -13,7 +13,8 @@ from report.tests.quiet import quiet
 from report.tests.runs import example
 
 WIDTHS = (375, 1600)
-ROWS = "[...document.querySelectorAll('#rows > tr:not(.detail)')].map((row) => row.children[2].firstChild.firstChild.data)"
+ROWS = """[...document.querySelectorAll('#rows > tr:not(.detail)')]
+  .map((row) => row.children[2].firstChild.firstChild.data)"""
 CONTRASTS = """(() => {
   const parts = (color) => color.match(/[\\d.]+/g).map(Number);
   const light = (rgb) => rgb.slice(0, 3).map((c) => c / 255)
@@ -62,7 +63,8 @@ class Page(unittest.TestCase):
                 self.browser.open(self.html, width, dark)
                 self.browser.run("document.querySelector('#rows button').click()")
                 name = f"{width}, {'dark' if dark else 'light'}"
-                self.assertEqual(self.browser.run("document.documentElement.scrollWidth"), width, name)
+                self.assertEqual(self.browser.run("document.documentElement.scrollWidth"), width,
+                                 name)
                 self.assertEqual(self.browser.run(CONTRASTS), [], name)
                 fetched = {event["params"]["request"]["url"] for event in self.browser.events
                            if event.get("method") == "Network.requestWillBeSent"}
@@ -78,7 +80,7 @@ class Page(unittest.TestCase):
         self.assertEqual(len(self.browser.run(CONTRASTS)), 1)
 
     def test_filters(self):
-        """The refused ones stand first; the other filters and the search let through what they say."""
+        """The refused ones stand first; other filters and the search let through what they say."""
         self.browser.open(self.html, 1600)
         cases = [
             ("", ["b1", "c1", "c2", "c3", "d1"]),
@@ -101,18 +103,19 @@ class Page(unittest.TestCase):
         """Waits for what stood at a refusal; its text."""
         return self.browser.run("""new Promise((done) => { const look = () => {
             const detail = document.querySelector('.detail');
-            detail ? done(detail.innerText.replace(/\\s+/g, ' ')) : setTimeout(look, 20); }; look(); })""")
+            if (detail) done(detail.innerText.replace(/\\s+/g, ' ')); else setTimeout(look, 20);
+            }; look(); })""")
 
     def test_what_stood_there(self):
         """Each refusal opens what the sessions had posted at its place."""
         self.browser.open(self.html, 1600)
         want = {
-            "b1": "After 2 posts in the tree of firm the root was 5,500, with this request: 500 above the"
-                  " limit of 5,000. There stood: session 0: alpha1.fix 3,000 session 1: beta1.fix, with"
-                  " this request (before it 0) 2,500",
-            "c2": "After 7 posts in the tree of firm the root was 5,200, with this request: 200 above the"
-                  " limit of 5,000. There stood: session 0: alpha1.fix 3,000 session 1: beta1.fix 1,500"
-                  " session 2: alpha2.fix, with this request (before it 0) 700",
+            "b1": "After 2 posts in the tree of firm the root was 5,500, with this request: 500 above"
+                  " the limit of 5,000. There stood: session 0: alpha1.fix 3,000 session 1:"
+                  " beta1.fix, with this request (before it 0) 2,500",
+            "c2": "After 7 posts in the tree of firm the root was 5,200, with this request: 200 above"
+                  " the limit of 5,000. There stood: session 0: alpha1.fix 3,000 session 1:"
+                  " beta1.fix 1,500 session 2: alpha2.fix, with this request (before it 0) 700",
             "d1": "After 1 post in the tree of halt the firm was halted. session 2: alpha2.fix 1",
         }
         for order_id, text in want.items():
@@ -123,7 +126,7 @@ class Page(unittest.TestCase):
             self.assertFalse(self.browser.run("!!document.querySelector('.detail')"), order_id)
 
     def test_keyboard(self):
-        """With keys alone: the skip link, the choice of what is shown, the search, and a refusal."""
+        """With keys alone: the skip link, the choice of what is shown, the search, a refusal."""
         self.browser.open(self.html, 1600)
         self.browser.key("Tab", code="Tab", windowsVirtualKeyCode=9)
         self.assertEqual(self.browser.run("document.activeElement.className"), "skip")
@@ -136,7 +139,8 @@ class Page(unittest.TestCase):
         self.browser.run("document.querySelector('#rows button').focus()")
         self.browser.key("Enter", code="Enter", windowsVirtualKeyCode=13, text="\r")
         self.assertIn("There stood: session 0: alpha1.fix 3,000", self.standing())
-        self.assertEqual(self.browser.run("document.activeElement.getAttribute('aria-expanded')"), "true")
+        self.assertEqual(self.browser.run("document.activeElement.getAttribute('aria-expanded')"),
+                         "true")
 
     def test_screen_reader(self):
         """Also as cards the tables are tables; pictures, buttons and fields have names."""
@@ -149,8 +153,8 @@ class Page(unittest.TestCase):
                             "navigation": 1, "status": 1}.items():
             self.assertGreaterEqual(roles.count(role), least, role)
         pictures = [name for role, name in named if role in ("image", "img", "graphics-document")]
-        self.assertIn("firm: limit 5,000; orders were sent up to a root of 4,500; the highest root posted"
-                      " is 5,500; refused: 3.", pictures)
+        self.assertIn("firm: limit 5,000; orders were sent up to a root of 4,500; the highest root"
+                      " posted is 5,500; refused: 3.", pictures)
         for role, name in named:
             if role in ("button", "combobox", "searchbox", "radio", "link", "table"):
                 self.assertTrue(name, role)
@@ -158,8 +162,9 @@ class Page(unittest.TestCase):
     def test_print(self):
         """Printed, the controls are gone and all folded parts are open."""
         self.browser.open(self.html, 1600, media="print")
-        self.assertEqual(self.browser.run("getComputedStyle(document.querySelector('.filters')).display"), "none")
-        self.assertNotEqual(self.browser.run("getComputedStyle(document.querySelector('.plot')).display"), "none")
+        for name, is_there in [(".filters", False), (".pages", False), (".plot", True)]:
+            style = self.browser.run(f"getComputedStyle(document.querySelector('{name}')).display")
+            self.assertEqual(style != "none", is_there, name)
         pdf = base64.b64decode(self.browser.call("Page.printToPDF", printBackground=True)["data"])
         self.assertTrue(pdf.startswith(b"%PDF"))
 
@@ -173,7 +178,8 @@ class Page(unittest.TestCase):
         self.browser.open(run.out / "report.html", 375)
         self.assertEqual(self.browser.run(ROWS), test_hostile.IDS)
         self.assertEqual(self.browser.run("document.title"), "Report of a run of the gate")
-        self.assertEqual(self.browser.run("document.querySelectorAll('img, b[onclick], td script').length"), 0)
+        made = "document.querySelectorAll('img, b[onclick], td script').length"
+        self.assertEqual(self.browser.run(made), 0)
         self.assertEqual(self.browser.run("document.documentElement.scrollWidth"), 375)
 
 

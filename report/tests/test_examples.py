@@ -25,8 +25,10 @@ FIRST = [
 ]
 DESK = [
     ("0", "0", "a1", "ALPHA", "ABC", "300", "10.00", "sent", "", "", "", ""),
-    ("0", "1", "a2", "ALPHA", "ABC", "150", "10.00", "refused: SYMBOL", "symbol ABC", "4500", "4000", "500"),
-    ("0", "2", "a3", "ALPHA", "XYZ", "350", "10.00", "refused: ACCOUNT", "account ALPHA", "6500", "6000", "500"),
+    ("0", "1", "a2", "ALPHA", "ABC", "150", "10.00", "refused: SYMBOL", "symbol ABC", "4500",
+     "4000", "500"),
+    ("0", "2", "a3", "ALPHA", "XYZ", "350", "10.00", "refused: ACCOUNT", "account ALPHA", "6500",
+     "6000", "500"),
     ("0", "3", "a4", "BETA", "XYZ", "400", "10.00", "sent", "", "", "", ""),
     ("0", "4", "a5", "BETA", "MNO", "250", "10.00", "refused: FIRM", "firm", "9500", "9000", "500"),
     ("0", "5", "a6", "GAMMA", "ABC", "10", "10.00", "refused: UNKNOWN ACCOUNT", "", "", "", ""),
@@ -76,7 +78,8 @@ class Examples(unittest.TestCase):
             self.assertEqual(header, HEADER, name)
             for row, cells in zip(rows, want, strict=True):
                 session, frame, order_id, account, symbol, quantity, price, *rest = cells
-                whole = [session, frame, TIME, order_id, "", account, symbol, "buy", quantity, price,
+                whole = [session, frame, TIME, order_id, "", account, symbol, "buy", quantity,
+                         price,
                          *rest, "NewOrderSingle"]
                 self.assertEqual(row, whole, f"{name}, {order_id}")
 
@@ -86,13 +89,15 @@ class Examples(unittest.TestCase):
         want = {
             "first": ["0 firm 1,000 1,000 100 % 1,200 1,000 4 1",
                       "1 account ACC 100,000 1,000 1 % 1,200 1,000 4 0",
-                      "2 symbol XYZ 100,000 1,000 1 % 1,200 1,000 4 0", "3 halt, not tripped none – – – 0 0 0"],
+                      "2 symbol XYZ 100,000 1,000 1 % 1,200 1,000 4 0",
+                      "3 halt, not tripped none – – – 0 0 0"],
             "desk": ["0 firm 9,000 7,500 83 % 9,500 7,500 9 1",
                      "1 account ALPHA 6,000 3,500 58 % 6,500 3,500 6 1",
                      "2 account BETA 7,000 4,000 57 % 6,500 4,000 3 0",
                      "3 symbol ABC 4,000 3,000 75 % 4,500 3,000 3 1",
                      "4 symbol XYZ 5,000 4,000 80 % 4,000 4,000 3 0",
-                     "5 symbol MNO 8,000 500 6.2 % 2,500 500 3 0", "6 halt, not tripped none – – – 0 0 0"],
+                     "5 symbol MNO 8,000 500 6.2 % 2,500 500 3 0",
+                     "6 halt, not tripped none – – – 0 0 0"],
             "firm": ["0 firm 5,000 4,500 90 % 5,500 4,500 12 3",
                      "1 account ALPHA 4,000 3,000 75 % 3,700 3,000 7 0",
                      "2 account BETA 4,000 1,500 37 % 2,500 1,500 5 0",
@@ -119,8 +124,8 @@ class Examples(unittest.TestCase):
     def test_first_refusal(self):
         """What stood where the firm's limit first refused."""
         html = self.written("firm")
-        self.assertIn("First refused: b1 of session 1, after 2 posts. With it the root was 5,500, 500"
-                      " above the limit. There stood:", html)
+        self.assertIn("First refused: b1 of session 1, after 2 posts. With it the root was 5,500,"
+                      " 500 above the limit. There stood:", html)
         self.assertEqual(re.findall(r"<span>(session \d.*?)</span><b>(.*?)</b>", html),
                          [("session 0", "3,000"), ("session 1, with this request", "2,500")])
 
@@ -138,13 +143,14 @@ class Examples(unittest.TestCase):
         self.assertEqual(lines[4], {"sessions": [2], "values": [1]})
 
     def test_picture(self):
-        """The step line of the firm's tree, its limit and its three marks, in percent of a room whose
-        top is 5,500 x 1.24."""
+        """The step line of the firm's tree, its limit and its three marks, in a room whose top is
+        5,500 x 1.24 and which has 13 places."""
         html = self.written("firm")
         plot = re.search(r'class="plot".*?</svg></svg>', html)[0]
-        marks = re.findall(r'<svg x="([\d.]+)%" y="([\d.]+)%" class="mark"><title>(.*?)</title>', html)
-        self.assertIn("firm: limit 5,000; orders were sent up to a root of 4,500; the highest root posted"
-                      " is 5,500; refused: 3.", plot)
+        marks = re.findall(r'<svg x="([\d.]+)%" y="([\d.]+)%" class="mark"><title>(.*?)</title>',
+                           html)
+        self.assertIn("firm: limit 5,000; orders were sent up to a root of 4,500; the highest root"
+                      " posted is 5,500; refused: 3.", plot)
         self.assertIn('class="root" d="M0 1000H76.9V560.1H153.8V193.5H230.8V560.1', html)
         self.assertIn('class="limit" d="M0 266.9H1000"', html)
         self.assertEqual(marks, [
@@ -158,8 +164,8 @@ class Examples(unittest.TestCase):
         picture.main([str(self.out / "firm.svg"), *words])
         made = (self.out / "firm.svg").read_text(encoding="utf-8")
         self.assertEqual((TOP / "docs" / "report.svg").read_text(encoding="utf-8"), made)
-        self.assertIn("First refused: b1 of session 1, root 5,500. There stood: 3,000 of session 0, 2,500"
-                      " of session 1.", made)
+        self.assertIn("First refused: b1 of session 1, root 5,500. There stood: 3,000 of session 0,"
+                      " 2,500 of session 1.", made)
 
     def test_no_network(self):
         """The page names nothing that it would have to fetch."""

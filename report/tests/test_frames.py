@@ -8,8 +8,8 @@ from report.tests.runs import frame
 
 HEARTBEAT = frame("35=0|")
 # A limit order in whole bytes, of 136 bytes with BodyLength (9) 113.
-TIE = (b"8=FIX.4.4\x019=113\x0135=D\x0149=C1\x0156=GATE\x0134=1\x0152=20240102-10:00:00\x0111=a1\x01"
-       b"1=ACC\x0155=XYZ\x0154=1\x0138=100\x0140=2\x0144=10.0000\x0160=20240102-10:00:00\x0110=175\x01")
+TIE = (b"8=FIX.4.4|9=113|35=D|49=C1|56=GATE|34=1|52=20240102-10:00:00|11=a1|1=ACC|55=XYZ|54=1|38=100"
+       b"|40=2|44=10.0000|60=20240102-10:00:00|10=175|").replace(b"|", b"\x01")
 
 ENDS = [
     ("nothing", b"", 0, End(WHOLE, None)),

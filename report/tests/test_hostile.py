@@ -15,19 +15,25 @@ from report.text import grouped, readable, share, spreadsheet_cell
 
 CELLS = [
     ("=1+1", "'=1+1"), ("+1-1", "'+1-1"), ("-1+1", "'-1+1"), ("@SUM(A1)", "'@SUM(A1)"),
-    ("  =1+1", "'  =1+1"), ("=cmd|' /C calc'!A0", "'=cmd|' /C calc'!A0"), ("\uff1d1+1", "'\uff1d1+1"),
-    ("-5", "-5"), ("-0.25", "-0.25"), ("-5x", "'-5x"), ("-", "'-"), ("10.00", "10.00"), ("a=b", "a=b"),
+    ("  =1+1", "'  =1+1"), ("=cmd|' /C calc'!A0", "'=cmd|' /C calc'!A0"),
+    ("\uff1d1+1", "'\uff1d1+1"),
+    ("-5", "-5"), ("-0.25", "-0.25"), ("-5x", "'-5x"), ("-", "'-"), ("10.00", "10.00"),
+    ("a=b", "a=b"),
     ("<script>", "<script>"), ('"', '"'), ("", ""),
 ]
 TEXTS = [
-    ("plain", b"a1", "a1"), ("UTF-8", "Z\u00fcrich".encode(), "Z\u00fcrich"), ("no UTF-8", b"a\xff", "a\\xff"),
+    ("plain", b"a1", "a1"), ("UTF-8", "Z\u00fcrich".encode(), "Z\u00fcrich"),
+    ("no UTF-8", b"a\xff", "a\\xff"),
     ("a control", b"a\x07b", "a\\x07b"), ("a line end", b"a\nb", "a\\nb"),
-    ("turned writing", "a\u202eb".encode(), "a\\u202eb"), ("no width", "a\u200bb".encode(), "a\\u200bb"),
+    ("turned writing", "a\u202eb".encode(), "a\\u202eb"),
+    ("no width", "a\u200bb".encode(), "a\\u200bb"),
 ]
-SHARES = [(0, 0, "\u2013"), (0, 5, "0 %"), (1, 3, "33 %"), (9, 200, "4.5 %"), (999_999, 1_000_000, "99.9 %"),
+SHARES = [(0, 0, "\u2013"), (0, 5, "0 %"), (1, 3, "33 %"), (9, 200, "4.5 %"),
+          (999_999, 1_000_000, "99.9 %"),
           (1, 1, "100 %"), (3, 2, "150 %"), (19, 200, "9.5 %"), (1, 10_000, "0 %")]
 SCRIPT = "</script><script>document.title='x'</script>"
-LIMITS = f"firm,,1000,,,\naccount,\"{SCRIPT}\",100000,,,\nsymbol,\"<img src=x onerror=a()>\",100000,1,12,1000\n"
+IMAGE = "<img src=x onerror=a()>"
+LIMITS = f"firm,,1000,,,\naccount,{SCRIPT},100000,,,\nsymbol,{IMAGE},100000,1,12,1000\n"
 IDS = [SCRIPT, '"><b onclick="a()">', "=HYPERLINK(\"x\")", "'; a(); '", "&lt;i&gt;", "${a}`"]
 
 
@@ -62,18 +68,19 @@ class Hostile(unittest.TestCase):
 
     def hostile_run(self) -> list[str]:
         """Orders of 100 at 12.00 by these ids: 1,200 is above the firm's 1,000."""
-        symbol = "<img src=x onerror=a()>"
         orders, acts, lines, client = [], [], [], b""
         for at, order_id in enumerate(IDS):
-            orders.append(frame(f"35=D|49=C1|56=GATE|34={at + 1}|52=T|11={order_id}|1={SCRIPT}|55={symbol}"
-                                "|54=1|38=100|40=2|44=12.00|"))
+            orders.append(frame(f"35=D|49=C1|56=GATE|34={at + 1}|52=T|11={order_id}|1={SCRIPT}"
+                                f"|55={IMAGE}|54=1|38=100|40=2|44=12.00|"))
             first, place = 2 * at + 1, 2 * at + 1
             acts += [f"post,0,{tree},{first},1200," for tree in range(3)] + ["read,0,3,0,0,0"]
             acts += [f"read,0,{tree},{place},{place},1200" for tree in range(3)]
-            acts += [f"post,0,{tree},{first + 1},0," for tree in range(3)] + [f"refused,0,{at},1,0,0"]
-            client += refusal(at + 1, "C1", order_id, 3, SCRIPT, symbol, "100", "FIRM")
+            acts += [f"post,0,{tree},{first + 1},0," for tree in range(3)]
+            acts += [f"refused,0,{at},1,0,0"]
+            client += refusal(at + 1, "C1", order_id, 3, SCRIPT, IMAGE, "100", "FIRM")
         for tree in range(3):
-            lines += [f"line,0,{tree},{n},{n},{1200 if n % 2 else 0}" for n in range(1, 2 * len(IDS) + 1)]
+            lines += [f"line,0,{tree},{place},{place},{1200 if place % 2 else 0}"
+                      for place in range(1, 2 * len(IDS) + 1)]
         rows = journal(" ".join(acts + ["ended,0,0,,,"] + lines))
         return small_run(self.out, orders, rows, {"s00.client": client}, LIMITS)
 
@@ -94,7 +101,8 @@ class Hostile(unittest.TestCase):
             main(self.words)
         with open(self.out / "requests.csv", encoding="utf-8", newline="") as file:
             rows = list(csv.DictReader(file))
-        want = [SCRIPT, '"><b onclick="a()">', "'=HYPERLINK(\"x\")", "'; a(); '", "&lt;i&gt;", "${a}`"]
+        want = [SCRIPT, '"><b onclick="a()">', "'=HYPERLINK(\"x\")", "'; a(); '", "&lt;i&gt;",
+                "${a}`"]
         self.assertEqual([row["ClOrdID"] for row in rows], want)
         self.assertEqual({row["excess"] for row in rows}, {"200"})
 

@@ -1,4 +1,4 @@
-"""A session with a frame of each kind: cancels, replaces, reports, field faults, screens and notes."""
+"""A session with a frame of each kind: cancels, replaces, reports, field faults, screens, notes."""
 
 import csv
 import tempfile
@@ -49,10 +49,14 @@ JOURNAL = journal(" ".join([
     "noted,0,5,3,0,0 sent,0,6,,, refused,0,7,7,0,0 refused,0,8,16,55,1 noted,0,9,5,150,1",
     "refused,0,10,10,1,0 noted,0,11,1,0,0 noted,0,12,2,0,0 refused,0,13,13,0,0 ended,0,0,,,",
     *(lines(tree, POSTS) for tree in TREES)]))
-TO_VENUE = ["35=D|11=a1|", "35=G|11=b1|41=a1|", "35=F|11=c1|41=b1|", "35=3|45=4|371=150|372=8|373=1|"]
-TO_CLIENT = ["35=8|11=b1|41=a1|150=5|", "35=8|11=b1|150=F|", "35=9|11=zz|41=yy|", "35=8|11=a1|58=DUPLICATE|",
-             "35=3|45=6|371=55|372=D|373=1|", "35=8|11=a3|58=SCREEN 1|", "35=9|11=c2|41=b1|58=PENDING|"]
-STREAMS = {"s00.venue": b"".join(map(frame, TO_VENUE)), "s00.client": b"".join(map(frame, TO_CLIENT))}
+TO_VENUE = ["35=D|11=a1|", "35=G|11=b1|41=a1|", "35=F|11=c1|41=b1|",
+            "35=3|45=4|371=150|372=8|373=1|"]
+TO_CLIENT = ["35=8|11=b1|41=a1|150=5|", "35=8|11=b1|150=F|", "35=9|11=zz|41=yy|",
+             "35=8|11=a1|58=DUPLICATE|",
+             "35=3|45=6|371=55|372=D|373=1|", "35=8|11=a3|58=SCREEN 1|",
+             "35=9|11=c2|41=b1|58=PENDING|"]
+STREAMS = {"s00.venue": b"".join(map(frame, TO_VENUE)),
+           "s00.client": b"".join(map(frame, TO_CLIENT))}
 
 # frame, ClOrdID, OrigClOrdID, account, symbol, side, quantity, price, outcome, message
 ROWS = [
@@ -87,7 +91,8 @@ class Kinds(unittest.TestCase):
         self.assertEqual(status, DONE, said.getvalue())
         with open(self.out / "requests.csv", encoding="utf-8", newline="") as file:
             rows = list(csv.reader(file))[1:]
-        self.assertEqual({(row[0], row[2], *row[11:15]) for row in rows}, {("0", "T", "", "", "", "")})
+        self.assertEqual({(row[0], row[2], *row[11:15]) for row in rows},
+                         {("0", "T", "", "", "", "")})
         return [(row[1], *row[3:11], row[15]) for row in rows]
 
     def test_whole(self):
