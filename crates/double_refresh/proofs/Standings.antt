@@ -1,4 +1,4 @@
--- Where a climb stands after a post, and at the root.
+-- Where an ascent stands after a post, and at the root.
 use Rattle.std.proofs.Common.{◌≡◌, ℕ, suc, ◌≤◌, Option, Some, None, sym, ap, ◌∙◌, subst, arith}
 use Rattle.std.specs.Prelude.{IfSome}
 use Rattle.stamp_word.specs.Places.{leaf_of}
@@ -9,19 +9,19 @@ use Rattle.node_rule.specs.declared.view.Stage.TheVariants.{Fresh}
 use Rattle.node_rule.specs.declared.view.Track.{Track}
 use Rattle.node_rule.specs.declared.view.Ascent.{Ascent}
 use Rattle.node_rule.specs.declared.view.Plan.{Plan}
-use Rattle.node_rule.specs.Views.{climb_of, called, started, risen}
+use Rattle.node_rule.specs.Views.{ascent_of, called, started, risen}
 use Rattle.node_rule.specs.Sums.{posts_in}
 use Rattle.node_rule.specs.Own.{node_in, IsBelowRoot}
 use Rattle.node_rule.specs.Standing.{Standing, IsFresh, IsIdle, HasPosted}
 use Rattle.double_refresh.specs.Refreshing.{Rises}
 
--- with a level above the leaf a post begins a climb
+-- with a level above the leaf a post begins an ascent
 pub posted_is_fresh : (tree value : ℕ) (old new : Standing) → old.plan.levels ≡ 1
     → new.plan ≡ old.plan → HasPosted tree value old new → IsFresh new
 posted_is_fresh tree value old new one same posted =
     let track = posted.0 in
     let after : Track = called track (Post tree value) in
-    let climb_at : ℕ → Option Ascent =
+    let ascent_at : ℕ → Option Ascent =
     λ levels. started levels tree (leaf_of old.plan.levels track.number)
     (suc (posts_in tree track)) in (
       record {
@@ -33,25 +33,25 @@ posted_is_fresh tree value old new one same posted =
       },
       (
         after,
-        posted.2 ∙ (ap (λ (n : ℕ). Session old.plan.levels after (climb_at n)) one
-            ∙ ap (λ (p : Plan). Session p.levels after (climb_at 1)) (sym same)),
+        posted.2 ∙ (ap (λ (n : ℕ). Session old.plan.levels after (ascent_at n)) one
+            ∙ ap (λ (p : Plan). Session p.levels after (ascent_at 1)) (sym same)),
       ),
     )
 
--- a climb that rose to the root is over
+-- an ascent that rose to the root is over
 pub risen_is_idle : (old new : Standing) → Rises old new → new.plan ≡ old.plan
-    → IfSome (climb_of new.view) (IsBelowRoot new.plan) → node_in (climb_of new.view) ≡ 1
+    → IfSome (ascent_of new.view) (IsBelowRoot new.plan) → node_in (ascent_of new.view) ≡ 1
     → IsIdle new
-risen_is_idle old new rises same below root = of_climb (risen rises.1 rises.3) rises.5
+risen_is_idle old new rises same below root = of_ascent (risen rises.1 rises.3) rises.5
   where
-    of_climb : (climb : Option Ascent) → new.view ≡ Session old.plan.levels rises.2 climb
+    of_ascent : (ascent : Option Ascent) → new.view ≡ Session old.plan.levels rises.2 ascent
         → IsIdle new
-    of_climb None now = (
+    of_ascent None now = (
       rises.2,
       now ∙ ap (λ (p : Plan). Session p.levels rises.2 None) (sym same),
     )
-    of_climb (Some x) now =
+    of_ascent (Some x) now =
         let low : 2 ≤ x.node =
-        (subst (λ (v : View). IfSome (climb_of v) (IsBelowRoot new.plan)) now below).0 in
-        let one : x.node ≡ 1 = sym (ap (λ (v : View). node_in (climb_of v)) now) ∙ root in
+        (subst (λ (v : View). IfSome (ascent_of v) (IsBelowRoot new.plan)) now below).0 in
+        let one : x.node ≡ 1 = sym (ap (λ (v : View). node_in (ascent_of v)) now) ∙ root in
         absurd (omega arith)

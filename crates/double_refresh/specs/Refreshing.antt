@@ -1,28 +1,29 @@
--- What one try, and a whole refresh, do to a climb.
+-- What one try, and a whole refresh, do to an ascent.
 use Rattle.std.specs.Prelude.{◌≡◌, ℕ, ◌⊎◌, Some}
 use Rattle.node_rule.specs.declared.view.View.TheVariants.{Session}
 use Rattle.node_rule.specs.declared.view.Track.{Track}
 use Rattle.node_rule.specs.declared.view.Install.{Install}
 use Rattle.node_rule.specs.declared.view.Ascent.{Ascent}
 use Rattle.node_rule.specs.Views.{installed, risen}
-use Rattle.node_rule.specs.Steps.{climb_lost}
+use Rattle.node_rule.specs.Steps.{ascent_lost}
 use Rattle.node_rule.specs.Standing.{Standing}
 
--- one install more, and the climb is at the parent
+-- one install more, and the ascent is at the parent
 abbrev pub Wins : Standing → Standing → Type 0
 Wins old new =
     (track : Track) × (x : Ascent) × (i : Install) × (stamp : ℕ)
     × (old.view ≡ Session old.plan.levels track (Some x))
     × (new.view ≡ Session old.plan.levels (installed track i) (risen x stamp))
 
--- no install more; after the first try the climb may try again, after the second it is at the parent
+-- no install more; after the first try the ascent may try again, after the second it is at the
+-- parent
 abbrev pub Loses : Standing → Standing → Type 0
 Loses old new =
     (track : Track) × (x : Ascent) × (found : ℕ)
     × (old.view ≡ Session old.plan.levels track (Some x))
-    × (new.view ≡ Session old.plan.levels track (climb_lost x found x.stage))
+    × (new.view ≡ Session old.plan.levels track (ascent_lost x found x.stage))
 
--- the climb is at the parent, with at most one install more
+-- the ascent is at the parent, with at most one install more
 abbrev pub Rises : Standing → Standing → Type 0
 Rises old new =
     (track : Track) × (x : Ascent) × (after : Track) × (stamp : ℕ)

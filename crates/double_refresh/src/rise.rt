@@ -1,4 +1,4 @@
-//! One or two tries at the parent of a climb's node.
+//! One or two tries at the parent of an ascent's node.
 ghost use Rattle.std.specs.Prelude.{◌≡◌, ℕ, ◌+◌, ◌≤◌};
 ghost use Rattle.std.specs.Bool.{OnTrue, OnFalse};
 ghost use Rattle.node_rule.specs.Standing.{IsOf, KeepsSeat, IsFresh, HasTry};
@@ -20,7 +20,7 @@ pub(crate) fn attempt<F: Fold, L: Ledger>(
     ensures table { KeepsSeat climb.old climb.new }
     ensures won { OnTrue result (Wins climb.old climb.new) }
     ensures lost { OnFalse result (Loses climb.old climb.new) }
-    ensures counted { climb.new.made ≡ climb.old.made + 3 }
+    ensures own_steps { climb.new.steps ≡ climb.old.steps + 3 }
     ensures steps { steps.new ≡ steps.old + 3 }
 {
     words.load_left(climb, steps);
@@ -28,16 +28,19 @@ pub(crate) fn attempt<F: Fold, L: Ledger>(
     words.exchange(climb, steps)
 }
 
-/// Takes a climb, which has loaded nothing for its parent yet, up to the parent: below the root it
+/// Takes an ascent that has loaded nothing for its parent yet up to the parent: below the root it
 /// stands there, with a held stamp that covers its post and nothing loaded for the next parent;
-/// where the parent is the root, it is between two posts. It wins at most one exchange.
+/// where the parent is the root, the session is between two posts. It wins at most one exchange.
+///
+/// Its steps are bounded by the seat's own count and by the counter that is handed in. The seat
+/// counts each of them, so a body that loads a word until another session changes it is refused.
 pub fn refresh<F: Fold, L: Ledger>(words: &Words<F>, climb: &mut Climb<F>, steps: &mut Steps<L>)
     requires table { IsOf words.now climb.old }
     requires stage { IsFresh climb.old }
     ensures table { KeepsSeat climb.old climb.new }
     ensures rises { Rises climb.old climb.new }
-    ensures made_least { climb.old.made + 4 ≤ climb.new.made }
-    ensures made_most { climb.new.made ≤ climb.old.made + 8 }
+    ensures own_least { climb.old.steps + 4 ≤ climb.new.steps }
+    ensures own_most { climb.new.steps ≤ climb.old.steps + 8 }
     ensures least { steps.old + 4 ≤ steps.new }
     ensures steps { steps.new ≤ steps.old + 8 }
 {

@@ -1,5 +1,5 @@
 //! What no clause says: that each call of the running rule returns with memory at hand, on threads,
-//! that a try beside another session's loses, and what a climb tells of itself at worked numbers.
+//! that a try beside another session's loses, and what an ascent tells of itself at worked numbers.
 ghost use Rattle.std.specs.Prelude.{◌≡◌, [], ◌≤◌, ◌<◌, IfSome};
 ghost use Rattle.std.specs.Bool.{OnTrue, OnFalse};
 ghost use Rattle.fold_law.specs.declared.limits.TheConstants.{LEAF};
@@ -22,7 +22,7 @@ use std::test::*;
 use std::thread;
 use std::thread::Threads;
 
-// What a climb tells of itself, with the posts that its session has left in the second tree.
+// What an ascent tells of itself, with the posts that its session has left in the second tree.
 #[derive(Clone, Copy, Debug, PartialEq, Eq)]
 struct Told {
     number: u32,
@@ -47,7 +47,7 @@ fn tells(climb: &Climb<Sum>) -> Told
     }
 }
 
-// A post in the second tree, which begins a climb.
+// A post in the second tree, which begins an ascent.
 fn begin<L: Ledger>(
     words: &Words<Sum>,
     climb: &mut Climb<Sum>,

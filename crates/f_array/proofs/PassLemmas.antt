@@ -15,7 +15,7 @@ use Rattle.node_rule.specs.Views.{pick, called, started}
 use Rattle.node_rule.specs.Sums.{posts_in}
 use Rattle.node_rule.specs.Own.{IsSession, number_in, posts_by}
 use Rattle.node_rule.specs.Standing.{Standing, KeepsTable, IsIdle, HasPostLeft, HasPosted, HasRead, IsLatestRead}
-use Rattle.f_array.specs.Passes.{track_of, pass_of, with_call, with_installs, HasPostAdded, IsLatestIn}
+use Rattle.f_array.specs.Passes.{track_of, pass_of, with_installs, HasPostAdded, HasReadAdded, IsLatestIn}
 use Rattle.f_array.specs.Rising.{IsFreshAt, IsBegun, HasRisen}
 
 -- between two posts
@@ -64,10 +64,10 @@ pub posted_is_begun : (tree value : ℕ) (old new : Standing) → KeepsTable old
 posted_is_begun tree value old new kept posted =
     let leaf : ℕ = leaf_of old.plan.levels posted.0.number in
     let stamp : ℕ = suc (posts_in tree posted.0) in
-    let climb : Option Ascent = started old.plan.levels tree leaf stamp in (
+    let ascent : Option Ascent = started old.plan.levels tree leaf stamp in (
       called posted.0 (Post tree value),
-      climb,
-      posted.2 ∙ ap (λ (p : Plan). Session p.levels (called posted.0 (Post tree value)) climb)
+      ascent,
+      posted.2 ∙ ap (λ (p : Plan). Session p.levels (called posted.0 (Post tree value)) ascent)
           (sym kept.1),
       started_is_fresh (old.plan.levels == 0) tree leaf stamp,
     )
@@ -101,7 +101,7 @@ post_added tree value old mid new kept spare posted risen =
         plan = (risen.0.1 ∙ kept.1) i;
         track = track_is i;
         spare = (risen.0.2 ∙ spare) i;
-        made = new.made;
+        steps = new.steps;
       },
     )
 
@@ -116,9 +116,9 @@ read_is_idle tree stamp value old new kept read = (
 )
 
 pub read_added : (tree stamp value : ℕ) (old new : Standing) → KeepsTable old new
-    → new.spare ≡ old.spare - 1 → new.made ≡ suc old.made → HasRead tree stamp value old new
-    → pass_of new ≡ with_call (Read tree stamp value) (pass_of old)
-read_added tree stamp value old new kept spare made read =
+    → new.spare ≡ old.spare - 1 → HasRead tree stamp value old new
+    → HasReadAdded tree stamp value (pass_of old) (pass_of new)
+read_added tree stamp value old new kept spare read =
     let own : track_of old.view ≡ read.0 = ap track_of read.1 in
     let track_is : track_of new.view ≡ called (track_of old.view) (Read tree stamp value) =
     ap track_of read.2 ∙ ap (λ (t : Track). called t (Read tree stamp value)) (sym own) in
@@ -127,7 +127,7 @@ read_added tree stamp value old new kept spare made read =
       plan = kept.1 i;
       track = track_is i;
       spare = spare i;
-      made = made i;
+      steps = new.steps;
     }
 
 pub read_is_latest : (tree stamp : ℕ) (old : Standing) → IsLatestRead tree stamp old

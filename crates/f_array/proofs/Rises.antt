@@ -1,4 +1,4 @@
--- A climb from level to level.
+-- An ascent from level to level.
 use Rattle.std.proofs.Common.{◌≡◌, ◌≢◌, ℕ, suc, ◌/◌, ◌<◌, ◌≤◌, Bool, true, false, List, [], ◌∷◌, ◌++◌, Option, Some, None, refl, sym, ap, ◌∙◌, subst, ⊎_elim, arith}
 use Rattle.std.specs.Prelude.{IfSome, ◌==◌}
 use Rattle.std.proofs.lemmas.List.{append-nil, append_assoc, length-append}
@@ -8,7 +8,7 @@ use Rattle.node_rule.specs.declared.view.Track.{Track}
 use Rattle.node_rule.specs.declared.view.Install.{Install}
 use Rattle.node_rule.specs.declared.view.Ascent.{Ascent}
 use Rattle.node_rule.specs.declared.view.Plan.{Plan}
-use Rattle.node_rule.specs.Views.{climb_of, pick, moved, risen, installed}
+use Rattle.node_rule.specs.Views.{ascent_of, pick, moved, risen, installed}
 use Rattle.node_rule.specs.Own.{node_in, IsBelowRoot}
 use Rattle.node_rule.specs.Standing.{Standing, KeepsSeat, IsFresh}
 use Rattle.double_refresh.specs.Refreshing.{Rises}
@@ -25,22 +25,22 @@ up_at_first c h = record {
   was = h.2;
   more = [];
   few = omega arith;
-  climb = h.1;
+  ascent = h.1;
   now = h.2 ∙ ap (λ (l : List Install). Session c.plan.levels (record h.0 { trail = l }) h.1)
       (sym (append-nil h.0.trail));
   fresh = h.3;
 }
 
--- at a node other than the root there is a climb, with nothing loaded for its parent
+-- at a node other than the root there is an ascent, with nothing loaded for its parent
 pub up_is_fresh : (old mid : Standing) (height : ℕ) → IsUp old height mid
-    → node_in (climb_of mid.view) ≢ 1 → IsFresh mid
-up_is_fresh old mid height up inner = of_climb up.climb up.now up.fresh
+    → node_in (ascent_of mid.view) ≢ 1 → IsFresh mid
+up_is_fresh old mid height up inner = of_ascent up.ascent up.now up.fresh
   where
-    of_climb : (climb : Option Ascent)
-        → mid.view ≡ Session old.plan.levels (with_installs up.more up.track) climb
-        → IsFreshAt height climb → IsFresh mid
-    of_climb None now fresh = absurd (inner (ap (λ (v : View). node_in (climb_of v)) now))
-    of_climb (Some x) now fresh = (
+    of_ascent : (ascent : Option Ascent)
+        → mid.view ≡ Session old.plan.levels (with_installs up.more up.track) ascent
+        → IsFreshAt height ascent → IsFresh mid
+    of_ascent None now fresh = absurd (inner (ap (λ (v : View). node_in (ascent_of v)) now))
+    of_ascent (Some x) now fresh = (
       x,
       (
         with_installs up.more up.track,
@@ -49,16 +49,16 @@ up_is_fresh old mid height up inner = of_climb up.climb up.now up.fresh
       ),
     )
 
--- at the root the climb has risen
+-- at the root the ascent has risen
 pub up_has_risen : (old mid : Standing) (height : ℕ) → IsUp old height mid
-    → IfSome (climb_of mid.view) (IsBelowRoot mid.plan) → node_in (climb_of mid.view) ≡ 1
+    → IfSome (ascent_of mid.view) (IsBelowRoot mid.plan) → node_in (ascent_of mid.view) ≡ 1
     → HasRisen old mid
-up_has_risen old mid height up below root = of_climb up.climb up.now
+up_has_risen old mid height up below root = of_ascent up.ascent up.now
   where
-    of_climb : (climb : Option Ascent)
-        → mid.view ≡ Session old.plan.levels (with_installs up.more up.track) climb
+    of_ascent : (ascent : Option Ascent)
+        → mid.view ≡ Session old.plan.levels (with_installs up.more up.track) ascent
         → HasRisen old mid
-    of_climb None now = (
+    of_ascent None now = (
       up.kept,
       (
         up.track,
@@ -69,10 +69,10 @@ up_has_risen old mid height up below root = of_climb up.climb up.now
         now,
       ),
     )
-    of_climb (Some x) now =
+    of_ascent (Some x) now =
         let low : 2 ≤ x.node =
-        (subst (λ (v : View). IfSome (climb_of v) (IsBelowRoot mid.plan)) now below).0 in
-        let one : x.node ≡ 1 = sym (ap (λ (v : View). node_in (climb_of v)) now) ∙ root in
+        (subst (λ (v : View). IfSome (ascent_of v) (IsBelowRoot mid.plan)) now below).0 in
+        let one : x.node ≡ 1 = sym (ap (λ (v : View). node_in (ascent_of v)) now) ∙ root in
         absurd (omega arith)
 
 risen_is_fresh : (x : Ascent) (stamp height : ℕ) → suc x.height ≡ height
@@ -85,17 +85,17 @@ risen_is_fresh x stamp height up = at_top (x.node / 2 == 1)
 
 -- one level more
 pub up_next : (old mid new : Standing) (height : ℕ) → IsUp old height mid
-    → IfSome (climb_of mid.view) (IsBelowRoot mid.plan) → KeepsSeat mid new → Rises mid new
+    → IfSome (ascent_of mid.view) (IsBelowRoot mid.plan) → KeepsSeat mid new → Rises mid new
     → IsUp old (suc height) new
 up_next old mid new height up below kept rises =
-    let seen : Session old.plan.levels (with_installs up.more up.track) up.climb
+    let seen : Session old.plan.levels (with_installs up.more up.track) up.ascent
     ≡ Session mid.plan.levels rises.0 (Some rises.1) = sym up.now ∙ rises.4 in
     let track_is : rises.0 ≡ with_installs up.more up.track = cc (seen) in
-    let climb_is : up.climb ≡ Some rises.1 = cc (seen) in
+    let ascent_is : up.ascent ≡ Some rises.1 = cc (seen) in
     let at : rises.1.height ≡ height =
-    (subst (IsFreshAt height) climb_is up.fresh).1 in
+    (subst (IsFreshAt height) ascent_is up.fresh).1 in
     let under : rises.1.height < mid.plan.levels =
-    (subst (λ (v : View). IfSome (climb_of v) (IsBelowRoot mid.plan)) rises.4 below).1 in
+    (subst (λ (v : View). IfSome (ascent_of v) (IsBelowRoot mid.plan)) rises.4 below).1 in
     let plans : mid.plan ≡ old.plan = up.kept.1 in
     let levels : mid.plan.levels ≡ old.plan.levels = ap (λ (p : Plan). p.levels) plans in
     let reached : suc height ≤ old.plan.levels = omega arith in
@@ -112,7 +112,7 @@ up_next old mid new height up below kept rises =
       was = up.was;
       more = up.more;
       few = let few = up.few in omega arith;
-      climb = risen rises.1 rises.3;
+      ascent = risen rises.1 rises.3;
       now = rises.5
           ∙ (λ i. Session (levels i) ((same ∙ track_is) i) (risen rises.1 rises.3));
       fresh = fresh;
@@ -125,7 +125,7 @@ up_next old mid new height up below kept rises =
       was = up.was;
       more = up.more ++ won.0 ∷ [];
       few = let few = up.few in let longer = length-append up.more (won.0 ∷ []) in omega arith;
-      climb = risen rises.1 rises.3;
+      ascent = risen rises.1 rises.3;
       now = rises.5
           ∙ (λ i. Session (levels i) ((won.1 ∙ (ap (λ (t : Track). installed t won.0) track_is
           ∙ ap (λ (l : List Install). record up.track { trail = l })

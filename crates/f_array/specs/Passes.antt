@@ -3,7 +3,6 @@ use Rattle.std.specs.Prelude.{◌≡◌, ℕ, zero, suc, ◌-◌, ◌≤◌, Lis
 use mathlib.Core.Option.{some}
 use lib.ListN.{get_elem?}
 use Rattle.atomic_table.specs.Seated.{TableId}
-use Rattle.risk_board.specs.declared.hand.Call.{Call}
 use Rattle.risk_board.specs.declared.hand.Call.TheVariants.{Post, Read}
 use Rattle.node_rule.specs.declared.view.View.{View}
 use Rattle.node_rule.specs.declared.view.View.TheVariants.{Keeper, Session, Spent}
@@ -13,29 +12,29 @@ use Rattle.node_rule.specs.declared.view.Plan.{Plan}
 use Rattle.node_rule.specs.Views.{called, new_track}
 use Rattle.node_rule.specs.Standing.{Forested, Standing}
 
--- the table of the pass's forest and its plan, what the session did, for how many calls there is room,
--- and how many steps the session made on the table's words
+-- the table of the pass's forest and its plan, what the session did, for how many calls there is
+-- room, and how many steps it made on the table's words
 pub record PassValue : Type 0 where
   pub table : TableId
   pub plan : Plan
   pub track : Track
   pub spare : ℕ
-  pub made : ℕ
+  pub steps : ℕ
 
 -- what the session of a view did
 abbrev pub track_of : View → Track
 track_of (Keeper levels given joined) = new_track 0
-track_of (Session levels track climb) = track
+track_of (Session levels track ascent) = track
 track_of Spent = new_track 0
 
--- the pass with this climb
+-- the pass of this climb
 abbrev pub pass_of : Standing → PassValue
 pass_of c = record {
   table = c.table;
   plan = c.plan;
   track = track_of c.view;
   spare = c.spare;
-  made = c.made;
+  steps = c.steps;
 }
 
 -- the keeper has given so many numbers, and no session is back
@@ -62,7 +61,7 @@ new_pass forest number = record {
   plan = forest.plan;
   track = new_track number;
   spare = 0;
-  made = 0;
+  steps = 0;
 }
 
 -- the first passes, by number
@@ -74,26 +73,25 @@ new_passes forest (suc n) = new_passes forest n ++ new_pass forest n ∷ []
 abbrev pub KeepsPass : PassValue → PassValue → Type 0
 KeepsPass old new = new ≡ record old { spare = new.spare }
 
--- the pass with one call more, room for one fewer, and one step more
-abbrev pub with_call : Call → PassValue → PassValue
-with_call call pass = record pass {
-  track = called pass.track call;
-  spare = pass.spare - 1;
-  made = suc pass.made;
-}
-
 -- the track with more installs
 abbrev pub with_installs : List Install → Track → Track
 with_installs more track = record track { trail = track.trail ++ more }
 
--- the pass with one post more, which won at most one exchange a level, whatever steps it made
+-- the session has done this, by one call of those for which there was room; its steps are said
+-- apart
+abbrev pub HasDone : Track → PassValue → PassValue → Type 0
+HasDone track old new =
+    new ≡ record old { track = track; spare = old.spare - 1; steps = new.steps }
+
+-- one post more, which won at most one exchange a level
 abbrev pub HasPostAdded : ℕ → ℕ → PassValue → PassValue → Type 0
 HasPostAdded tree value old new =
     (more : List Install) × (length more ≤ old.plan.levels)
-    × (new ≡ record (with_call (Post tree value) old) {
-      track = with_installs more (called old.track (Post tree value));
-      made = new.made;
-    })
+    × HasDone (with_installs more (called old.track (Post tree value))) old new
+
+-- one read more
+abbrev pub HasReadAdded : ℕ → ℕ → ℕ → PassValue → PassValue → Type 0
+HasReadAdded tree stamp value old new = HasDone (called old.track (Read tree stamp value)) old new
 
 -- no earlier read of this root by the pass has a later stamp
 abbrev pub IsLatestIn : ℕ → ℕ → PassValue → Type 0

@@ -108,7 +108,7 @@ fn post_round(forest: &Forest<Sum>, pass: Pass<Sum>, round: u32) -> Pass<Sum>
     hand.give_back()
 }
 
-// A climb for each round.
+// An ascent for each round.
 fn climb_often(forest: &Forest<Sum>, mut pass: Pass<Sum>, rounds: u32) -> Pass<Sum>
     requires forest { IsPassOf forest.now pass }
     requires tree { 1 ≤ pass.plan.trees }

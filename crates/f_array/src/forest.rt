@@ -2,10 +2,9 @@
 ghost use Rattle.std.specs.Prelude.{◌≡◌, ℕ, suc, ◌+◌, ◌*◌, ◌-◌, ◌≤◌, ◌<◌, IfOk};
 ghost use Rattle.fold_law.specs.declared.limits.TheConstants.{SESSIONS, QUOTA};
 ghost use Rattle.stamp_word.specs.Places.{IsLeast};
-ghost use Rattle.risk_board.specs.declared.hand.Call.TheVariants.{Read};
 ghost use Rattle.node_rule.specs.Sums.{posts_in};
 ghost use Rattle.node_rule.specs.Standing.{plan_of, IsOf, IsIdle};
-ghost use Rattle.f_array.specs.Passes.{IsPassOf, new_passes, HasPostAdded, with_call, IsLatestIn};
+ghost use Rattle.f_array.specs.Passes.{IsPassOf, new_passes, HasPostAdded, HasReadAdded, IsLatestIn};
 ghost use Rattle.f_array.specs.Passes.{IsDealtUpTo};
 
 use crate::pass::{Keeper, Pass};
@@ -45,10 +44,10 @@ impl<F: Fold> Forest<F> {
         requires sessions { (1 ≤ sessions) × (sessions ≤ SESSIONS) }
         requires quota { (1 ≤ quota) × (quota ≤ QUOTA) }
         requires shape { IsLeast sessions shape.levels }
-        ensures plan { IfOk result (λ made.
-            made.0.plan ≡ plan_of shape.levels shape.trees sessions quota) }
-        ensures keeper { IfOk result (λ made. made.1 ≡ made.0) }
-        ensures passes { IfOk result (λ made. made.2.items ≡ new_passes made.0 sessions) }
+        ensures plan { IfOk result (λ new.
+            new.0.plan ≡ plan_of shape.levels shape.trees sessions quota) }
+        ensures keeper { IfOk result (λ new. new.1 ≡ new.0) }
+        ensures passes { IfOk result (λ new. new.2.items ≡ new_passes new.0 sessions) }
     {
         let Ok((words, mut keeper)) = Words::<F>::open(alloc, shape, sessions, quota) else {
             return Err(Memory);
@@ -59,8 +58,11 @@ impl<F: Fold> Forest<F> {
         Ok((Forest { words, alloc }, Keeper { climb: keeper }, passes))
     }
 
-    /// Sets the session's component of the tree: a store of its leaf, and a climb to the root. It
+    /// Sets the session's component of the tree: a store of its leaf, and an ascent to the root. It
     /// takes effect at the won exchange on the root that first covers it, its own or another's.
+    ///
+    /// The pass counts its own steps, whatever counter is handed in, so no body of this call waits
+    /// for another session: it could only do so by loading a word again and again.
     pub fn post<L: Ledger>(&self, pass: &mut Pass<F>, tree: u32, value: u64, steps: &mut Steps<L>)
         requires forest { IsPassOf self.now pass.old }
         requires tree { tree < pass.old.plan.trees }
@@ -68,8 +70,8 @@ impl<F: Fold> Forest<F> {
         requires spare { 1 ≤ pass.old.spare }
         requires capped { value ≤ F.CAP }
         ensures added { HasPostAdded tree value pass.old pass.new }
-        ensures made_least { pass.old.made + 1 ≤ pass.new.made }
-        ensures made_most { pass.new.made ≤ pass.old.made + (8 * pass.old.plan.levels + 1) }
+        ensures own_least { pass.old.steps + 1 ≤ pass.new.steps }
+        ensures own_most { pass.new.steps ≤ pass.old.steps + (8 * pass.old.plan.levels + 1) }
         ensures least { steps.old + 1 ≤ steps.new }
         ensures most { steps.new ≤ steps.old + (8 * pass.old.plan.levels + 1) }
     {
@@ -83,8 +85,9 @@ impl<F: Fold> Forest<F> {
         requires forest { IsPassOf self.now pass.old }
         requires tree { tree < pass.old.plan.trees }
         requires spare { 1 ≤ pass.old.spare }
-        ensures added { pass.new ≡ with_call (Read tree result.stamp result.value) pass.old }
+        ensures added { HasReadAdded tree result.stamp result.value pass.old pass.new }
         ensures latest { IsLatestIn tree result.stamp pass.old }
+        ensures own_step { pass.new.steps ≡ pass.old.steps + 1 }
         ensures one_step { steps.new ≡ steps.old + 1 }
     {
         self.words.read_root(&mut pass.climb, tree, steps)

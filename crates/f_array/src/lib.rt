@@ -3,7 +3,8 @@
 //! A *forest* has as many trees as its shape says, each an array with a component for each session
 //! whose root is the fold of the components. A *pass* is what one session posts and reads with; it
 //! keeps its own calls, and the installs that its posts won. A post stores the session's component
-//! and climbs to the root, one level at a time, in a bounded number of steps; a read is one step.
+//! and rises to the root, one level at a time, in a bounded number of steps; a read is one step.
+//! The pass counts its steps itself, so no call waits by loading a word again and again.
 //! Both go through shared references, on any number of threads, take no memory, refuse nothing and
 //! wait for nobody. The *keeper* closes the forest, once all passes are back, and the *record* says
 //! what each pass did.

@@ -7,8 +7,8 @@ use fold_law::{Fold, Memory};
 use node_rule::Climb;
 use std::marker::Model;
 
-/// A session's pass. Contracts see its forest's table and plan, what the session did, and for how
-/// many more calls there is room.
+/// A session's pass. Contracts see its forest's table and plan, what the session did, for how many
+/// more calls there is room, and how many steps the session made on the forest's words.
 #[derive(Drop)]
 pub struct Pass<F: Fold> {
     pub(crate) climb: Climb<F>,

@@ -2,9 +2,9 @@
 ghost use Rattle.std.specs.Prelude.{◌≡◌, ℕ, ◌+◌, ◌*◌, ◌≤◌, ◌<◌};
 ghost use Rattle.risk_board.specs.declared.hand.Call.TheVariants.{Post, Read};
 ghost use Rattle.risk_board.specs.Calls.{post_count};
-ghost use Rattle.risk_board.specs.Hands.{with_call as with_hand_call};
+ghost use Rattle.risk_board.specs.Hands.{with_call};
 ghost use Rattle.node_rule.specs.Sums.{posts_in};
-ghost use Rattle.f_array.specs.Passes.{IsPassOf, IsSamePass, HasPostAdded, with_call};
+ghost use Rattle.f_array.specs.Passes.{IsPassOf, IsSamePass, HasPostAdded, HasReadAdded};
 ghost use Rattle.f_array.specs.Handed.{hand_of, same_pass_itself, same_pass_next, same_pass_keeps};
 
 use crate::forest::Forest;
@@ -16,7 +16,7 @@ use std::marker::{Brand, Model};
 use std::sync::ledger::{Blank, Ledger};
 
 /// The hand over a forest: a pass, with a reference to its forest. Contracts see the forest's table
-/// and plan, and the pass. Each call makes a counter of its own; the pass counts its steps.
+/// and plan, and the pass, whose own count bounds the steps of each call.
 #[derive(Drop)]
 pub struct TreeHand<'a, F: Fold> {
     forest: &'a Forest<F>,
@@ -75,17 +75,18 @@ impl<'a, F: Fold> Hand for TreeHand<'a, F> {
         self.pass.reserve(calls)
     }
 
-    // In at most 8 steps a level, and one.
+    // In one step, and at most 8 for each level.
     fn post(&mut self, tree: u32, value: u64)
         requires tree { tree < self.old.pass.plan.trees }
         requires left { post_count tree self.old.pass.track.calls < self.old.pass.plan.quota }
         requires spare { 1 ≤ self.old.pass.spare }
         requires capped { value ≤ F.CAP }
         ensures added { hand_of F.CAP self.new.pass
-            ≡ with_hand_call (Post tree value) (hand_of F.CAP self.old.pass) }
+            ≡ with_call (Post tree value) (hand_of F.CAP self.old.pass) }
         ensures origin { IsSamePass self.old.pass self.new.pass }
-        ensures made_most { self.new.pass.made
-            ≤ self.old.pass.made + (8 * self.old.pass.plan.levels + 1) }
+        ensures own_least { self.old.pass.steps + 1 ≤ self.new.pass.steps }
+        ensures own_most { self.new.pass.steps
+            ≤ self.old.pass.steps + (8 * self.old.pass.plan.levels + 1) }
     {
         post_counted::<F, Brand>(self.forest, &mut self.pass, tree, value, Blank::new(1));
     }
@@ -95,9 +96,9 @@ impl<'a, F: Fold> Hand for TreeHand<'a, F> {
         requires tree { tree < self.old.pass.plan.trees }
         requires spare { 1 ≤ self.old.pass.spare }
         ensures added { let call = Read tree result.stamp result.value in
-            hand_of F.CAP self.new.pass ≡ with_hand_call call (hand_of F.CAP self.old.pass) }
+            hand_of F.CAP self.new.pass ≡ with_call call (hand_of F.CAP self.old.pass) }
         ensures origin { IsSamePass self.old.pass self.new.pass }
-        ensures one_step { self.new.pass.made ≡ self.old.pass.made + 1 }
+        ensures own_step { self.new.pass.steps ≡ self.old.pass.steps + 1 }
     {
         read_counted::<F, Brand>(self.forest, &mut self.pass, tree, Blank::new(1))
     }
@@ -124,7 +125,8 @@ fn post_counted<F: Fold, L: Ledger>(
     requires capped { value ≤ F.CAP }
     requires blank { (blank.name ≡ L.name) × (blank.parts ≡ L.parts) × (0 < L.parts) }
     ensures added { HasPostAdded tree value pass.old pass.new }
-    ensures made_most { pass.new.made ≤ pass.old.made + (8 * pass.old.plan.levels + 1) }
+    ensures own_least { pass.old.steps + 1 ≤ pass.new.steps }
+    ensures own_most { pass.new.steps ≤ pass.old.steps + (8 * pass.old.plan.levels + 1) }
 {
     let mut steps = count_steps::<L>(blank);
     forest.post(pass, tree, value, &mut steps);
@@ -141,7 +143,8 @@ fn read_counted<F: Fold, L: Ledger>(
     requires tree { tree < pass.old.plan.trees }
     requires spare { 1 ≤ pass.old.spare }
     requires blank { (blank.name ≡ L.name) × (blank.parts ≡ L.parts) × (0 < L.parts) }
-    ensures { pass.new ≡ with_call (Read tree result.stamp result.value) pass.old }
+    ensures added { HasReadAdded tree result.stamp result.value pass.old pass.new }
+    ensures own_step { pass.new.steps ≡ pass.old.steps + 1 }
 {
     let mut steps = count_steps::<L>(blank);
     forest.read(pass, tree, &mut steps)

@@ -1,14 +1,9 @@
 -- What stands when the sessions of a run have ended.
-use Rattle.std.specs.Prelude.{◌≡◌, ℕ, ◌^◌, ◌<◌, ◌≤◌, List, length, All, Bool, true, false}
-use Rattle.std.specs.Prelude.{slice_get, Some}
-use Rattle.std.specs.List.{AllByRecursion}
-use Rattle.fold_law.specs.declared.limits.TheConstants.{LEAF}
+use Rattle.std.specs.Prelude.{◌≡◌, ℕ, List, Bool, true, false}
 use Rattle.limit_table.specs.declared.limits.Limits.{Limits}
 use Rattle.risk_board.specs.declared.hand.Line.{Line}
-use Rattle.risk_board.specs.History.{array_after, components_of}
 use Rattle.risk_journal.specs.declared.acts.Act.{Act}
 use Rattle.risk_journal.specs.declared.acts.End.{End}
-use Rattle.gate_program.specs.declared.boards.Boards.{Boards}
 use Rattle.risk_journal.specs.JournalText.{journal_text}
 use Rattle.screen_kit.specs.Screens.{ScreenValue}
 use Rattle.gate_program.specs.Words.{RunWords}
@@ -16,20 +11,8 @@ use Rattle.gate_program.specs.Run.{PortsValue, Holds, WriteRose, standing_of}
 use Rattle.gate_program.specs.Gate.{HasJournal}
 use Rattle.gate_program.specs.Totals.{totals_of}
 use Rattle.gate_program.specs.Stages.{ChangesOnly}
-use Rattle.gate_program.specs.Boards.{HasLines, HasPlayed}
+use Rattle.gate_program.specs.Histories.{AreLegalLines}
 use Rattle.gate_program.specs.Objects.{ObjectsValue, HaveDone, AreWritten, EachHasCauses}
-
--- the lines of a tree have a total: each is of one of so many sessions, a `u32` counts them, and
--- the array behind them has leaf values alone
-pub record HasTotal (many : ℕ) (own : List Line) : Type 0 where
-  pub sessions : AllByRecursion (λ line. line.session < many) own
-  pub few : length own < 2 ^ 32
-  pub leaves : All (λ value. value ≤ LEAF) (array_after 0 (components_of many) own)
-
--- so have those of each tree
-abbrev pub HaveTotals : ℕ → List (List Line) → Type 0
-HaveTotals sessions lines =
-    (tree : ℕ) (own : List Line) → slice_get lines tree ≡ Some own → HasTotal sessions own
 
 -- the status that stands is by the ends and by whether the journal was refused, and has its text
 pub record HasAnswer (limits : Limits) (acts : List (List Act)) (ends : List End)
@@ -53,26 +36,23 @@ pub record HasStood (limits : Limits) (name : List ℕ) (before after : PortsVal
 
 -- The objects were given back and closed before.
 pub record HasFinished (limits : Limits) (run : RunWords) (before after : PortsValue)
-    (boards : Boards)
-    (acts : List (List Act)) (ends : List End) (objects : List ObjectsValue) (text : List ℕ)
-    (status : ℕ) : Type 0 where
-  pub lines : List (List Line)
+    (acts : List (List Act)) (lines : List (List Line)) (ends : List End)
+    (objects : List ObjectsValue) (text : List ℕ) (status : ℕ) : Type 0 where
   pub refused : Bool
-  pub has_lines : HasLines boards lines
   pub journal : HasJournal before after run acts lines refused
   pub written : AreWritten run before.texts after.texts objects
   pub causes : EachHasCauses run before after objects
   pub answer : HasAnswer limits acts ends lines refused text status
 
--- The sessions that were opened ran with their screens on boards of their own, were closed, and
--- stand in the journal.
+-- The sessions that were opened ran with their screens over forests of their own, were closed, and
+-- stand in the journal, with the lines of each tree.
 pub record HasEnded (limits : Limits) (sets : List (List ScreenValue)) (run : RunWords)
     (before after : PortsValue) (objects : List ObjectsValue) (text : List ℕ) (status : ℕ)
     : Type 0 where
-  pub boards : Boards
   pub acts : List (List Act)
+  pub lines : List (List Line)
   pub ends : List End
   pub objects_after : List ObjectsValue
   pub done : HaveDone limits sets objects objects_after acts ends
-  pub played : HasPlayed limits boards acts
-  pub finished : HasFinished limits run before after boards acts ends objects_after text status
+  pub legal : AreLegalLines limits acts lines
+  pub finished : HasFinished limits run before after acts lines ends objects_after text status

@@ -6,7 +6,8 @@ pub mod CommandOf
 pub mod Names
 pub mod Limits
 pub mod Statuses
-pub mod Boards
+pub mod Forests
+pub mod Histories
 pub mod Stages
 pub mod Objects
 pub mod Finish

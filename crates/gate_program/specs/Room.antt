@@ -1,15 +1,30 @@
--- Room for what sessions did.
+-- Room for the tasks of sessions, and for what they leave.
 use Rattle.std.specs.Prelude.{◌≡◌, ℕ, ◌+◌, ◌≤◌, [], vec_len, vec_capacity}
-use Rattle.gate_program.specs.declared.play.Ended.{Ended}
+use Rattle.gate_program.specs.declared.ended.Ended.{Ended}
+use Rattle.gate_program.specs.declared.ended.Room.{Room}
 
 -- no session has ended yet
-pub record IsEmpty {S K : Type 0} (room : Ended S K) : Type 0 where
-  pub acts : room.acts.items ≡ []
-  pub ends : room.ends.items ≡ []
-  pub opened : room.opened.items ≡ []
+pub record HasNone {S K : Type 0} (ended : Ended S K) : Type 0 where
+  pub sums : ended.passes.sums.items ≡ []
+  pub halts : ended.passes.halts.items ≡ []
+  pub acts : ended.acts.items ≡ []
+  pub ends : ended.ends.items ≡ []
+  pub opened : ended.opened.items ≡ []
 
 -- there is room for so many sessions more
-pub record HasRoom {S K : Type 0} (count : ℕ) (room : Ended S K) : Type 0 where
-  pub acts : vec_len room.acts + count ≤ vec_capacity room.acts
-  pub ends : vec_len room.ends + count ≤ vec_capacity room.ends
-  pub opened : vec_len room.opened + count ≤ vec_capacity room.opened
+pub record HasSpare {S K : Type 0} (count : ℕ) (ended : Ended S K) : Type 0 where
+  pub sums : vec_len ended.passes.sums + count ≤ vec_capacity ended.passes.sums
+  pub halts : vec_len ended.passes.halts + count ≤ vec_capacity ended.passes.halts
+  pub acts : vec_len ended.acts + count ≤ vec_capacity ended.acts
+  pub ends : vec_len ended.ends + count ≤ vec_capacity ended.ends
+  pub opened : vec_len ended.opened + count ≤ vec_capacity ended.opened
+
+-- there is no task yet, and none has ended
+pub record IsEmpty {S K : Type 0} (room : Room S K) : Type 0 where
+  pub tasks : room.tasks.items ≡ []
+  pub ended : HasNone room.ended
+
+-- there is room for the tasks of so many sessions, and for what they leave
+pub record HasRoom {S K : Type 0} (count : ℕ) (room : Room S K) : Type 0 where
+  pub tasks : vec_len room.tasks + count ≤ vec_capacity room.tasks
+  pub ended : HasSpare count room.ended

@@ -1,6 +1,8 @@
 -- The totals of a run, from its sessions' acts and ends and the lines of its trees.
-use Rattle.std.specs.Prelude.{ℕ, ◌+◌, ◌==◌, List, [], ◌∷◌, ◌++◌, length, codes, count_by}
-use Rattle.std.specs.Prelude.{nat_lt}
+use Rattle.std.specs.Prelude.{◌≡◌, ℕ, ◌+◌, ◌^◌, ◌<◌, ◌≤◌, ◌==◌, List, [], ◌∷◌, ◌++◌, length, codes}
+use Rattle.std.specs.Prelude.{nat_lt, count_by, All, slice_get}
+use Rattle.std.specs.List.{AllByRecursion}
+use Rattle.fold_law.specs.declared.limits.TheConstants.{LEAF}
 use Rattle.std.specs.Prelude.{Bool, true, false, Option, Some, None, slice_index_or, if◌then◌else◌}
 use Rattle.limit_table.specs.Places.{account_names, symbol_names}
 use Rattle.limit_table.specs.declared.limits.Limits.{Limits}
@@ -83,3 +85,15 @@ tree_totals_from limits sessions tree (own ∷ lines) =
 abbrev pub totals_of : Limits → List (List Act) → List End → List (List Line) → ℕ → List ℕ
 totals_of limits acts ends lines status =
     totals_text (session_totals ends acts) (tree_totals_from limits (length acts) 0 lines) status
+
+-- the lines of a tree have a total: each is of one of so many sessions, a `u32` counts them, and
+-- the array behind them has leaf values alone
+pub record HasTotal (many : ℕ) (own : List Line) : Type 0 where
+  pub sessions : AllByRecursion (λ line. line.session < many) own
+  pub few : length own < 2 ^ 32
+  pub leaves : All (λ value. value ≤ LEAF) (array_after 0 (components_of many) own)
+
+-- so have those of each tree
+abbrev pub HaveTotals : ℕ → List (List Line) → Type 0
+HaveTotals sessions lines =
+    (tree : ℕ) (own : List Line) → slice_get lines tree ≡ Some own → HasTotal sessions own

@@ -11,27 +11,31 @@ ghost use Rattle.gate_program.specs.Stages.{folder_of, folder_with};
 ghost use Rattle.gate_program.specs.Statuses.{answer_number, answer_text};
 ghost use Rattle.gate_program.specs.Words.{is_run, journal_name, session_most};
 
-use crate::boards::open_boards;
 use crate::close::close_sessions;
-use crate::finish::finish;
+use crate::ended::{Ended, Room, room_for, taken_apart};
+use crate::finish::{Finished, finish};
+use crate::forests::{Forests, Opening, Passes, close_forests, open_forests};
 use crate::names::{Names, names_in};
 use crate::open::{Opened, open_sessions, read_limits};
-use crate::play::{Ended, play_all, room_for};
+use crate::replay::journal_of;
 use crate::status::{Answer, Status};
+use crate::tasks::{opened_of, run_tasks, tasks_of};
 use crate::tell::{tell, tell_answer};
 use crate::words::{Run, command_from};
 use fold_law::Memory;
-use gate_ports::{Folder, Sink};
+use gate_ports::{Folder, Gate, Sink};
 use limit_table::Limits;
+use risk_journal::{Act, Journal};
 use screen_kit::Screen;
 use session_engine::{a_history_admits_what_sessions_do, admitted_stays_within};
 use std::alloc::Global;
+use std::thread::Threads;
 
 /// What a run has by it before its sessions are opened: names, and room for what they do.
 #[derive(Drop)]
 struct Ready<S, K> {
     names: Names,
-    room: Ended<S, K>,
+    room: Room<S, K>,
 }
 
 /// Takes the memory for so many sessions.
@@ -52,9 +56,22 @@ fn ready_for<S: Drop, K: Drop>(
     Ok(Ready { names, room })
 }
 
-/// Runs sessions that were opened, with their screens over boards of their own, closes them and
-/// writes the journal.
-fn run_opened<D: Folder>(
+/// The journal of sessions that have ended over these forests.
+fn journal_after<R: Threads + Sync>(
+    rt: &R,
+    alloc: Global,
+    forests: Forests,
+    passes: Passes,
+    acts: Vec<Vec<Act>>,
+) -> Result<Journal, Memory> {
+    let records = close_forests(forests, passes)?;
+    journal_of(rt, alloc, &records, acts)
+}
+
+/// Runs sessions that were opened as tasks over forests of their own, with their screens, closes them
+/// and writes the journal.
+fn run_opened<R: Threads + Sync, D: Folder, G: Gate>(
+    rt: &R,
     alloc: Global,
     run: &Run,
     limits: &Limits,
@@ -62,47 +79,59 @@ fn run_opened<D: Folder>(
     screens: Vec<Vec<Box<dyn Screen + Send>>>,
     opened: Vec<Opened<D::In, D::Out>>,
     folder: &mut D,
-) -> Answer
-    requires held { IsHeldByFile limits.now }
-    requires run { IsTrue (is_run (run_value run.now)) }
-    requires names { AreNames run.now.out.now (length run.now.sessions.now)
-        ready.names.sessions.items }
-    requires journal { string_bytes ready.names.journal ≡ journal_name run.now.out.now }
-    requires empty { IsEmpty ready.room }
-    requires room { HasRoom (length run.now.sessions.now) ready.room }
-    requires sets { length screens.items ≡ session_most }
-    requires many { length opened.items ≡ length run.now.sessions.now }
-    requires own { EachOwn (run_value run.now) (D.texts folder.old)
-        (map (objects_of D.In.left D.In.name D.In.faults D.Out.held D.Out.name D.Out.faults)
-        opened.items) }
-    ensures { (answer_number result ≡ 8) ⊎ HasEnded limits.now
-        (map (λ set. map (λ b. (Screen-box b).meaning b.value) set.items) screens.items)
-        (run_value run.now)
-        (folder_of D.texts D.read_faults D.write_faults folder.old)
-        (folder_of D.texts D.read_faults D.write_faults folder.new)
-        (map (objects_of D.In.left D.In.name D.In.faults D.Out.held D.Out.name D.Out.faults)
-        opened.items) (answer_text result) (answer_number result) }
-{
+    gate: &G,
+) -> Answer {
     let Ready { names, room } = ready;
-    match open_boards(alloc, limits, run.sessions.len() as u32) {
-        Ok(boards) => {
-            let finished = play_all(alloc, limits, boards, screens, opened, room);
-            finish(alloc, run, limits, &names, finished, folder)
+    let Ok(opening) = open_forests(alloc, limits, run.sessions.len() as u32) else {
+        close_sessions(run, &names.sessions, opened, folder);
+        return Answer::Stopped(Status::Memory);
+    };
+    let Opening { forests, passes } = opening;
+    let Room { tasks, ended } = room;
+    let tasks = tasks_of(passes, screens, opened, tasks);
+    match run_tasks::<R, D, G>(rt, alloc, limits, gate, &forests, tasks) {
+        Ok(done) => {
+            let Ended {
+                passes,
+                acts,
+                ends,
+                opened,
+            } = taken_apart(done, ended);
+            match journal_after(rt, alloc, forests, passes, acts) {
+                Ok(journal) => finish(
+                    alloc,
+                    run,
+                    limits,
+                    &names,
+                    Finished {
+                        journal,
+                        ends,
+                        opened,
+                    },
+                    folder,
+                ),
+                Err(Memory) => {
+                    close_sessions(run, &names.sessions, opened, folder);
+                    Answer::Stopped(Status::Memory)
+                }
+            }
         }
-        Err(Memory) => {
-            close_sessions(run, &names.sessions, opened, folder);
+        Err(tasks) => {
+            close_sessions(run, &names.sessions, opened_of(tasks, ended.opened), folder);
             Answer::Stopped(Status::Memory)
         }
     }
 }
 
 /// Runs the sessions of a run whose limits were read.
-fn run_limited<D: Folder>(
+fn run_limited<R: Threads + Sync, D: Folder, G: Gate>(
+    rt: &R,
     alloc: Global,
     run: &Run,
     limits: &Limits,
     screens: Vec<Vec<Box<dyn Screen + Send>>>,
     folder: &mut D,
+    gate: &G,
 ) -> Answer
     requires run { IsTrue (is_run (run_value run.now)) }
     requires limits { HasLimits (D.texts folder.old) run.now.limits.now limits.now }
@@ -121,17 +150,19 @@ fn run_limited<D: Folder>(
         Err(Memory) => return Answer::Stopped(Status::Memory),
     };
     match open_sessions(alloc, run, &ready.names.sessions, folder) {
-        Ok(opened) => run_opened(alloc, run, limits, ready, screens, opened, folder),
+        Ok(opened) => run_opened(rt, alloc, run, limits, ready, screens, opened, folder, gate),
         Err(status) => Answer::Stopped(status),
     }
 }
 
 /// Does a run, but for what it tells.
-fn run_words<D: Folder>(
+fn run_words<R: Threads + Sync, D: Folder, G: Gate>(
+    rt: &R,
     alloc: Global,
     run: &Run,
     screens: Vec<Vec<Box<dyn Screen + Send>>>,
     folder: &mut D,
+    gate: &G,
 ) -> Answer
     requires run { IsTrue (is_run (run_value run.now)) }
     requires sets { length screens.items ≡ session_most }
@@ -142,18 +173,20 @@ fn run_words<D: Folder>(
         (answer_number result) }
 {
     match read_limits(alloc, run.limits, folder) {
-        Ok(limits) => run_limited(alloc, run, &limits, screens, folder),
+        Ok(limits) => run_limited(rt, alloc, run, &limits, screens, folder, gate),
         Err(status) => Answer::Stopped(status),
     }
 }
 
 /// Does a run, and tells what it comes to.
-fn run_and_tell<D: Folder, O: Sink>(
+fn run_and_tell<R: Threads + Sync, D: Folder, O: Sink, G: Gate>(
+    rt: &R,
     alloc: Global,
     run: &Run,
     folder: &mut D,
     out: &mut O,
     screens: Vec<Vec<Box<dyn Screen + Send>>>,
+    gate: &G,
 ) -> u8
     requires run { IsTrue (is_run (run_value run.now)) }
     requires sets { length screens.items ≡ session_most }
@@ -162,7 +195,7 @@ fn run_and_tell<D: Folder, O: Sink>(
         (ports_of D.texts D.read_faults D.write_faults O.held O.faults folder.old out.old)
         (ports_of D.texts D.read_faults D.write_faults O.held O.faults folder.new out.new) result }
 {
-    let answer = run_words(alloc, run, screens, folder);
+    let answer = run_words(rt, alloc, run, screens, folder, gate);
     if answer.number() == Status::Memory.number() {
         return Status::Memory.number();
     }
@@ -177,12 +210,14 @@ fn run_and_tell<D: Folder, O: Sink>(
 /// file is refused, 4 after a session that ends within a frame or with none, 5 and 6 after a fault
 /// of reading or of writing, 8 for want of memory, and 9 where a row of the limit file isn't served
 /// yet.
-pub fn gate<D: Folder, O: Sink>(
+pub fn gate<R: Threads + Sync, D: Folder, O: Sink, G: Gate>(
+    rt: &R,
     alloc: Global,
     words: &[String],
     folder: &mut D,
     out: &mut O,
     screens: Vec<Vec<Box<dyn Screen + Send>>>,
+    gate: &G,
 ) -> u8
     requires sets { length screens.items ≡ session_most }
     ensures run { GateRun (map string_bytes words.now)
@@ -191,7 +226,7 @@ pub fn gate<D: Folder, O: Sink>(
         (ports_of D.texts D.read_faults D.write_faults O.held O.faults folder.new out.new) result }
 {
     match command_from(words) {
-        Some(run) => run_and_tell(alloc, &run, folder, out, screens),
+        Some(run) => run_and_tell(rt, alloc, &run, folder, out, screens, gate),
         None => tell(alloc, out, Status::Usage),
     }
 }

@@ -2,9 +2,9 @@
 ghost use Rattle.std.specs.Prelude.{◌≡◌, ◌^◌, ◌<◌, ◌≤◌, ◌⊎◌, length, map, All, string_bytes};
 ghost use Rattle.std.specs.Prelude.{OnOk, IsErrOf};
 ghost use Rattle.limit_table.specs.Files.{IsHeldByFile};
-ghost use Rattle.gate_program.specs.Boards.{HasTrees, HasPlayed};
 ghost use Rattle.gate_program.specs.CommandOf.{run_value};
-ghost use Rattle.gate_program.specs.Finish.{HasAnswer, HasStood, HasFinished, HaveTotals};
+ghost use Rattle.gate_program.specs.Finish.{HasAnswer, HasStood, HasFinished};
+ghost use Rattle.gate_program.specs.Totals.{HaveTotals};
 ghost use Rattle.gate_program.specs.Names.{AreNames};
 ghost use Rattle.gate_program.specs.Objects.{objects_of, EachOwn};
 ghost use Rattle.gate_program.specs.Run.{Holds, WriteRose};
@@ -12,10 +12,9 @@ ghost use Rattle.gate_program.specs.Stages.{folder_of, Went, ChangesOnly};
 ghost use Rattle.gate_program.specs.Statuses.{answer_number, answer_text};
 ghost use Rattle.gate_program.specs.Words.{journal_name, session_most};
 
-use crate::boards::lines_of;
 use crate::close::close_sessions;
 use crate::names::Names;
-use crate::play::{Ended, Finished};
+use crate::open::Opened;
 use crate::status::{Answer, Status, standing};
 use crate::totals::totals_text;
 use crate::words::Run;
@@ -109,6 +108,14 @@ fn keep_journal<D: Folder>(
     }
 }
 
+/// Sessions that have ended: their journal, how each ended, and their objects.
+#[derive(Drop)]
+pub(crate) struct Finished<S, K> {
+    pub journal: Journal,
+    pub ends: Vec<End>,
+    pub opened: Vec<Opened<S, K>>,
+}
+
 /// Closes sessions that have ended, and writes the journal.
 pub(crate) fn finish<D: Folder>(
     alloc: Global,
@@ -123,32 +130,30 @@ pub(crate) fn finish<D: Folder>(
     requires names { AreNames run.now.out.now (length run.now.sessions.now)
         names.now.sessions.items }
     requires journal { string_bytes names.now.journal ≡ journal_name run.now.out.now }
-    requires trees { HasTrees finished.boards }
-    requires played { HasPlayed limits.now finished.boards
-        (map (λ own. own.items) finished.ended.acts.items) }
-    requires acts { All (λ own. length own.items < 2 ^ 32) finished.ended.acts.items }
-    requires act_count { length finished.ended.acts.items ≡ length run.now.sessions.now }
-    requires end_count { length finished.ended.ends.items ≡ length run.now.sessions.now }
-    requires object_count { length finished.ended.opened.items ≡ length run.now.sessions.now }
+    requires acts { All (λ own. length own.items < 2 ^ 32) finished.journal.acts.items }
+    requires lines { HaveTotals (length finished.journal.acts.items)
+        (map (λ own. own.items) finished.journal.lines.items) }
+    requires act_count { length finished.journal.acts.items ≡ length run.now.sessions.now }
+    requires end_count { length finished.ends.items ≡ length run.now.sessions.now }
+    requires object_count { length finished.opened.items ≡ length run.now.sessions.now }
     requires own { EachOwn (run_value run.now) (D.texts folder.old)
         (map (objects_of D.In.left D.In.name D.In.faults D.Out.held D.Out.name D.Out.faults)
-        finished.ended.opened.items) }
+        finished.opened.items) }
     ensures { (answer_number result ≡ 8) ⊎ HasFinished limits.now (run_value run.now)
         (folder_of D.texts D.read_faults D.write_faults folder.old)
         (folder_of D.texts D.read_faults D.write_faults folder.new)
-        finished.boards (map (λ own. own.items) finished.ended.acts.items)
-        finished.ended.ends.items
+        (map (λ own. own.items) finished.journal.acts.items)
+        (map (λ own. own.items) finished.journal.lines.items)
+        finished.ends.items
         (map (objects_of D.In.left D.In.name D.In.faults D.Out.held D.Out.name D.Out.faults)
-        finished.ended.opened.items) (answer_text result) (answer_number result) }
+        finished.opened.items) (answer_text result) (answer_number result) }
 {
-    let Finished { ended, boards } = finished;
-    let Ended { acts, ends, opened } = ended;
+    let Finished {
+        journal,
+        ends,
+        opened,
+    } = finished;
     close_sessions(run, &names.sessions, opened, folder);
-    let lines = match lines_of(alloc, &boards) {
-        Ok(lines) => lines,
-        Err(Memory) => return Answer::Stopped(Status::Memory),
-    };
-    let journal = Journal { acts, lines };
     keep_journal(
         alloc,
         limits,

@@ -2,37 +2,49 @@
 //! totals.
 #![tactic(auto)]
 
-mod boards;
 mod close;
 mod command;
 mod completeness;
+mod ended;
 mod finish;
+mod forests;
 #[cfg(test)]
 mod leaf_tests;
 mod limits;
 mod names;
 mod open;
-mod play;
 #[cfg(test)]
-mod run_tests;
+mod order_rows;
+mod replay;
+#[cfg(test)]
+mod request_rows;
+#[cfg(test)]
+mod row_tests;
+#[cfg(test)]
+mod rows;
 #[cfg(test)]
 mod screen_tests;
 mod sets;
 mod status;
+#[cfg(test)]
+mod task_tests;
+mod tasks;
 mod tell;
+#[cfg(test)]
+mod test_gates;
 #[cfg(test)]
 mod test_screens;
 #[cfg(test)]
 mod tests;
 mod totals;
 #[cfg(test)]
-mod turn_tests;
+mod turn_rows;
 mod words;
 
 pub use command::gate;
 pub use completeness::whole_inputs_are_done;
 use fold_law::Memory;
-use gate_ports::{RealFolder, RealOut};
+use gate_ports::{OpenGate, RealFolder, RealOut};
 use sets::gate_with_screens;
 use status::Status;
 use std::alloc::Global;
@@ -59,7 +71,7 @@ fn main(rt: HostRuntime) -> ExitCode {
     };
     let mut folder = RealFolder::new(&rt);
     let mut out = RealOut::new(&rt);
-    match gate_with_screens(rt.alloc(), &words, &mut folder, &mut out) {
+    match gate_with_screens(&rt, rt.alloc(), &words, &mut folder, &mut out, &OpenGate) {
         Ok(status) => ExitCode::from(status),
         Err(_) => ExitCode::from(Status::Memory.number()),
     }

@@ -1,121 +1,88 @@
-//! Runs that stop before a session, and one whose standard output fails: statuses and what is told. No
-//! clause says that memory isn't wanting, nor what a table's row gives.
-ghost use Rattle.std.specs.Prelude.{◌≡◌, length, IfOk};
-ghost use Rattle.gate_program.specs.Words.{session_most};
-
+//! Runs that stop before a session, and one whose standard output fails: statuses and what is told.
+//! No clause says that memory isn't wanting, nor what a table's row gives.
 use crate::command::gate;
-use fold_law::SESSIONS;
-use gate_ports::{Folder, MemFolder, MemSink};
-use screen_kit::Screen;
-use std::alloc::{AllocError, Global};
+use crate::rows::{Piece, Row, SMALL, Session, compare, no_screens, stage_of, words_of};
+use gate_ports::{Folder, MemFolder, MemSink, OpenGate};
 use std::test::*;
 
 const WORDS: [&str; 4] = ["run", "limits", "out", "session"];
 
-const LIMITS: &[u8] = b"firm,,1000,,,\naccount,ACC,100000,,,\nsymbol,XYZ,100000,1,12,100000\n";
-
-const ORDER: &[u8] =
-    b"8=FIX.4.4\x019=113\x0135=D\x0149=C1\x0156=GATE\x0134=1\x0152=20240102-10:00:00\x0111=a1\x011=ACC\x0155=XYZ\x0154=1\x0138=100\x0140=2\x0144=10.0000\x0160=20240102-10:00:00\x0110=175\x01";
-
-const FORWARD: &[u8] =
-    b"8=FIX.4.4\x019=116\x0135=D\x0149=GATE\x0156=VENUE\x0134=1\x0152=20240102-10:00:00\x0111=a1\x011=ACC\x0155=XYZ\x0154=1\x0138=100\x0140=2\x0144=10.0000\x0160=20240102-10:00:00\x0110=193\x01";
-
-/// The words of a command line.
-pub(crate) fn words_of(alloc: Global, words: &[&str]) -> Result<Vec<String>, AllocError> {
-    let mut all = Vec::new(alloc);
-    for word in words {
-        all.push(String::from_str(alloc, word)?)?;
-    }
-    Ok(all)
-}
-
-/// A set of no screens for each session that a run may have.
-pub(crate) fn no_screens(alloc: Global) -> Result<Vec<Vec<Box<dyn Screen + Send>>>, AllocError>
-    ensures { IfOk result (λ sets. length sets.items ≡ session_most) }
-{
-    let mut sets: Vec<Vec<Box<dyn Screen + Send>>> = Vec::new(alloc);
-    for _ in 0..SESSIONS {
-        sets.push(Vec::new(alloc))?;
-    }
-    Ok(sets)
-}
-
 /// Words, the limit file's text, the status and what is told. No session is there.
 const STOPS: [(&str, &[&str], &[u8], u8, &[u8]); 14] = [
-    ("no words", &[], LIMITS, 2, USAGE),
-    ("too few words", &["run", "limits", "out"], LIMITS, 2, USAGE),
+    ("no words", &[], SMALL, 2, USAGE),
+    ("too few words", &["run", "limits", "out"], SMALL, 2, USAGE),
     (
         "two equal sessions",
         &["run", "limits", "out", "a", "b", "a"],
-        LIMITS,
+        SMALL,
         2,
         USAGE,
     ),
     (
         "another command",
         &["make", "limits", "out", "session"],
-        LIMITS,
+        SMALL,
         2,
         USAGE,
     ),
     (
         "an empty word",
         &["run", "limits", "", "session"],
-        LIMITS,
+        SMALL,
         2,
         USAGE,
     ),
     (
         "a word with a dash",
         &["run", "limits", "out", "-session"],
-        LIMITS,
+        SMALL,
         2,
         USAGE,
     ),
-    ("an option", &["--help"], LIMITS, 2, USAGE),
+    ("an option", &["--help"], SMALL, 2, USAGE),
     (
         "limits that are the journal",
         &["run", "out/journal.csv", "out", "session"],
-        LIMITS,
+        SMALL,
         2,
         USAGE,
     ),
     (
         "a session that is an output",
         &["run", "limits", "out", "out/s00.client"],
-        LIMITS,
+        SMALL,
         2,
         USAGE,
     ),
     (
         "a session that is another's output",
         &["run", "limits", "out", "out/s01.venue", "session"],
-        LIMITS,
+        SMALL,
         2,
         USAGE,
     ),
     (
         "limits that are the last output",
         &["run", "out/s02.client", "out", "a", "b", "c"],
-        LIMITS,
+        SMALL,
         2,
         USAGE,
     ),
     (
         "an output of no session",
         &["run", "limits", "out", "out/s01.venue"],
-        LIMITS,
+        SMALL,
         5,
         b"read fault\n",
     ),
     (
         "no limit file",
         &["run", "other", "out", "session"],
-        LIMITS,
+        SMALL,
         5,
         b"read fault\n",
     ),
-    ("no session", &WORDS, LIMITS, 5, b"read fault\n"),
+    ("no session", &WORDS, SMALL, 5, b"read fault\n"),
 ];
 
 const USAGE: &[u8] = b"usage: gate run LIMITS OUT SESSION...\n";
@@ -175,7 +142,7 @@ const LIMIT_FILES: [(&str, &[u8], u8, &[u8]); 15] = [
         b"not built\n",
     ),
     ("the firm alone", b"firm,,1000,,,\n", 5, b"read fault\n"),
-    ("an account and a symbol", LIMITS, 5, b"read fault\n"),
+    ("an account and a symbol", SMALL, 5, b"read fault\n"),
     ("a trip", b"firm,,1,,,\ntrip,,1,,,\n", 5, b"read fault\n"),
     ("no line end", b"firm,,1000,,,", 5, b"read fault\n"),
     (
@@ -192,6 +159,20 @@ const LIMIT_FILES: [(&str, &[u8], u8, &[u8]); 15] = [
     ),
 ];
 
+/// A sink takes a front of the totals, and the rest stands.
+const CUT_OFF: Row = Row {
+    name: "standard output fails after four bytes",
+    limits: SMALL,
+    sessions: &[Session {
+        input: &[Piece::Whole(b"35=0|49=C1|56=GATE|34=1|52=20240102-10:00:00|")],
+        venue: &[],
+        client: &[],
+    }],
+    journal: b"kind,session,a,b,c,d\nended,0,0,,,\n",
+    status: 6,
+    told: b"sess",
+};
+
 #[test]
 fn a_limit_file_is_taken_refused_or_not_served(rt: HostRuntime) -> Result<(), Fail> {
     let alloc = rt.alloc();
@@ -200,7 +181,15 @@ fn a_limit_file_is_taken_refused_or_not_served(rt: HostRuntime) -> Result<(), Fa
         let mut folder = MemFolder::new(alloc, 65536);
         folder.put("limits", Vec::from_slice(alloc, limits)?)?;
         let mut out = MemSink::new(alloc, 65536, Vec::new(alloc));
-        let status = gate(alloc, &words, &mut folder, &mut out, no_screens(alloc)?);
+        let status = gate(
+            &rt,
+            alloc,
+            &words,
+            &mut folder,
+            &mut out,
+            no_screens(alloc)?,
+            &OpenGate,
+        );
         assert_eq!(rt; status, want, "{name}");
         assert_eq!(rt; out.bytes(), told, "{name}");
         assert_eq!(rt; folder.get("out/s00.venue"), None, "{name}");
@@ -220,7 +209,15 @@ fn a_limit_file_has_a_most_length(rt: HostRuntime) -> Result<(), Fail> {
         let mut folder = MemFolder::new(alloc, 65536);
         folder.put("limits", vec![in alloc; b'\n'; length]?)?;
         let mut out = MemSink::new(alloc, 65536, Vec::new(alloc));
-        let status = gate(alloc, &words, &mut folder, &mut out, no_screens(alloc)?);
+        let status = gate(
+            &rt,
+            alloc,
+            &words,
+            &mut folder,
+            &mut out,
+            no_screens(alloc)?,
+            &OpenGate,
+        );
         assert_eq!(rt; status, 3);
         assert_eq!(rt; out.bytes(), told);
     }
@@ -235,7 +232,15 @@ fn stops_before_a_session(rt: HostRuntime) -> Result<(), Fail> {
         folder.put("limits", Vec::from_slice(alloc, limits)?)?;
         let mut out = MemSink::new(alloc, 65536, Vec::new(alloc));
         let words = words_of(alloc, words)?;
-        let status = gate(alloc, &words, &mut folder, &mut out, no_screens(alloc)?);
+        let status = gate(
+            &rt,
+            alloc,
+            &words,
+            &mut folder,
+            &mut out,
+            no_screens(alloc)?,
+            &OpenGate,
+        );
         assert_eq!(rt; status, want, "{name}");
         assert_eq!(rt; out.bytes(), told, "{name}");
         assert_eq!(rt; folder.get("out/journal.csv"), None, "{name}");
@@ -252,9 +257,17 @@ fn a_run_has_at_most_32_sessions(rt: HostRuntime) -> Result<(), Fail> {
             words.push(format!(in alloc; "session{session}")?)?;
         }
         let mut folder = MemFolder::new(alloc, 65536);
-        folder.put("limits", Vec::from_slice(alloc, LIMITS)?)?;
+        folder.put("limits", Vec::from_slice(alloc, SMALL)?)?;
         let mut out = MemSink::new(alloc, 65536, Vec::new(alloc));
-        let status = gate(alloc, &words, &mut folder, &mut out, no_screens(alloc)?);
+        let status = gate(
+            &rt,
+            alloc,
+            &words,
+            &mut folder,
+            &mut out,
+            no_screens(alloc)?,
+            &OpenGate,
+        );
         assert_eq!(rt; status, want);
     }
     Ok(())
@@ -263,14 +276,44 @@ fn a_run_has_at_most_32_sessions(rt: HostRuntime) -> Result<(), Fail> {
 #[test]
 fn a_fault_of_standard_output_is_a_write_fault(rt: HostRuntime) -> Result<(), Fail> {
     let alloc = rt.alloc();
+    let mut stage = stage_of(alloc, &CUT_OFF, 65_536)?;
+    stage.out = MemSink::new(alloc, 4, Vec::from_slice(alloc, &[1])?);
+    let status = gate(
+        &rt,
+        alloc,
+        &stage.words,
+        &mut stage.folder,
+        &mut stage.out,
+        no_screens(alloc)?,
+        &OpenGate,
+    );
+    compare(&rt, alloc, &CUT_OFF, &stage, status)
+}
+
+#[test]
+fn a_second_session_that_is_missing_ends_the_run(rt: HostRuntime) -> Result<(), Fail> {
+    let alloc = rt.alloc();
+    let words = words_of(alloc, &["run", "limits", "out", "a", "b", "c"])?;
     let mut folder = MemFolder::new(alloc, 65536);
-    folder.put("limits", Vec::from_slice(alloc, LIMITS)?)?;
-    folder.put("session", Vec::from_slice(alloc, ORDER)?)?;
-    let mut out = MemSink::new(alloc, 4, Vec::from_slice(alloc, &[1])?);
-    let words = words_of(alloc, &WORDS)?;
-    let status = gate(alloc, &words, &mut folder, &mut out, no_screens(alloc)?);
-    assert_eq!(rt; status, 6);
-    assert_eq!(rt; out.bytes(), b"sess".as_slice());
-    assert_eq!(rt; folder.get("out/s00.venue"), Some(FORWARD));
+    folder.put("limits", Vec::from_slice(alloc, SMALL)?)?;
+    folder.put("a", Vec::new(alloc))?;
+    folder.put("c", Vec::new(alloc))?;
+    let mut out = MemSink::new(alloc, 65536, Vec::new(alloc));
+    let status = gate(
+        &rt,
+        alloc,
+        &words,
+        &mut folder,
+        &mut out,
+        no_screens(alloc)?,
+        &OpenGate,
+    );
+    assert_eq!(rt; status, 5);
+    assert_eq!(rt; out.bytes(), b"read fault\n".as_slice());
+    assert_eq!(rt; folder.get("out/s00.venue"), Some(b"".as_slice()));
+    assert_eq!(rt; folder.get("out/s00.client"), Some(b"".as_slice()));
+    assert_eq!(rt; folder.get("out/s01.venue"), None);
+    assert_eq!(rt; folder.get("out/s02.venue"), None);
+    assert_eq!(rt; folder.get("out/journal.csv"), None);
     Ok(())
 }

@@ -4,7 +4,7 @@ ghost use Rattle.std.specs.List.{AllByRecursion};
 ghost use Rattle.limit_table.specs.Files.{IsHeldByFile};
 ghost use Rattle.risk_board.specs.History.{array_after};
 ghost use Rattle.session_engine.specs.Trees.{halt_tree, fold_of, limit_of};
-ghost use Rattle.gate_program.specs.Finish.{HasTotal, HaveTotals};
+ghost use Rattle.gate_program.specs.Totals.{HasTotal, HaveTotals};
 ghost use Rattle.gate_program.specs.Statuses.{number_of};
 ghost use Rattle.gate_program.specs.Totals.{is_sent, is_refused, is_noted, session_total};
 ghost use Rattle.gate_program.specs.Totals.{session_totals, kind_of, name_of, or_zero, tree_total};

@@ -24,8 +24,8 @@ use Rattle.node_rule.specs.Views.{staged}
 use Rattle.node_rule.specs.Sums.{over, seen_in}
 use Rattle.node_rule.specs.Fronts.{board_of, word_at, value_at, leaf_value}
 use Rattle.node_rule.specs.ValuePart.{IsKept}
-use Rattle.node_rule.specs.Steps.{Mine, after_stage, first_stage, left_stage, right_stage, after_win, after_loss, height_of, LoadsParent, LoadsLeft, LoadsRight, Exchanges}
-use Rattle.node_rule.proofs.Later.{IsInner, climb_inner}
+use Rattle.node_rule.specs.Steps.{Mine, after_stage, parent_stage, left_stage, right_stage, after_win, after_loss, height_of, LoadsParent, LoadsLeft, LoadsRight, Exchanges}
+use Rattle.node_rule.proofs.Later.{IsInner, ascent_inner}
 use Rattle.node_rule.proofs.Bounds.{stamp_most, leaf_under}
 use Rattle.node_rule.proofs.Values.{value_under}
 use Rattle.node_rule.proofs.Loads.{first_load, second_load, first_lost}
@@ -73,8 +73,8 @@ module _ (plan : Plan) (unit cap : ℕ) (join : ℕ → ℕ → ℕ) (le : ℕ �
         → IsKept plan unit cap join words views → get_elem? views id ≡ some (view stage)
         → IsInner plan (staged x stage)
     stands words views stage h at = let is = (h.stamps.each id (view stage) at).1 in
-        climb_inner plan (board_of plan.levels words views) track.number
-        (staged x stage) h.stamps.planned is.past.number is.present.climbs
+        ascent_inner plan (board_of plan.levels words views) track.number
+        (staged x stage) h.stamps.planned is.past.number is.present.ascends
 
     room_above : (words : List ℕ) (views : List View) (stage : Stage)
         → IsKept plan unit cap join words views → get_elem? views id ≡ some (view stage)
@@ -88,7 +88,7 @@ module _ (plan : Plan) (unit cap : ℕ) (join : ℕ → ℕ → ℕ) (le : ℕ �
         → Allows holds slots id me (place_of plan.levels x.tree (x.node / 2)) (λ n. n)
         (LoadsParent (step slots (place_of plan.levels x.tree (x.node / 2)) 0 0 none) me)
     allows_first_load e = loads (view Fresh) (place_of plan.levels x.tree (x.node / 2))
-        (λ found. after_stage (λ stage. first_stage stage found))
+        (λ found. after_stage (λ stage. parent_stage stage found))
         (λ found. stamp_in found ≤ QUOTA * SESSIONS) e
         (λ words views h at. let word : ℕ = word_at plan.levels words x.tree (x.node / 2) in (
           record {
@@ -104,7 +104,7 @@ module _ (plan : Plan) (unit cap : ℕ) (join : ℕ → ℕ → ℕ) (le : ℕ �
         (LoadsParent (step slots (place_of plan.levels x.tree (x.node / 2)) 0 0 none) me)
     allows_second_load first e = loads (view (Lost first))
         (place_of plan.levels x.tree (x.node / 2))
-        (λ found. after_stage (λ stage. first_stage stage found))
+        (λ found. after_stage (λ stage. parent_stage stage found))
         (λ found. stamp_in found ≤ QUOTA * SESSIONS) e
         (λ words views h at. let word : ℕ = word_at plan.levels words x.tree (x.node / 2) in (
           record {
@@ -124,7 +124,7 @@ module _ (plan : Plan) (unit cap : ℕ) (join : ℕ → ℕ → ℕ) (le : ℕ �
         → under (2 ^ height_of me.0) (value_in (word_at plan.levels words x.tree child))
     child_under words views stage h at e child low high =
         let word : ℕ = word_at plan.levels words x.tree child in
-        let is = (h.stamps.each id (view stage) at).1.present.climbs in
+        let is = (h.stamps.each id (view stage) at).1.present.ascends in
         let few : x.height ≤ LEVELS = let lt = is.height in let p = h.stamps.planned.shape.0 in
         omega arith in
         let valued : value_in word ≡ value_at plan.levels unit join views x.tree x.height child

@@ -1,4 +1,4 @@
--- A climb that comes to the parent of its node, with a stamp that covers its post.
+-- An ascent that comes to the parent of its node, with a stamp that covers its post.
 use Rattle.std.proofs.Common.{◌≡◌, ◌≢◌, ℕ, suc, ◌/◌, ◌^◌, ◌<◌, ◌≤◌, Bool, true, false, List, set, Option, Some, None, refl, sym, ap, ◌∙◌, subst, ⊎_elim, arith}
 use mathlib.Core.Option.{some}
 use lib.ListN.{get_elem?}
@@ -16,7 +16,7 @@ use Rattle.node_rule.specs.declared.view.Track.{Track}
 use Rattle.node_rule.specs.declared.view.Try.{Try}
 use Rattle.node_rule.specs.declared.view.Ascent.{Ascent}
 use Rattle.node_rule.specs.declared.view.Plan.{Plan}
-use Rattle.node_rule.specs.Views.{climb_of, first_of, try_of, child_in, pick, staged, moved, risen}
+use Rattle.node_rule.specs.Views.{ascent_of, first_of, try_of, child_in, pick, staged, moved, risen}
 use Rattle.node_rule.specs.Sums.{installs_in, posts_in}
 use Rattle.node_rule.specs.Fronts.{Board, board_of, ancestor, cover}
 use Rattle.node_rule.specs.StampPart.{IsPlan, IsGrown, IsPresent, Refreshes, RefreshesAny, IsStamped}
@@ -32,19 +32,19 @@ root_height levels height session in_range le e =
     ⊎_elim (λ (lt : height < levels). let low = ancestor-child levels height session in_range lt in
     absurd (omega arith)) (λ (ge : levels ≤ height). omega arith) (cases_lt height levels)
 
--- a climb that has loaded nothing is told of by nobody, and tells nobody
-pub fresh_onward : (levels : ℕ) (track : _) (climb : Option Ascent) (u : View)
-    → IfSome climb (λ x. x.stage ≡ Fresh) → RefreshesAny (Session levels track climb) u
+-- an ascent that has loaded nothing is told of by nobody, and tells nobody
+pub fresh_onward : (levels : ℕ) (track : _) (ascent : Option Ascent) (u : View)
+    → IfSome ascent (λ x. x.stage ≡ Fresh) → RefreshesAny (Session levels track ascent) u
 fresh_onward levels track None u h = tt
-fresh_onward levels track (Some x) u h = if_all (Refreshes x) (climb_of u)
+fresh_onward levels track (Some x) u h = if_all (Refreshes x) (ascent_of u)
     (λ y same_tree same_parent. subst (λ (o : Stage). IfSome (first_of o)
     (λ s. IfSome (try_of y.stage) (λ z. s < stamp_in z.parent
     → IfSome (child_in z x.node) (λ w. x.held ≤ stamp_in w)))) (sym h) tt)
 
-pub fresh_back : (levels : ℕ) (track : _) (climb : Option Ascent) (u : View)
-    → IfSome climb (λ x. x.stage ≡ Fresh) → RefreshesAny u (Session levels track climb)
-fresh_back levels track None u h = if_all (λ y. Unit {0}) (climb_of u) (λ y. tt)
-fresh_back levels track (Some x) u h = if_all (λ y. Refreshes y x) (climb_of u)
+pub fresh_back : (levels : ℕ) (track : _) (ascent : Option Ascent) (u : View)
+    → IfSome ascent (λ x. x.stage ≡ Fresh) → RefreshesAny u (Session levels track ascent)
+fresh_back levels track None u h = if_all (λ y. Unit {0}) (ascent_of u) (λ y. tt)
+fresh_back levels track (Some x) u h = if_all (λ y. Refreshes y x) (ascent_of u)
     (λ y same_tree same_parent. if_all (λ s. IfSome (try_of x.stage) (λ z. s < stamp_in z.parent
     → IfSome (child_in z y.node) (λ w. y.held ≤ stamp_in w))) (first_of y.stage)
     (λ s. subst (λ (o : Stage). IfSome (try_of o) (λ z. s < stamp_in z.parent
@@ -65,7 +65,7 @@ module _ (plan : Plan) (b : Board) (planned : IsPlan plan) (grown : IsGrown plan
   abbrev leaf : ℕ
   leaf = leaf_of plan.levels track.number
 
-  -- the climb's session needs the parent to cover its posts
+  -- the ascent's session needs the parent to cover its posts
   module _ (reached : stamp ≤ b.stamp x.tree (x.node / 2))
       (covers : cover (b.seen x.tree) leaf (suc x.height) stamp ≡ b.posts track.number x.tree)
       (elsewhere : (tree : ℕ) → tree < plan.trees → (x.tree ≡ tree → ⊥)
@@ -106,7 +106,7 @@ module _ (plan : Plan) (b : Board) (planned : IsPlan plan) (grown : IsGrown plan
     present_at : (at_top : Bool) → (x.node / 2 == 1) ≡ at_top
         → IsPresent plan b track (pick at_top None (Some (moved x stamp)))
     present_at true e = record {
-      climbs = tt;
+      ascends = tt;
       idle = λ tree in_range _. dite (ℕ_discrete x.tree tree)
           (λ same. subst (λ (t : ℕ). cover (b.seen t) leaf plan.levels
           (b.stamp t 1) ≡ b.posts track.number t) same (at_root (eqb-true (x.node / 2) 1 e)))
@@ -114,7 +114,7 @@ module _ (plan : Plan) (b : Board) (planned : IsPlan plan) (grown : IsGrown plan
       fewer = tt;
     }
     present_at false e = record {
-      climbs = record {
+      ascends = record {
         tree = tree_in;
         height = below_root (eqb-false (x.node / 2) 1 e);
         node = ap (λ (n : ℕ). n / 2) node;
@@ -130,7 +130,7 @@ module _ (plan : Plan) (b : Board) (planned : IsPlan plan) (grown : IsGrown plan
     pub arrives : IsPresent plan b track (risen x stamp)
     arrives = present_at (x.node / 2 == 1) refl
 
--- the second try lost too: the parent has a stamp whose install read the node at what the climb
+-- the second try lost too: the parent has a stamp whose install read the node at what the ascent
 -- holds, or later
 pub second_lost : (plan : Plan) (words : List ℕ) (views : List View) (seat levels : ℕ)
     (track : Track) (x : Ascent) (first : ℕ) (y : Try) (stamp : ℕ) → IsStamped plan words views
@@ -141,7 +141,7 @@ pub second_lost : (plan : Plan) (words : List ℕ) (views : List View) (seat lev
 second_lost plan words views seat levels track x first y stamp h at now changed =
     let b = board_of plan.levels words views in
     let is = (h.each seat (Session levels track (Some (staged x (Second first y)))) at).1 in
-    let mine = is.present.climbs in
+    let mine = is.present.ascends in
     let leaf = leaf_of plan.levels track.number in
     let session_in : track.number < 2 ^ plan.levels = in_levels is.past.number h.planned.sessions in
     let above = mine.stage.0 in

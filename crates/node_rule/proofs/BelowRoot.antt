@@ -1,4 +1,4 @@
--- A climb on its way stands below the root.
+-- An ascent on its way stands below the root.
 use Rattle.std.proofs.Common.{◌≡◌, ℕ, Bool, true, false, List, Option, Some, None, sym, ap, ◌∙◌, subst}
 use Rattle.std.specs.Prelude.{IfSome}
 use Rattle.risk_board.specs.declared.hand.Call.{Call}
@@ -6,25 +6,25 @@ use Rattle.node_rule.specs.declared.view.View.{View}
 use Rattle.node_rule.specs.declared.view.Install.{Install}
 use Rattle.node_rule.specs.declared.view.Ascent.{Ascent}
 use Rattle.node_rule.specs.declared.view.Plan.{Plan}
-use Rattle.node_rule.specs.Views.{climb_of}
+use Rattle.node_rule.specs.Views.{ascent_of}
 use Rattle.node_rule.specs.Own.{IsBelowRoot}
 use Rattle.node_rule.specs.Standing.{IsOnWay, IsRole, IsSound}
-use Rattle.node_rule.proofs.OnWay.{on_way_stands}
+use Rattle.node_rule.proofs.Held.{on_way_stands}
 
 module _ (under : ℕ → ℕ → Type 0) (plan : Plan) (number : ℕ) (calls : List Call)
     (trail : List Install) (ascent : Option Ascent) (view : View) where
-  -- the climb of the fields is that of the view
-  pub climb_is_of_view : (keeps : Bool) → IsRole keeps plan number calls trail ascent view
-      → climb_of view ≡ ascent
-  climb_is_of_view true role = ap climb_of role.2 ∙ sym role.0
-  climb_is_of_view false role = ap climb_of role
+  -- the ascent of the fields is that of the view
+  pub ascent_is_of_view : (keeps : Bool) → IsRole keeps plan number calls trail ascent view
+      → ascent_of view ≡ ascent
+  ascent_is_of_view true role = ap ascent_of role.2 ∙ sym role.0
+  ascent_is_of_view false role = ap ascent_of role
 
-  pub climb_below_root : (keeps : Bool)
+  pub ascent_below_root : (keeps : Bool)
       → IsSound under keeps plan number calls trail ascent view
-      → IfSome (climb_of view) (IsBelowRoot plan)
-  climb_below_root keeps sound =
+      → IfSome (ascent_of view) (IsBelowRoot plan)
+  ascent_below_root keeps sound =
       subst (λ (o : Option Ascent). IfSome o (IsBelowRoot plan))
-      (sym (climb_is_of_view keeps sound.role)) (below ascent sound.climb)
+      (sym (ascent_is_of_view keeps sound.role)) (below ascent sound.on_way)
     where
       below : (o : Option Ascent) → IfSome o (IsOnWay under plan number)
           → IfSome o (IsBelowRoot plan)

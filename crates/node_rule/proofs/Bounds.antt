@@ -44,7 +44,7 @@ each_past plan b (t ∷ ts) h = (h.0.past, each_past plan b ts h.1)
 pub view_past : (plan : Plan) (b : Board) (u : View) → IsView plan b u
     → Each (IsPast plan b) (tracks_of u)
 view_past plan b (Keeper levels given joined) h = each_past plan b joined h.1
-view_past plan b (Session levels track climb) h = (h.1.past, tt)
+view_past plan b (Session levels track ascent) h = (h.1.past, tt)
 view_past plan b Spent h = tt
 
 module _ (plan : Plan) (words : List ℕ) (views : List View) (h : IsStamped plan words views) where

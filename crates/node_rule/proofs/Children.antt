@@ -1,4 +1,4 @@
--- Loads of a child keep the stamp part: the child's stamp now is at least what each climb there
+-- Loads of a child keep the stamp part: the child's stamp now is at least what each ascent there
 -- holds.
 use Rattle.std.proofs.Common.{◌≡◌, ◌≢◌, ℕ, ◌+◌, ◌*◌, ◌/◌, ◌%◌, ◌^◌, ◌<◌, ◌≤◌, Bool, true, false, List, set, Option, Some, refl, sym, ap, ◌∙◌, subst, arith}
 use mathlib.Core.Option.{some}
@@ -16,7 +16,7 @@ use Rattle.node_rule.specs.declared.view.Ascent.{Ascent}
 use Rattle.node_rule.specs.declared.view.Plan.{Plan}
 use Rattle.node_rule.specs.Views.{first_of, try_of, child_in, pick, is_left, staged, with_left, with_right}
 use Rattle.node_rule.specs.Fronts.{Board, board_of}
-use Rattle.node_rule.specs.StampPart.{IsLoaded, IsTry, IsStage, AreRefreshed, IsClimb, Refreshes, IsStamped}
+use Rattle.node_rule.specs.StampPart.{IsLoaded, IsTry, IsStage, AreRefreshed, IsAscent, Refreshes, IsStamped}
 use Rattle.node_rule.proofs.Tree.{ancestor-within, ancestor-child}
 use Rattle.node_rule.proofs.Loads.{if_some}
 use Rattle.node_rule.proofs.Stages.{keeps_staged}
@@ -27,7 +27,7 @@ left_child node e = let even : node % 2 ≡ 0 = eqb-true (node % 2) 0 e in omega
 pub right_child : (node : ℕ) → is_left node ≡ false → node ≡ 2 * (node / 2) + 1
 right_child node e = let odd : node % 2 ≢ 0 = eqb-false (node % 2) 0 e in omega arith
 
--- a left child is loaded at the stamp `found`: what each climb at it holds is no more
+-- a left child is loaded at the stamp `found`: what each ascent at it holds is no more
 told_left : (P : ℕ → Type 0) (b : Bool) (found : ℕ) (left right : Option ℕ) → (b ≡ true → P found)
     → (b ≡ false → IfSome (pick b left right) P) → IfSome (pick b (Some found) right) P
 told_left P true found left right new old = new refl
@@ -81,15 +81,15 @@ module _ (plan : Plan) (words : List ℕ) (views : List View) (seat levels : ℕ
   abbrev kept : Try → Type 0
   kept z = IsStamped plan words (set views seat (Session levels track (Some (staged x (make z)))))
 
-  -- what one climb is told of another's try, before and after the load
+  -- what one ascent is told of another's try, before and after the load
   module _ (z : Try) (same : y.parent ≡ z.parent) (trying : IsTrying plan board make)
-      (told : (number : ℕ) (u : Ascent) → IsClimb plan board number u → u.tree ≡ x.tree
+      (told : (number : ℕ) (u : Ascent) → IsAscent plan board number u → u.tree ≡ x.tree
       → u.node / 2 ≡ x.node / 2 → IfSome (child_in y u.node) (λ w. u.held ≤ stamp_in w)
       → IfSome (child_in z u.node) (λ w. u.held ≤ stamp_in w)) where
     abbrev told_by : Try → Ascent → ℕ → Type 0
     told_by t u s = s < stamp_in t.parent → IfSome (child_in t u.node) (λ w. u.held ≤ stamp_in w)
 
-    back : (number : ℕ) (u : Ascent) → IsClimb plan board number u → Refreshes u (staged x (make y))
+    back : (number : ℕ) (u : Ascent) → IsAscent plan board number u → Refreshes u (staged x (make y))
         → Refreshes u (staged x (make z))
     back number u is old same_tree same_parent =
         if_some (λ s. IfSome (try_of (make y)) (λ t. told_by t u s))
@@ -111,13 +111,13 @@ module _ (plan : Plan) (words : List ℕ) (views : List View) (seat levels : ℕ
         → kept z
     loaded h at better =
         let is = (h.each seat (Session levels track (Some (staged x (make y)))) at).1 in
-        let mine = is.present.climbs in
+        let mine = is.present.ascends in
         keeps_staged plan words views seat levels track (staged x (make y)) (make z) h at
         (trying.stage x.tree x.node x.held y z same mine.stage better)
         (subst (λ (o : Option ℕ). AreRefreshed plan board x.tree x.node x.held o)
         (trying.first y z same) mine.refreshed)
-        (λ number u climbs old. onward u old)
-        (λ number u climbs old. back number u climbs old)
+        (λ number u ascends old. onward u old)
+        (λ number u ascends old. back number u ascends old)
         (λ old. onward (staged x (make z)) (back track.number (staged x (make y)) mine old))
 
   -- a loaded word of a child, which is the child's now
@@ -128,7 +128,7 @@ module _ (plan : Plan) (words : List ℕ) (views : List View) (seat levels : ℕ
         → IsLoaded plan board x.tree x.node x.held y.parent child found
     loaded_now try =
         let is = (h.each seat (Session levels track (Some (staged x (make y)))) at).1 in
-        let mine = is.present.climbs in
+        let mine = is.present.ascends in
         let session_in : track.number < 2 ^ plan.levels =
         in_levels is.past.number h.planned.sessions in
         let low : 2 ≤ x.node = subst (λ (n : ℕ). 2 ≤ n) (sym mine.node)

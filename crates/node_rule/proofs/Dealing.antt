@@ -10,7 +10,7 @@ use Rattle.node_rule.specs.declared.view.View.{View}
 use Rattle.node_rule.specs.declared.view.View.TheVariants.{Keeper, Session, Spent}
 use Rattle.node_rule.specs.declared.view.Track.{Track}
 use Rattle.node_rule.specs.declared.view.Plan.{Plan}
-use Rattle.node_rule.specs.Views.{tracks_of, climb_of, given_of, keepers_of, new_track}
+use Rattle.node_rule.specs.Views.{tracks_of, ascent_of, given_of, keepers_of, new_track}
 use Rattle.node_rule.specs.Sums.{total, over, when, seen_in, times_in, installs_in, posts_of, posts_in, stands_in}
 use Rattle.node_rule.specs.Fronts.{Board, board_of, word_at}
 use Rattle.node_rule.specs.StampPart.{IsGrown, IsTrack, IsView, RefreshesAny, AreNumbered, IsStamped}
@@ -24,7 +24,7 @@ use Rattle.node_rule.proofs.Won.{each-append}
 
 no_keeper : (u : View) → keepers_of u ≡ 0 → given_of u ≡ 0
 no_keeper (Keeper levels given joined) e = absurd (omega arith)
-no_keeper (Session levels track climb) e = refl
+no_keeper (Session levels track ascent) e = refl
 no_keeper Spent e = refl
 
 -- the keeper's count is that of all views
@@ -144,7 +144,7 @@ module _ (plan : Plan) (words : List ℕ) (views : List View) (seat levels given
             in_order = λ k l tree s t v w _ e _. absurd (some-ne-none _ (sym e));
           };
           present = record {
-            climbs = tt;
+            ascends = tt;
             idle = λ tree tree_in _. let empty = none tree in
                 let most = cover_below plan b h.grown tree given tree_in session_in plan.levels
                 (b.stamp tree 1) (omega arith)
@@ -163,10 +163,10 @@ module _ (plan : Plan) (words : List ℕ) (views : List View) (seat levels given
         (at_snoc (set views seat left) right u j e)
 
     to_none : (u : View) → RefreshesAny u right
-    to_none u = if_all (λ x. Unit {0}) (climb_of u) (λ x. tt)
+    to_none u = if_all (λ x. Unit {0}) (ascent_of u) (λ x. tt)
 
     to_left : (u : View) → RefreshesAny u left
-    to_left u = if_all (λ x. Unit {0}) (climb_of u) (λ x. tt)
+    to_left u = if_all (λ x. Unit {0}) (ascent_of u) (λ x. tt)
 
     pairs : (j k : ℕ) (u x : View) → get_elem? dealt j ≡ some u → get_elem? dealt k ≡ some x
         → RefreshesAny u x
@@ -255,10 +255,10 @@ module _ (plan : Plan) (words : List ℕ) (views : List View)
     )
 
     to_keeper : (u : View) → RefreshesAny u both
-    to_keeper u = if_all (λ x. Unit {0}) (climb_of u) (λ x. tt)
+    to_keeper u = if_all (λ x. Unit {0}) (ascent_of u) (λ x. tt)
 
     to_spent : (u : View) → RefreshesAny u Spent
-    to_spent u = if_all (λ x. Unit {0}) (climb_of u) (λ x. tt)
+    to_spent u = if_all (λ x. Unit {0}) (ascent_of u) (λ x. tt)
 
     pub joins : IsStamped plan words taken
     joins = record {

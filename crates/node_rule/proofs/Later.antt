@@ -14,23 +14,23 @@ use Rattle.node_rule.specs.declared.view.Track.{Track}
 use Rattle.node_rule.specs.declared.view.Try.{Try}
 use Rattle.node_rule.specs.declared.view.Ascent.{Ascent}
 use Rattle.node_rule.specs.declared.view.Plan.{Plan}
-use Rattle.node_rule.specs.Views.{tracks_of, climb_of, first_of}
+use Rattle.node_rule.specs.Views.{tracks_of, ascent_of, first_of}
 use Rattle.node_rule.specs.Sums.{Each}
 use Rattle.node_rule.specs.Fronts.{Board, cover}
-use Rattle.node_rule.specs.StampPart.{IsPlan, IsGrown, IsLoaded, IsTry, IsStage, AreRefreshed, IsClimb, IsCall, IsTrack, IsView}
+use Rattle.node_rule.specs.StampPart.{IsPlan, IsGrown, IsLoaded, IsTry, IsStage, AreRefreshed, IsAscent, IsCall, IsTrack, IsView}
 use Rattle.node_rule.proofs.Tree.{IsLater, ancestor-within, ancestor-child, ancestor-root, cover_rises, cover_below, cover_stays}
 use Rattle.node_rule.proofs.Loads.{if_some}
 use Rattle.node_rule.proofs.Children.{in_levels, below_levels}
 
--- where a climb stands
+-- where an ascent stands
 pub record IsInner (plan : Plan) (x : Ascent) : Type 0 where
   pub tree : x.tree < plan.trees
   pub low : 2 ≤ x.node
   pub high : x.node < 2 * 2 ^ plan.levels
 
-pub climb_inner : (plan : Plan) (b : Board) (number : ℕ) (x : Ascent) → IsPlan plan
-    → number < plan.sessions → IsClimb plan b number x → IsInner plan x
-climb_inner plan b number x planned number_in h = let session_in : number < 2 ^ plan.levels =
+pub ascent_inner : (plan : Plan) (b : Board) (number : ℕ) (x : Ascent) → IsPlan plan
+    → number < plan.sessions → IsAscent plan b number x → IsInner plan x
+ascent_inner plan b number x planned number_in h = let session_in : number < 2 ^ plan.levels =
     in_levels number_in planned.sessions in record {
       tree = h.tree;
       low = subst (λ (n : ℕ). 2 ≤ n) (sym h.node)
@@ -103,9 +103,9 @@ module _ (plan : Plan) (b c : Board) (planned : IsPlan plan) (grown : IsGrown pl
       (cases_lt (b.stamp x.tree (x.node / 2)) stamp)
 
   module _ (number : ℕ) (number_in : number < plan.sessions) where
-    pub climb_later : (x : Ascent) → c.posts number x.tree ≡ b.posts number x.tree
-        → IsClimb plan b number x → ReadsNew x → IsClimb plan c number x
-    climb_later x same h new = let inner = climb_inner plan b number x planned number_in h in
+    pub ascent_later : (x : Ascent) → c.posts number x.tree ≡ b.posts number x.tree
+        → IsAscent plan b number x → ReadsNew x → IsAscent plan c number x
+    ascent_later x same h new = let inner = ascent_inner plan b number x planned number_in h in
         let session_in : number < 2 ^ plan.levels = in_levels number_in planned.sessions in record {
           tree = h.tree;
           height = h.height;
@@ -167,10 +167,10 @@ module _ (plan : Plan) (b c : Board) (planned : IsPlan plan) (grown : IsGrown pl
         omega arith
 
   -- a session that does not step
-  pub track_later : IsGrown plan c → (track : Track) (climb : Option Ascent)
-      → ((tree : ℕ) → c.posts track.number tree ≡ b.posts track.number tree) → IfSome climb ReadsNew
-      → IsTrack plan b track climb → IsTrack plan c track climb
-  track_later grown_later track climb same new h = record {
+  pub track_later : IsGrown plan c → (track : Track) (ascent : Option Ascent)
+      → ((tree : ℕ) → c.posts track.number tree ≡ b.posts track.number tree) → IfSome ascent ReadsNew
+      → IsTrack plan b track ascent → IsTrack plan c track ascent
+  track_later grown_later track ascent same new h = record {
     past = record {
       number = h.past.number;
       own = λ tree. h.past.own tree ∙ sym (same tree);
@@ -181,17 +181,17 @@ module _ (plan : Plan) (b c : Board) (planned : IsPlan plan) (grown : IsGrown pl
       in_order = h.past.in_order;
     };
     present = record {
-      climbs = both_some climb h.present.climbs new;
+      ascends = both_some ascent h.present.ascends new;
       idle = λ tree tree_in idle. idle_later track.number h.past.number grown_later tree tree_in
           (same tree) (h.present.idle tree tree_in idle);
       fewer = h.present.fewer;
     };
   }
     where
-      both_some : (o : Option Ascent) → IfSome o (IsClimb plan b track.number) → IfSome o ReadsNew
-          → IfSome o (IsClimb plan c track.number)
+      both_some : (o : Option Ascent) → IfSome o (IsAscent plan b track.number) → IfSome o ReadsNew
+          → IfSome o (IsAscent plan c track.number)
       both_some None p q = tt
-      both_some (Some x) p q = climb_later track.number h.past.number x (same x.tree) p q
+      both_some (Some x) p q = ascent_later track.number h.past.number x (same x.tree) p q
 
   each_later : IsGrown plan c → (joined : List Track)
       → Each (λ (track : Track). (tree : ℕ)
@@ -205,9 +205,9 @@ module _ (plan : Plan) (b c : Board) (planned : IsPlan plan) (grown : IsGrown pl
   -- a view that does not step
   pub view_later : IsGrown plan c → (u : View)
       → Each (λ (track : Track). (tree : ℕ) → c.posts track.number tree ≡ b.posts track.number tree)
-      (tracks_of u) → IfSome (climb_of u) ReadsNew → IsView plan b u → IsView plan c u
+      (tracks_of u) → IfSome (ascent_of u) ReadsNew → IsView plan b u → IsView plan c u
   view_later grown_later (Keeper levels given joined) same new h =
       (h.0, each_later grown_later joined same h.1)
-  view_later grown_later (Session levels track climb) same new h =
-      (h.0, track_later grown_later track climb same.0 new h.1)
+  view_later grown_later (Session levels track ascent) same new h =
+      (h.0, track_later grown_later track ascent same.0 new h.1)
   view_later grown_later Spent same new h = tt

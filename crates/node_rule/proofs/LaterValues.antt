@@ -15,10 +15,10 @@ use Rattle.node_rule.specs.declared.view.Plan.{Plan}
 use Rattle.node_rule.specs.Views.{try_of}
 use Rattle.node_rule.specs.Sums.{Each}
 use Rattle.node_rule.specs.Fronts.{Board, IsDeep}
-use Rattle.node_rule.specs.StampPart.{IsPlan, IsLoaded, IsTry, IsClimb, IsCall, IsPast, IsTrack, IsView}
+use Rattle.node_rule.specs.StampPart.{IsPlan, IsLoaded, IsTry, IsAscent, IsCall, IsPast, IsTrack, IsView}
 use Rattle.node_rule.specs.ValuePart.{HasValues, IsCallValued, IsViewValued}
 use Rattle.node_rule.proofs.Stages.{stage_try}
-use Rattle.node_rule.proofs.Values.{child-deep, climb-deep}
+use Rattle.node_rule.proofs.Values.{child-deep, ascent-deep}
 
 -- each element keeps its fact, by what holds at its place
 pub each_with : {A : Type 0} (P Q : A → Type 0) (xs : List A)
@@ -35,12 +35,12 @@ module _ (plan : Plan) (cap : ℕ) (b : Board) (planned : IsPlan plan) (f g : �
     (stays : (tree depth height node stamp : ℕ) → tree < plan.trees → depth + height ≡ plan.levels
     → IsDeep depth node → stamp ≤ b.stamp tree node
     → g tree height node stamp ≡ f tree height node stamp) where
-  try_later : (number : ℕ) (x : Ascent) → number < plan.sessions → IsClimb plan b number x
+  try_later : (number : ℕ) (x : Ascent) → number < plan.sessions → IsAscent plan b number x
       → (y : Try) → IsTry plan b x.tree x.node x.held y
       → HasValues plan cap f x.tree x.height x.node y
       → HasValues plan cap g x.tree x.height x.node y
   try_later number x number_in is y try h =
-      let deep = climb-deep plan b number x planned number_in is in
+      let deep = ascent-deep plan b number x planned number_in is in
       let depth : ℕ = plan.levels - suc x.height in
       let up : depth + suc x.height ≡ plan.levels = let lt = is.height in omega arith in
       let here : suc depth + x.height ≡ plan.levels = let lt = is.height in omega arith in
@@ -82,23 +82,23 @@ module _ (plan : Plan) (cap : ℕ) (b : Board) (planned : IsPlan plan) (f g : �
     tracks_later tracks is.1 h.1,
   )
 
-  climb_later : (track : Track) (climb : Option Ascent) → IsTrack plan b track climb
-      → IfSome climb (λ x. IfSome (try_of x.stage) (HasValues plan cap f x.tree x.height x.node))
-      → IfSome climb (λ x. IfSome (try_of x.stage) (HasValues plan cap g x.tree x.height x.node))
-  climb_later track None is h = tt
-  climb_later track (Some x) is h = if_both (IsTry plan b x.tree x.node x.held)
+  ascent_later : (track : Track) (ascent : Option Ascent) → IsTrack plan b track ascent
+      → IfSome ascent (λ x. IfSome (try_of x.stage) (HasValues plan cap f x.tree x.height x.node))
+      → IfSome ascent (λ x. IfSome (try_of x.stage) (HasValues plan cap g x.tree x.height x.node))
+  ascent_later track None is h = tt
+  ascent_later track (Some x) is h = if_both (IsTry plan b x.tree x.node x.held)
       (HasValues plan cap f x.tree x.height x.node) (HasValues plan cap g x.tree x.height x.node)
       (try_of x.stage)
-      (λ y. try_later track.number x is.past.number is.present.climbs y)
-      (stage_try plan b x.tree x.node x.held x.stage is.present.climbs.stage) h
+      (λ y. try_later track.number x is.past.number is.present.ascends y)
+      (stage_try plan b x.tree x.node x.held x.stage is.present.ascends.stage) h
 
   pub view_values_later : (u : View) → IsView plan b u → IsViewValued plan cap f u
       → IsViewValued plan cap g u
   view_values_later (Keeper levels given joined) is h =
       record { loaded = tt; calls = tracks_later joined is.1 h.calls }
-  view_values_later (Session levels track climb) is h =
+  view_values_later (Session levels track ascent) is h =
       record {
-        loaded = climb_later track climb is.1 h.loaded;
+        loaded = ascent_later track ascent is.1 h.loaded;
         calls =
             (calls_later track is.1.past h.calls.0, tt);
       }

@@ -26,9 +26,11 @@ pub mod Bounds
 pub mod Opening
 pub mod Allowed
 pub mod AllowedCalls
+pub mod Held
 pub mod OnWay
 pub mod ClimbSteps
 pub mod Closing
 pub mod Idle
+pub mod Posting
 pub mod OneInstall
 pub mod BelowRoot

@@ -1,4 +1,4 @@
--- Loads of a climb, and the loss of its first try, keep the stamp part.
+-- Loads of an ascent, and the loss of its first try, keep the stamp part.
 use Rattle.std.proofs.Common.{◌≡◌, ◌≢◌, ℕ, ◌/◌, ◌<◌, ◌≤◌, Bool, true, false, List, set, Option, Some, None, refl, sym, subst, arith}
 use mathlib.Core.Option.{some}
 use lib.ListN.{get_elem?}
@@ -30,7 +30,7 @@ nothing_picked : (P : ℕ → Type 0) (b : Bool) → IfSome (pick b None None) P
 nothing_picked P true = tt
 nothing_picked P false = tt
 
--- a try that has loaded no child tells no climb anything
+-- a try that has loaded no child tells no ascent anything
 unloaded : (y x : Ascent) (stage : Stage) (word : ℕ) → try_of stage ≡ Some (try_at word)
     → Refreshes y (staged x stage)
 unloaded y x stage word e same_tree same_parent =
@@ -83,7 +83,7 @@ module _ (plan : Plan) (words : List ℕ) (views : List View) (seat levels : ℕ
       → stamp_in word ≡ board.stamp x.tree (x.node / 2) → kept (Second first (try_at word))
   second_load first word h at now =
       let mine = (h.each seat (Session levels track
-      (Some (staged x (Lost first)))) at).1.present.climbs in
+      (Some (staged x (Lost first)))) at).1.present.ascends in
       keeps_staged plan words views seat levels track (staged x (Lost first))
       (Second first (try_at word)) h at (
         (let above : first < board.stamp x.tree (x.node / 2) = mine.stage in omega arith),
@@ -100,7 +100,7 @@ module _ (plan : Plan) (words : List ℕ) (views : List View) (seat levels : ℕ
       → stamp_in y.parent ≢ board.stamp x.tree (x.node / 2) → kept (Lost (stamp_in y.parent))
   first_lost y h at changed =
       let mine = (h.each seat (Session levels track
-      (Some (staged x (First y)))) at).1.present.climbs in
+      (Some (staged x (First y)))) at).1.present.ascends in
       keeps_staged plan words views seat levels track (staged x (First y))
       (Lost (stamp_in y.parent)) h at
       (let reached : stamp_in y.parent ≤ board.stamp x.tree (x.node / 2) = mine.stage.reached in

@@ -37,24 +37,24 @@ at_most_once plan views h number = ⊎_elim
 
 -- the other views have other numbers
 pub others_apart : (plan : Plan) (views : List View) → AreNumbered plan views
-    → (seat levels : ℕ) (track : Track) (climb : Option Ascent)
-    → get_elem? views seat ≡ some (Session levels track climb) → (j : ℕ) (u : View) → j ≢ seat
+    → (seat levels : ℕ) (track : Track) (ascent : Option Ascent)
+    → get_elem? views seat ≡ some (Session levels track ascent) → (j : ℕ) (u : View) → j ≢ seat
     → get_elem? views j ≡ some u → Each (λ (other : Track). other.number ≢ track.number)
     (tracks_of u)
-others_apart plan views h seat levels track climb at j u apart there =
+others_apart plan views h seat levels track ascent at j u apart there =
     let both = total-parts (λ v. total (stands_in track.number) (tracks_of v)) views seat j
-    (Session levels track climb) u apart at there in
+    (Session levels track ascent) u apart at there in
     let one = stands-own track in let most = at_most_once plan views h track.number in
     none_stand track.number (tracks_of u) (omega arith)
 
 -- a number that is not given stands nowhere
 pub given_below : (plan : Plan) (views : List View) → AreNumbered plan views
-    → (seat levels : ℕ) (track : Track) (climb : Option Ascent)
-    → get_elem? views seat ≡ some (Session levels track climb) → track.number < total given_of views
-given_below plan views h seat levels track climb at = ⊎_elim
+    → (seat levels : ℕ) (track : Track) (ascent : Option Ascent)
+    → get_elem? views seat ≡ some (Session levels track ascent) → track.number < total given_of views
+given_below plan views h seat levels track ascent at = ⊎_elim
     (λ (given : track.number < total given_of views). given)
     (λ (not_yet : total given_of views ≤ track.number). let none =
     h.no_other track.number not_yet in let part =
     total-part (λ v. total (stands_in track.number) (tracks_of v)) views seat
-    (Session levels track climb) at in let one = stands-own track in absurd (omega arith))
+    (Session levels track ascent) at in let one = stands-own track in absurd (omega arith))
     (cases_lt track.number (total given_of views))

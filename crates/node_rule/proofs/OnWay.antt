@@ -1,11 +1,11 @@
--- From what a climb knows of its own view to what its next step owes.
+-- From what an ascent knows of its own view to what its next step owes.
 use Rattle.std.proofs.Common.{◌≡◌, ℕ, suc, ◌+◌, ◌*◌, ◌/◌, ◌^◌, ◌<◌, ◌≤◌, Bool, true, false, List, [], ◌∷◌, ◌++◌, Option, Some, None, refl, sym, ap, ◌∙◌, subst, arith, lit<}
 use Rattle.fold_law.specs.declared.limits.TheConstants.{SESSIONS}
 use Rattle.stamp_word.specs.declared.limits.TheConstants.{LEVELS}
 use Rattle.std.specs.Prelude.{IfSome}
 use Rattle.std.proofs.Math.Nat.{two-pow-succ, pow-le-pow_right, mul-le-mul_right}
 use Rattle.stamp_word.specs.Word.{stamp_in}
-use Rattle.stamp_word.specs.Places.{place_of, leaf_of}
+use Rattle.stamp_word.specs.Places.{leaf_of}
 use Rattle.node_rule.specs.declared.view.View.{View}
 use Rattle.node_rule.specs.declared.view.View.TheVariants.{Keeper, Session}
 use Rattle.node_rule.specs.declared.view.Stage.{Stage}
@@ -18,64 +18,14 @@ use Rattle.node_rule.specs.declared.view.Try.{Try}
 use Rattle.node_rule.specs.declared.view.Plan.{Plan}
 use Rattle.node_rule.specs.Views.{installed, pick, moved, risen, try_of}
 use Rattle.std.specs.Prelude.{◌==◌}
-use Rattle.std.proofs.Common.{◌-◌, ⊎_elim}
+use Rattle.std.proofs.Common.{⊎_elim}
 use Rattle.std.proofs.lemmas.Bool.{cases_lt, eqb-false}
 use Rattle.node_rule.specs.Fronts.{ancestor}
 use Rattle.node_rule.specs.StampPart.{IsPlan}
-use Rattle.node_rule.specs.Steps.{keeper_after_split, climb_lost, install_of, win, after_win, after_loss}
+use Rattle.node_rule.specs.Steps.{keeper_after_split, ascent_lost, install_of, win, after_win, after_loss}
 use Rattle.node_rule.specs.Standing.{IsOnWay, IsRole, IsSound, HasRoom, levels_left}
-use Rattle.node_rule.proofs.Tree.{ancestor-within, ancestor-child, ancestor-root}
-use Rattle.node_rule.proofs.Places.{place-in}
-use Rattle.node_rule.proofs.Children.{in_levels, below_levels}
-
--- where a climb on its way stands
-pub record IsStanding (plan : Plan) (x : Ascent) : Type 0 where
-  pub tree : x.tree < plan.trees
-  pub low : 2 ≤ x.node
-  pub high : x.node < 2 * 2 ^ plan.levels
-
-pub on_way_stands : (under : ℕ → ℕ → Type 0) (plan : Plan) (number : ℕ) (x : Ascent) → IsPlan plan
-    → IsOnWay under plan number x → IsStanding plan x
-on_way_stands under plan number x planned h = let session_in : number < 2 ^ plan.levels =
-    in_levels h.number_in planned.sessions in record {
-      tree = h.tree;
-      low = subst (λ (n : ℕ). 2 ≤ n) (sym h.node)
-          (ancestor-child plan.levels x.height number session_in h.height);
-      high = subst (λ (n : ℕ). n < 2 * 2 ^ plan.levels) (sym h.node)
-          (ancestor-within plan.levels x.height number session_in (below_levels h.height)).high;
-    }
-
-module _ (under : ℕ → ℕ → Type 0) (keeps : Bool) (plan : Plan) (number : ℕ) (calls : List Call)
-    (trail : List Install) (ascent : Option Ascent) (view : View)
-    (sound : IsSound under keeps plan number calls trail ascent view) where
-  -- the climb that is held is on its way
-  pub held_on_way : (x : Ascent) → ascent ≡ Some x → IsOnWay under plan number x
-  held_on_way x e = subst (λ (o : Option Ascent). IfSome o
-      (IsOnWay under plan number)) e sound.climb
-
-  pub held_stands : (x : Ascent) → ascent ≡ Some x → IsStanding plan x
-  held_stands x e = on_way_stands under plan number x sound.planned (held_on_way x e)
-
-  -- and it is the one of the view
-  pub held_is : (levels : ℕ) (track : Track) (x held : Ascent)
-      → view ≡ Session levels track (Some x) → ascent ≡ Some held → held ≡ x
-  held_is levels track x held e d = of_role keeps sound.role
-    where
-      of_role : (k : Bool) → IsRole k plan number calls trail ascent view → held ≡ x
-      of_role true r = let is = r.2 in cc
-      of_role false r = let is = r in cc
-
--- the place of a climb's parent, and of its parent's children, lies in the table
-pub parent_place_in : (plan own : Plan) (x : Ascent) → own ≡ plan → IsStanding own x
-    → (levels place words : ℕ) → levels ≡ plan.levels → place ≡ place_of levels x.tree (x.node / 2)
-    → words ≡ plan.trees * (2 * 2 ^ plan.levels) → place < words
-parent_place_in plan own x same h levels place words e place_is words_is =
-    let stands : IsStanding plan x = subst (λ (p : Plan). IsStanding p x) same h in
-    let high = stands.high in
-    let here : place ≡ place_of plan.levels x.tree (x.node / 2) = place_is
-    ∙ ap (λ (n : ℕ). place_of n x.tree (x.node / 2)) e in
-    subst (λ (p : ℕ × ℕ). p.0 < p.1) (λ i. (sym here i, sym words_is i))
-    (place-in plan.levels plan.trees x.tree (x.node / 2) stands.tree (omega arith))
+use Rattle.node_rule.proofs.Tree.{ancestor-root}
+use Rattle.node_rule.proofs.Children.{in_levels}
 
 -- two children of a node at most four levels above the leaves are few enough to be joined
 pub few_leaves : (height : ℕ) → height < LEVELS → 2 ^ height + 2 ^ height ≤ SESSIONS
@@ -85,7 +35,7 @@ few_leaves height lt = let twice : 2 ^ suc height ≡ 2 ^ height + 2 ^ height = 
 pub some_has : {A : Type 0} (P : A → Type 0) (o : Option A) (a : A) → o ≡ Some a → IfSome o P → P a
 some_has P o a e h = subst (λ o'. IfSome o' P) e h
 
--- the climb after a won exchange, or a second lost one, is on its way too
+-- the ascent after a won exchange, or a second lost one, is on its way too
 module _ (under : ℕ → ℕ → Type 0) (plan : Plan) (number : ℕ) (x : Ascent) (stamp : ℕ)
     (planned : IsPlan plan) (h : IsOnWay under plan number x) where
   risen_at : (top : Bool) → (x.node / 2 == 1) ≡ top
@@ -121,7 +71,7 @@ module _ (under : ℕ → ℕ → Type 0) (plan : Plan) (number : ℕ) (x : Asce
 
 pub lost_on_way : (under : ℕ → ℕ → Type 0) (plan : Plan) (number : ℕ) (x : Ascent) (found : ℕ)
     → IsPlan plan → IsOnWay under plan number x → (stage : Stage) → x.stage ≡ stage
-    → IfSome (climb_lost x found stage) (IsOnWay under plan number)
+    → IfSome (ascent_lost x found stage) (IsOnWay under plan number)
 lost_on_way under plan number x found planned h Fresh e = h
 lost_on_way under plan number x found planned h (First y) e =
     record {
@@ -138,7 +88,7 @@ lost_on_way under plan number x found planned h (Second s y) e =
 
 pub lost_levels : (under : ℕ → ℕ → Type 0) (plan : Plan) (number : ℕ) (x : Ascent) (found : ℕ)
     → IsPlan plan → IsOnWay under plan number x → (stage : Stage)
-    → levels_left plan.levels (climb_lost x found stage) ≤ levels_left plan.levels (Some x)
+    → levels_left plan.levels (ascent_lost x found stage) ≤ levels_left plan.levels (Some x)
 lost_levels under plan number x found planned h Fresh = omega arith
 lost_levels under plan number x found planned h (First y) = omega arith
 lost_levels under plan number x found planned h (Lost s) = omega arith
@@ -157,8 +107,8 @@ win_is levels track x (Second s z) y e = let same : z ≡ y = cc (e) in
     ap (λ (t : Try). Session levels (installed track (install_of x t))
     (risen x (suc (stamp_in t.parent)))) same
 
-module _ (under : ℕ → ℕ → Type 0) (keeps : Bool) (plan : Plan) (number : ℕ) (calls : List Call)
-    (trail : List Install) (ascent : Option Ascent) (view : View)
+module _ {under : ℕ → ℕ → Type 0} {keeps : Bool} {plan : Plan} {number : ℕ} {calls : List Call}
+    {trail : List Install} {ascent : Option Ascent} {view : View}
     (sound : IsSound under keeps plan number calls trail ascent view)
     (levels : ℕ) (track : Track) (x held : Ascent) (seen : view ≡ Session levels track (Some x))
     (is : ascent ≡ Some held) where
@@ -177,14 +127,14 @@ module _ (under : ℕ → ℕ → Type 0) (keeps : Bool) (plan : Plan) (number :
       }) held held.stage tried e
 
   lost_role : (k : Bool) → IsRole k plan number calls trail ascent view → (found : ℕ)
-      → IsRole k plan number calls trail (climb_lost held found held.stage) (after_loss found view)
+      → IsRole k plan number calls trail (ascent_lost held found held.stage) (after_loss found view)
   lost_role true role found = let keeper = role.2 in absurd (cc)
   lost_role false role found = ap (after_loss found)
       (role ∙ ap (Session plan.levels (record { number = number; calls = calls; trail = trail }))
       is)
 
   held_here : IsOnWay under plan number held
-  held_here = some_has (IsOnWay under plan number) ascent held is sound.climb
+  held_here = some_has (IsOnWay under plan number) ascent held is sound.on_way
 
   -- what the fields are to the view after a won exchange
   pub won_sound : (tried : Try) → try_of held.stage ≡ Some tried → (made : List Install)
@@ -201,12 +151,12 @@ module _ (under : ℕ → ℕ → Type 0) (keeps : Bool) (plan : Plan) (number :
         planned = sound.planned;
         number_in = sound.number_in;
         role = won_role keeps sound.role tried e;
-        climb = risen_on_way under plan number held
+        on_way = risen_on_way under plan number held
             (suc (stamp_in tried.parent)) sound.planned held_here;
       })
 
   -- and after a lost one
-  pub lost_sound : (found : ℕ) (next : Option Ascent) → next ≡ climb_lost held found held.stage
+  pub lost_sound : (found : ℕ) (next : Option Ascent) → next ≡ ascent_lost held found held.stage
       → (after : View) → after ≡ after_loss found view
       → IsSound under keeps plan number calls trail next after
   lost_sound found next next_is after after_is =
@@ -215,7 +165,7 @@ module _ (under : ℕ → ℕ → Type 0) (keeps : Bool) (plan : Plan) (number :
         planned = sound.planned;
         number_in = sound.number_in;
         role = lost_role keeps sound.role found;
-        climb = lost_on_way under plan number held found sound.planned held_here held.stage refl;
+        on_way = lost_on_way under plan number held found sound.planned held_here held.stage refl;
       })
 
   pub won_room : (spare made call_room won install_room wins : ℕ) (next : Option Ascent) (stamp : ℕ)
@@ -231,7 +181,7 @@ module _ (under : ℕ → ℕ → Type 0) (keeps : Bool) (plan : Plan) (number :
       let few = h.installs in record { calls = h.calls; installs = omega arith }
 
   pub lost_room : (spare made call_room won install_room found : ℕ) (next : Option Ascent)
-      → next ≡ climb_lost held found held.stage
+      → next ≡ ascent_lost held found held.stage
       → HasRoom plan.levels spare made call_room won install_room ascent
       → HasRoom plan.levels spare made call_room won install_room next
   lost_room spare made call_room won install_room found next next_is h =
@@ -239,7 +189,7 @@ module _ (under : ℕ → ℕ → Type 0) (keeps : Bool) (plan : Plan) (number :
       let was : levels_left plan.levels ascent ≡ levels_left plan.levels (Some held) =
       ap (levels_left plan.levels) is in
       let now : levels_left plan.levels next ≡ levels_left plan.levels
-      (climb_lost held found held.stage) = ap (levels_left plan.levels) next_is in
+      (ascent_lost held found held.stage) = ap (levels_left plan.levels) next_is in
       let few = h.installs in record { calls = h.calls; installs = omega arith }
 
 -- the table has a word
@@ -270,7 +220,7 @@ split_sound under true plan number calls trail ascent view sound levels given jo
             ∙ (ap keeper_after_split sound.role.2 ∙ ap (λ (n : ℕ). Keeper plan.levels n sound.role.1)
             (let more : suc number ≡ number + 1 = omega arith in more)),
       );
-      climb = subst (λ (o : Option Ascent). IfSome o (IsOnWay under plan (number + 1)))
+      on_way = subst (λ (o : Option Ascent). IfSome o (IsOnWay under plan (number + 1)))
           (sym sound.role.0) tt;
     }
 split_sound under false plan number calls trail ascent view sound levels given joined e after
@@ -285,30 +235,3 @@ keeper_number under true plan number calls trail ascent view sound levels given 
     let role = sound.role.2 in cc
 keeper_number under false plan number calls trail ascent view sound levels given joined e =
     let role = sound.role in absurd (cc)
-
--- the place of any node of a climb's tree lies in the table
-pub node_place_in : (plan own : Plan) (x : Ascent) → own ≡ plan → IsStanding own x
-    → (node levels place words : ℕ) → node < 2 * (x.node / 2) + 2 → levels ≡ plan.levels
-    → place ≡ place_of levels x.tree node → words ≡ plan.trees * (2 * 2 ^ plan.levels)
-    → place < words
-node_place_in plan own x same h node levels place words below e place_is words_is =
-    let stands : IsStanding plan x = subst (λ (p : Plan). IsStanding p x) same h in
-    let high = stands.high in
-    let here : place ≡ place_of plan.levels x.tree node = place_is
-    ∙ ap (λ (n : ℕ). place_of n x.tree node) e in
-    subst (λ (p : ℕ × ℕ). p.0 < p.1) (λ i. (sym here i, sym words_is i))
-    (place-in plan.levels plan.trees x.tree node stands.tree (omega arith))
-
--- a call that is spare has its room
-pub called_room : (levels spare made call_room won install_room : ℕ) (leaf : Option Ascent)
-    → levels_left levels leaf ≤ levels → 1 ≤ spare
-    → HasRoom levels spare made call_room won install_room None
-    → HasRoom levels (spare - 1) (made + 1) call_room won install_room leaf
-called_room levels spare made call_room won install_room leaf few some_spare h =
-    let calls = h.calls in let installs = h.installs in
-    let more : levels * (spare - 1) + levels ≡ levels * spare = let back : suc (spare - 1) ≡ spare =
-    omega arith in (mul_suc levels (spare - 1) ∙ ap (λ (n : ℕ). levels * n) back) in
-    record { calls = omega arith; installs = omega arith }
-  where
-    mul_suc : (a b : ℕ) → a * b + a ≡ a * suc b
-    mul_suc a b = omega arith

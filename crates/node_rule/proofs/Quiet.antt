@@ -1,4 +1,4 @@
--- A step that changes no word, and of the views only the caller's climb.
+-- A step that changes no word, and of the views only the caller's ascent.
 use Rattle.std.proofs.Common.{◌≡◌, ◌≢◌, ℕ, ◌<◌, ◌≤◌, List, set, Option, refl, sym, ◌∙◌, subst, ⊎_elim}
 use mathlib.Core.Option.{some}
 use lib.ListN.{get_elem?}
@@ -124,7 +124,7 @@ keeps_sums plan words views seat v w h at sums numbers mine others itself =
       numbers = numbers-same plan views seat v w at numbers h.numbers;
     }
 
--- A caller's new climb keeps the stamp part where the climb itself is in order and in order with
+-- A caller's new ascent keeps the stamp part where the ascent itself is in order and in order with
 -- every other
 pub keeps_quietly : (plan : Plan) (words : List ℕ) (views : List View) (seat levels : ℕ)
     (track : Track) (before after : Option Ascent)

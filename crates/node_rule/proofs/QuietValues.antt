@@ -15,11 +15,11 @@ use Rattle.node_rule.specs.declared.view.Plan.{Plan}
 use Rattle.node_rule.specs.Views.{tracks_of, try_of, staged, try_at, with_left, with_right, risen, pick, moved}
 use Rattle.node_rule.specs.Sums.{total, seen_in, post_of}
 use Rattle.node_rule.specs.Fronts.{board_of, IsDeep, word_at, leaf_value, value_of, value_at}
-use Rattle.node_rule.specs.StampPart.{IsClimb, IsStamped}
+use Rattle.node_rule.specs.StampPart.{IsAscent, IsStamped}
 use Rattle.node_rule.specs.ValuePart.{HasValues, IsViewValued, IsValued}
 use Rattle.node_rule.proofs.SumLemmas.{total-same}
 use Rattle.node_rule.proofs.Quiet.{each-set}
-use Rattle.node_rule.proofs.Values.{child-deep, climb-deep}
+use Rattle.node_rule.proofs.Values.{child-deep, ascent-deep}
 
 -- Views from which every value comes out the same
 pub record SameValues (v w : View) : Type 0 where
@@ -67,14 +67,14 @@ module _ (plan : Plan) (unit cap : ℕ) (join : ℕ → ℕ → ℕ) (words : Li
   seated stage = get_elem? views seat ≡ some (Session levels track (Some (staged x stage)))
 
   abbrev valued : Option Ascent → Type 0
-  valued climb = IsValued plan unit cap join words (set views seat (Session levels track climb))
+  valued ascent = IsValued plan unit cap join words (set views seat (Session levels track ascent))
 
-  -- a climb whose words have their values
-  climb_valued : (stage : Stage) (climb : Option Ascent) → IsValued plan unit cap join words views
-      → seated stage → IfSome climb (λ y. IfSome (try_of y.stage)
-      (HasValues plan cap value' y.tree y.height y.node)) → valued climb
-  climb_valued stage climb h at loaded = keeps_values plan unit cap join words views seat
-      (Session levels track (Some (staged x stage))) (Session levels track climb) at
+  -- an ascent whose words have their values
+  ascent_valued : (stage : Stage) (ascent : Option Ascent) → IsValued plan unit cap join words views
+      → seated stage → IfSome ascent (λ y. IfSome (try_of y.stage)
+      (HasValues plan cap value' y.tree y.height y.node)) → valued ascent
+  ascent_valued stage ascent h at loaded = keeps_values plan unit cap join words views seat
+      (Session levels track (Some (staged x stage))) (Session levels track ascent) at
       (record { seen = λ tree child stamp. refl; posts = λ number tree index. refl }) h
       (record {
         loaded = loaded;
@@ -84,9 +84,9 @@ module _ (plan : Plan) (unit cap : ℕ) (join : ℕ → ℕ → ℕ) (words : Li
 
   module _ (s : IsStamped plan words views) (h : IsValued plan unit cap join words views) where
     stands : (stage : Stage) → seated stage
-        → IsClimb plan (board_of plan.levels words views) track.number (staged x stage)
+        → IsAscent plan (board_of plan.levels words views) track.number (staged x stage)
     stands stage at = (s.each seat (Session levels track
-        (Some (staged x stage))) at).1.present.climbs
+        (Some (staged x stage))) at).1.present.ascends
 
     -- the parent's word now, and a child's
     pub parent_word : (stage : Stage) → seated stage → (word : ℕ)
@@ -94,7 +94,7 @@ module _ (plan : Plan) (unit cap : ℕ) (join : ℕ → ℕ → ℕ) (words : Li
         → value_in word ≡ value' x.tree (suc x.height) (x.node / 2) (stamp_in word)
     parent_word stage at word now =
         let is = stands stage at in
-        let deep = climb-deep plan (board_of plan.levels words views) track.number
+        let deep = ascent-deep plan (board_of plan.levels words views) track.number
         (staged x stage) s.planned (s.each seat
         (Session levels track (Some (staged x stage))) at).1.past.number is in
         let depth : ℕ = plan.levels - suc x.height in
@@ -107,7 +107,7 @@ module _ (plan : Plan) (unit cap : ℕ) (join : ℕ → ℕ → ℕ) (words : Li
         → value_in word ≡ value' x.tree x.height child (stamp_in word)
     child_word stage at child word low high now =
         let is = stands stage at in
-        let deep = climb-deep plan (board_of plan.levels words views) track.number
+        let deep = ascent-deep plan (board_of plan.levels words views) track.number
         (staged x stage) s.planned (s.each seat
         (Session levels track (Some (staged x stage))) at).1.past.number is in
         let depth : ℕ = plan.levels - suc x.height in
@@ -119,13 +119,13 @@ module _ (plan : Plan) (unit cap : ℕ) (join : ℕ → ℕ → ℕ) (words : Li
     pub first_load_valued : (word : ℕ) → seated Fresh
         → word ≡ word_at plan.levels words x.tree (x.node / 2)
         → valued (Some (staged x (First (try_at word))))
-    first_load_valued word at now = climb_valued Fresh (Some (staged x (First (try_at word)))) h at
+    first_load_valued word at now = ascent_valued Fresh (Some (staged x (First (try_at word)))) h at
         (record { parent = parent_word Fresh at word now; left = tt; right = tt })
 
     pub second_load_valued : (first word : ℕ) → seated (Lost first)
         → word ≡ word_at plan.levels words x.tree (x.node / 2)
         → valued (Some (staged x (Second first (try_at word))))
-    second_load_valued first word at now = climb_valued (Lost first)
+    second_load_valued first word at now = ascent_valued (Lost first)
         (Some (staged x (Second first (try_at word)))) h at
         (record { parent = parent_word (Lost first) at word now; left = tt; right = tt })
 
@@ -134,7 +134,7 @@ module _ (plan : Plan) (unit cap : ℕ) (join : ℕ → ℕ → ℕ) (words : Li
         → valued (Some (staged x (First (with_left y word))))
     load_left_first_valued y word at now = let was =
         (h.each seat (Session levels track (Some (staged x (First y)))) at).loaded in
-        climb_valued (First y) (Some (staged x (First (with_left y word)))) h at
+        ascent_valued (First y) (Some (staged x (First (with_left y word)))) h at
         (record {
           parent = was.parent;
           left =
@@ -148,7 +148,7 @@ module _ (plan : Plan) (unit cap : ℕ) (join : ℕ → ℕ → ℕ) (words : Li
         → valued (Some (staged x (Second first (with_left y word))))
     load_left_second_valued first y word at now = let was =
         (h.each seat (Session levels track (Some (staged x (Second first y)))) at).loaded in
-        climb_valued (Second first y) (Some (staged x (Second first (with_left y word)))) h at
+        ascent_valued (Second first y) (Some (staged x (Second first (with_left y word)))) h at
         (record {
           parent = was.parent;
           left =
@@ -161,7 +161,7 @@ module _ (plan : Plan) (unit cap : ℕ) (join : ℕ → ℕ → ℕ) (words : Li
         → valued (Some (staged x (First (with_right y word))))
     load_right_first_valued y word at now = let was =
         (h.each seat (Session levels track (Some (staged x (First y)))) at).loaded in
-        climb_valued (First y) (Some (staged x (First (with_right y word)))) h at
+        ascent_valued (First y) (Some (staged x (First (with_right y word)))) h at
         (record {
           parent = was.parent;
           left = was.left;
@@ -174,7 +174,7 @@ module _ (plan : Plan) (unit cap : ℕ) (join : ℕ → ℕ → ℕ) (words : Li
         → valued (Some (staged x (Second first (with_right y word))))
     load_right_second_valued first y word at now = let was =
         (h.each seat (Session levels track (Some (staged x (Second first y)))) at).loaded in
-        climb_valued (Second first y) (Some (staged x (Second first (with_right y word)))) h at
+        ascent_valued (Second first y) (Some (staged x (Second first (with_right y word)))) h at
         (record {
           parent = was.parent;
           left = was.left;
@@ -185,12 +185,12 @@ module _ (plan : Plan) (unit cap : ℕ) (join : ℕ → ℕ → ℕ) (words : Li
 
     pub first_lost_valued : (y : Try) → seated (First y)
         → valued (Some (staged x (Lost (stamp_in y.parent))))
-    first_lost_valued y at = climb_valued (First y)
+    first_lost_valued y at = ascent_valued (First y)
         (Some (staged x (Lost (stamp_in y.parent)))) h at tt
 
     pub second_lost_valued : (first : ℕ) (y : Try) (stamp : ℕ) → seated (Second first y)
         → valued (risen x stamp)
-    second_lost_valued first y stamp at = climb_valued (Second first y) (risen x stamp) h at
+    second_lost_valued first y stamp at = ascent_valued (Second first y) (risen x stamp) h at
         (none_loaded (x.node / 2 == 1))
       where
         none_loaded : (top : Bool) → IfSome {T = Ascent} (pick top None (Some (moved x stamp)))

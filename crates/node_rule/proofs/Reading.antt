@@ -102,7 +102,7 @@ module _ (plan : Plan) (words : List ℕ) (views : List View) (seat levels : ℕ
               calls = fits;
               in_order = order;
             };
-            present = record { climbs = tt; idle = is.present.idle; fewer = tt };
+            present = record { ascends = tt; idle = is.present.idle; fewer = tt };
           },
         )
         (λ j u _ _. (fresh_onward levels after None u tt, fresh_back levels after None u tt))

@@ -1,4 +1,4 @@
--- Steps that move the caller's climb to another stage at the same node.
+-- Steps that move the caller's ascent to another stage at the same node.
 use Rattle.std.proofs.Common.{◌≡◌, ℕ, ◌<◌, List, set, Option, Some, None, refl, subst}
 use mathlib.Core.Option.{some}
 use lib.ListN.{get_elem?}
@@ -10,9 +10,9 @@ use Rattle.node_rule.specs.declared.view.Stage.TheVariants.{Fresh, First, Lost, 
 use Rattle.node_rule.specs.declared.view.Track.{Track}
 use Rattle.node_rule.specs.declared.view.Ascent.{Ascent}
 use Rattle.node_rule.specs.declared.view.Plan.{Plan}
-use Rattle.node_rule.specs.Views.{climb_of, first_of, try_of, staged}
+use Rattle.node_rule.specs.Views.{ascent_of, first_of, try_of, staged}
 use Rattle.node_rule.specs.Fronts.{Board, board_of}
-use Rattle.node_rule.specs.StampPart.{IsTry, IsStage, AreRefreshed, IsClimb, IsTrack, IsView, Refreshes, IsStamped}
+use Rattle.node_rule.specs.StampPart.{IsTry, IsStage, AreRefreshed, IsAscent, IsTrack, IsView, Refreshes, IsStamped}
 use Rattle.node_rule.proofs.Quiet.{keeps_quietly}
 
 pub stage_try : (plan : Plan) (b : Board) (tree node held : ℕ) (stage : Stage)
@@ -22,25 +22,25 @@ stage_try plan b tree node held (First y) h = h
 stage_try plan b tree node held (Lost s) h = tt
 stage_try plan b tree node held (Second s y) h = h.1
 
--- what holds of each climb that is in order holds of the view's climb
-pub view_climb : (plan : Plan) (b : Board) (P : Ascent → Type 0) (u : View) → IsView plan b u
-    → ((number : ℕ) (y : Ascent) → number < plan.sessions → IsClimb plan b number y
-    → climb_of u ≡ Some y → P y) → IfSome (climb_of u) P
-view_climb plan b P (Keeper levels given joined) h f = tt
-view_climb plan b P (Session levels track None) h f = tt
-view_climb plan b P (Session levels track (Some y)) h f =
-    f track.number y h.1.past.number h.1.present.climbs refl
-view_climb plan b P Spent h f = tt
+-- what holds of each ascent that is in order holds of the view's ascent
+pub view_ascent : (plan : Plan) (b : Board) (P : Ascent → Type 0) (u : View) → IsView plan b u
+    → ((number : ℕ) (y : Ascent) → number < plan.sessions → IsAscent plan b number y
+    → ascent_of u ≡ Some y → P y) → IfSome (ascent_of u) P
+view_ascent plan b P (Keeper levels given joined) h f = tt
+view_ascent plan b P (Session levels track None) h f = tt
+view_ascent plan b P (Session levels track (Some y)) h f =
+    f track.number y h.1.past.number h.1.present.ascends refl
+view_ascent plan b P Spent h f = tt
 
 track_staged : (plan : Plan) (b : Board) (track : Track) (x : Ascent) (stage : Stage)
     → IsTrack plan b track (Some x)
     → IsStage plan b x.tree x.node x.held stage
     → AreRefreshed plan b x.tree x.node x.held (first_of stage)
     → IsTrack plan b track (Some (staged x stage))
-track_staged plan b track x stage h in_order refreshed = let c = h.present.climbs in record {
+track_staged plan b track x stage h in_order refreshed = let c = h.present.ascends in record {
   past = h.past;
   present = record {
-    climbs = record {
+    ascends = record {
       tree = c.tree;
       height = c.height;
       node = c.node;
@@ -59,15 +59,15 @@ pub there_of : (P : Option Ascent → Type 0) (o : Option Ascent) (y : Ascent) �
     → P (Some y)
 there_of P o y e p = subst P e p
 
--- A new stage keeps the stamp part where it is in order, and in order with each other climb
+-- A new stage keeps the stamp part where it is in order, and in order with each other ascent
 pub keeps_staged : (plan : Plan) (words : List ℕ) (views : List View) (seat levels : ℕ)
     (track : Track) (x : Ascent) (stage : Stage)
     → (h : IsStamped plan words views) → get_elem? views seat ≡ some (Session levels track (Some x))
     → IsStage plan (board_of plan.levels words views) x.tree x.node x.held stage
     → AreRefreshed plan (board_of plan.levels words views) x.tree x.node x.held (first_of stage)
-    → ((number : ℕ) (y : Ascent) → IsClimb plan (board_of plan.levels words views) number y
+    → ((number : ℕ) (y : Ascent) → IsAscent plan (board_of plan.levels words views) number y
     → Refreshes x y → Refreshes (staged x stage) y)
-    → ((number : ℕ) (y : Ascent) → IsClimb plan (board_of plan.levels words views) number y
+    → ((number : ℕ) (y : Ascent) → IsAscent plan (board_of plan.levels words views) number y
     → Refreshes y x → Refreshes y (staged x stage))
     → (Refreshes x x → Refreshes (staged x stage) (staged x stage))
     → IsStamped plan words (set views seat (Session levels track (Some (staged x stage))))
@@ -77,13 +77,13 @@ keeps_staged plan words views seat levels track x stage h at in_order refreshed 
     keeps_quietly plan words views seat levels track (Some x) (Some (staged x stage)) h at
     (track_staged plan b track x stage (h.each seat v at).1 in_order refreshed)
     (λ j u apart there. (
-      view_climb plan b (λ y. Refreshes (staged x stage) y) u (h.each j u there)
+      view_ascent plan b (λ y. Refreshes (staged x stage) y) u (h.each j u there)
           (λ number y _ is same. onward number y is
-          (there_of (λ o. IfSome o (λ z. Refreshes x z)) (climb_of u) y same
+          (there_of (λ o. IfSome o (λ z. Refreshes x z)) (ascent_of u) y same
           (h.pairs seat j v u at there))),
-      view_climb plan b (λ y. Refreshes y (staged x stage)) u (h.each j u there)
+      view_ascent plan b (λ y. Refreshes y (staged x stage)) u (h.each j u there)
           (λ number y _ is same. back number y is
-          (there_of (λ o. IfSome o (λ z. Refreshes z x)) (climb_of u) y same
+          (there_of (λ o. IfSome o (λ z. Refreshes z x)) (ascent_of u) y same
           (h.pairs j seat u v there at))),
     ))
     (itself (h.pairs seat seat v v at at))

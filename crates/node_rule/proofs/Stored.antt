@@ -24,9 +24,9 @@ use Rattle.node_rule.specs.StampPart.{IsGrown, IsCall, IsPast, IsPresent, IsTrac
 use Rattle.node_rule.proofs.Tree.{IsLater, ancestor-root}
 use Rattle.node_rule.proofs.SumLemmas.{over-set}
 use Rattle.node_rule.proofs.Quiet.{numbers-same, pairs-set}
-use Rattle.node_rule.proofs.Stages.{view_climb}
+use Rattle.node_rule.proofs.Stages.{view_ascent}
 use Rattle.node_rule.proofs.Children.{in_levels}
-use Rattle.node_rule.proofs.Later.{IsInner, climb_inner, ReadsNew, call_later, idle_later, view_later}
+use Rattle.node_rule.proofs.Later.{IsInner, ascent_inner, ReadsNew, call_later, idle_later, view_later}
 use Rattle.node_rule.proofs.Arrival.{fresh_onward, fresh_back}
 use Rattle.node_rule.proofs.Places.{word-set_same, word-set_other}
 use Rattle.node_rule.proofs.CallLists.{at_end, take-shorter, posted-post, posted-else}
@@ -47,11 +47,11 @@ module _ (plan : Plan) (words : List ℕ) (views : List View) (seat levels : ℕ
   abbrev pub before : View
   before = Session levels track None
 
-  abbrev pub climb : Option Ascent
-  climb = started plan.levels tree leaf (suc (posts_in tree track))
+  abbrev pub ascent : Option Ascent
+  ascent = started plan.levels tree leaf (suc (posts_in tree track))
 
   abbrev pub after : View
-  after = Session levels post climb
+  after = Session levels post ascent
 
   abbrev pub next_words : List ℕ
   next_words = slice_set words (place_of plan.levels tree leaf) word
@@ -199,7 +199,7 @@ module _ (plan : Plan) (words : List ℕ) (views : List View) (seat levels : ℕ
           stage = Fresh;
         })))
     present_at true e = record {
-      climbs = tt;
+      ascends = tt;
       idle = λ t t_in _. dite (ℕ_discrete t tree)
           (λ p. subst (λ (n : ℕ). cover (c.seen n) leaf plan.levels
           (c.stamp n 1) ≡ c.posts track.number n) (sym p)
@@ -208,7 +208,7 @@ module _ (plan : Plan) (words : List ℕ) (views : List View) (seat levels : ℕ
       fewer = tt;
     }
     present_at false e = record {
-      climbs = record {
+      ascends = record {
         tree = tree_in;
         height = let some_level : plan.levels ≢ 0 = eqb-false plan.levels 0 e in omega arith;
         node = refl;
@@ -270,17 +270,17 @@ module _ (plan : Plan) (words : List ℕ) (views : List View) (seat levels : ℕ
           view_later plan b c h.planned h.grown later grown u
           (apart_posts (tracks_of u)
           (others_apart plan views h.numbers seat levels track None at j u a.0 a.1))
-          (view_climb plan b (ReadsNew plan b c h.planned h.grown later) u (h.each j u a.1)
-          (λ number y number_in is_climb _. reads_new y
-          (climb_inner plan b number y h.planned number_in is_climb)))
+          (view_ascent plan b (ReadsNew plan b c h.planned h.grown later) u (h.each j u a.1)
+          (λ number y number_in is_ascent _. reads_new y
+          (ascent_inner plan b number y h.planned number_in is_ascent)))
           (h.each j u a.1))
           (at_set views seat j after u e);
       pairs = pairs-set views seat after h.pairs
           (λ j u _ _. (
-            fresh_onward levels post climb u (fresh_at (plan.levels == 0)),
-            fresh_back levels post climb u (fresh_at (plan.levels == 0)),
+            fresh_onward levels post ascent u (fresh_at (plan.levels == 0)),
+            fresh_back levels post ascent u (fresh_at (plan.levels == 0)),
           ))
-          (fresh_onward levels post climb after (fresh_at (plan.levels == 0)));
+          (fresh_onward levels post ascent after (fresh_at (plan.levels == 0)));
       numbers = numbers-same plan views seat before after at
           (record {
             stands = λ number. refl;

@@ -7,7 +7,7 @@ use Rattle.fold_law.specs.Laws.{FoldLaws}
 use Rattle.node_rule.specs.declared.view.Ascent.{Ascent}
 use Rattle.node_rule.specs.declared.view.Plan.{Plan}
 use Rattle.node_rule.specs.Fronts.{Board, IsDeep, value_of}
-use Rattle.node_rule.specs.StampPart.{IsPlan, IsGrown, IsClimb}
+use Rattle.node_rule.specs.StampPart.{IsPlan, IsGrown, IsAscent}
 use Rattle.node_rule.proofs.Tree.{IsLater, deep-within, leaf-deep, ancestor-deep}
 use Rattle.node_rule.proofs.Children.{in_levels}
 
@@ -17,11 +17,11 @@ child-deep depth node child h low high = let twice : 2 ^ suc depth ≡ 2 ^ depth
     two-pow-succ depth in let l = h.low in let g = h.high in
     record { low = omega arith; high = omega arith }
 
--- where a climb and its parent stand
-pub climb-deep : (plan : Plan) (b : Board) (number : ℕ) (x : Ascent) → IsPlan plan
-    → number < plan.sessions → IsClimb plan b number x
+-- where an ascent and its parent stand
+pub ascent-deep : (plan : Plan) (b : Board) (number : ℕ) (x : Ascent) → IsPlan plan
+    → number < plan.sessions → IsAscent plan b number x
     → IsDeep (plan.levels - suc x.height) (x.node / 2)
-climb-deep plan b number x planned number_in h =
+ascent-deep plan b number x planned number_in h =
     let session_in = in_levels number_in planned.sessions in
     let depth : ℕ = plan.levels - suc x.height in
     let same : depth + suc x.height ≡ plan.levels = let lt = h.height in omega arith in

@@ -14,15 +14,15 @@ use Rattle.node_rule.specs.declared.view.Try.{Try}
 use Rattle.node_rule.specs.declared.view.Install.{Install}
 use Rattle.node_rule.specs.declared.view.Ascent.{Ascent}
 use Rattle.node_rule.specs.declared.view.Plan.{Plan}
-use Rattle.node_rule.specs.Views.{installed, tracks_of, climb_of, first_of, child_in, pick, is_left, staged, risen}
+use Rattle.node_rule.specs.Views.{installed, tracks_of, ascent_of, first_of, child_in, pick, is_left, staged, risen}
 use Rattle.node_rule.specs.Sums.{Each, when, is_at, installs_in, posts_in}
 use Rattle.node_rule.specs.Fronts.{Board, board_of, ancestor, cover}
-use Rattle.node_rule.specs.StampPart.{IsAbove, IsGrown, IsLoaded, IsTry, IsClimb, IsPast, IsPresent, IsTrack, IsView, Refreshes, IsStamped}
+use Rattle.node_rule.specs.StampPart.{IsAbove, IsGrown, IsLoaded, IsTry, IsAscent, IsPast, IsPresent, IsTrack, IsView, Refreshes, IsStamped}
 use Rattle.node_rule.proofs.Tree.{IsLater, ancestor-within, cover_rises, cover_below, cover_stays}
 use Rattle.node_rule.proofs.Quiet.{numbers-same, pairs-set}
-use Rattle.node_rule.proofs.Stages.{stage_try, view_climb, there_of}
+use Rattle.node_rule.proofs.Stages.{stage_try, view_ascent, there_of}
 use Rattle.node_rule.proofs.Children.{IsTrying, left_child, right_child, in_levels, below_levels}
-use Rattle.node_rule.proofs.Later.{IsInner, climb_inner, ReadsNew, call_later, idle_later, view_later}
+use Rattle.node_rule.proofs.Later.{IsInner, ascent_inner, ReadsNew, call_later, idle_later, view_later}
 use Rattle.node_rule.proofs.Arrival.{arrives, fresh_onward, fresh_back, risen_fresh}
 use Rattle.node_rule.proofs.Adding.{located-none, located-some, trail-add}
 use Rattle.node_rule.proofs.Installed.{IsInstalled, here_or, old_or_new, board-installed, grown_installed, later_installed}
@@ -102,11 +102,11 @@ module _ (plan : Plan) (words : List ℕ) (views : List View) (seat levels : ℕ
     pub is : IsTrack plan b track (Some (staged x (make full)))
     is = (h.each seat before at).1
 
-    pub mine : IsClimb plan b track.number (staged x (make full))
-    mine = is.present.climbs
+    pub mine : IsAscent plan b track.number (staged x (make full))
+    mine = is.present.ascends
 
     pub inner : IsInner plan (staged x (make full))
-    inner = climb_inner plan b track.number (staged x (make full)) h.planned is.past.number mine
+    inner = ascent_inner plan b track.number (staged x (make full)) h.planned is.past.number mine
 
     pub try : IsTry plan b x.tree x.node x.held full
     try = subst (λ (o : Option Try). IfSome o (IsTry plan b x.tree x.node x.held))
@@ -154,7 +154,7 @@ module _ (plan : Plan) (words : List ℕ) (views : List View) (seat levels : ℕ
         grown_installed plan b c x.tree (x.node / 2) (stamp_in left)
         (stamp_in right) change h.grown mine.tree (omega arith) (omega arith) newer within
 
-    -- where another climb asks it of the new install, the try has told that climb
+    -- where another ascent asks it of the new install, the try has told that ascent
     reads_new : (u : Ascent) → 2 ≤ u.node → u.node < 2 * 2 ^ plan.levels
         → Refreshes u (staged x (make full)) → ReadsNew plan b c h.planned h.grown later u
     reads_new u low high told = with_first (first_of u.stage)
@@ -221,7 +221,7 @@ module _ (plan : Plan) (words : List ℕ) (views : List View) (seat levels : ℕ
       in_order = is.past.in_order;
     }
 
-    -- the new stamp covers what the loaded stamp of the climb's node covers
+    -- the new stamp covers what the loaded stamp of the ascent's node covers
     covers : cover (c.seen x.tree) (leaf_of plan.levels track.number) (suc x.height)
         (suc (stamp_in parent)) ≡ c.posts track.number x.tree
     covers =
@@ -300,11 +300,11 @@ module _ (plan : Plan) (words : List ℕ) (views : List View) (seat levels : ℕ
             view_later plan b c h.planned h.grown later grown u
             (each_all (λ (t : Track). (tree : ℕ) → c.posts t.number tree ≡ b.posts t.number tree)
             (tracks_of u) (λ t tree. change.posts t.number tree))
-            (view_climb plan b (ReadsNew plan b c h.planned h.grown later) u (h.each j u a.1)
-            (λ number y number_in climb same. let stands =
-            climb_inner plan b number y h.planned number_in climb in
+            (view_ascent plan b (ReadsNew plan b c h.planned h.grown later) u (h.each j u a.1)
+            (λ number y number_in ascent same. let stands =
+            ascent_inner plan b number y h.planned number_in ascent in
             reads_new y stands.low stands.high
             (there_of (λ o. IfSome o (λ z. Refreshes z (staged x (make full))))
-            (climb_of u) y same (h.pairs j seat u before a.1 at))))
+            (ascent_of u) y same (h.pairs j seat u before a.1 at))))
             (h.each j u a.1))
             (at_set views seat j after u e)

@@ -16,14 +16,14 @@ use Rattle.node_rule.specs.declared.view.Plan.{Plan}
 use Rattle.node_rule.specs.Views.{tracks_of, try_of, pick, is_left, staged, moved}
 use Rattle.node_rule.specs.Sums.{total, post_of}
 use Rattle.node_rule.specs.Fronts.{Board, IsDeep, word_at, leaf_value, value_at}
-use Rattle.node_rule.specs.StampPart.{IsClimb, IsTry, IsStamped}
+use Rattle.node_rule.specs.StampPart.{IsAscent, IsTry, IsStamped}
 use Rattle.node_rule.specs.ValuePart.{HasValues, IsViewValued, IsValued}
 use Rattle.node_rule.proofs.SumLemmas.{total-same}
 use Rattle.node_rule.proofs.Children.{IsTrying}
 use Rattle.node_rule.proofs.Places.{word-set_same, word-set_other}
 use Rattle.node_rule.proofs.Installed.{here_or}
 use Rattle.node_rule.proofs.Tree.{deep-within}
-use Rattle.node_rule.proofs.Values.{child-deep, climb-deep, value_stays}
+use Rattle.node_rule.proofs.Values.{child-deep, ascent-deep, value_stays}
 use Rattle.node_rule.proofs.LaterValues.{calls_later, view_values_later}
 use Rattle.node_rule.proofs.Won.{full, before, after, b, c, next_words, is, mine, try, change, later, inner}
 
@@ -92,7 +92,7 @@ module _ (plan : Plan) (unit cap : ℕ) (join : ℕ → ℕ → ℕ) (words : Li
         (leaf_value plan.levels unit views' tree)
         (λ n k _ _. leaf_same tree n k) height depth node stamp e deep reached
 
-    here : IsClimb plan board track.number
+    here : IsAscent plan board track.number
         (staged x (make (full plan words views seat levels track x make parent left right word)))
     here = mine plan words views seat levels track x make parent left right word trying s at now
         word_is
@@ -110,7 +110,7 @@ module _ (plan : Plan) (unit cap : ℕ) (join : ℕ → ℕ → ℕ) (words : Li
         word_is
 
     deep : IsDeep (plan.levels - suc x.height) (x.node / 2)
-    deep = climb-deep plan board track.number
+    deep = ascent-deep plan board track.number
         (staged x (make (full plan words views seat levels track x make parent left right word)))
         s.planned (s.each seat
         (before plan words views seat levels track x make parent left right word) at).1.past.number

@@ -16,7 +16,7 @@ use Rattle.node_rule.specs.declared.view.Ascent.{Ascent}
 use Rattle.node_rule.specs.declared.view.Plan.{Plan}
 use Rattle.risk_board.specs.declared.hand.Call.{Call}
 use Rattle.risk_board.specs.declared.hand.Call.TheVariants.{Post, Read}
-use Rattle.node_rule.specs.Views.{climb_of, given_of, keepers_of, first_of, try_of, child_in, IsIdleIn}
+use Rattle.node_rule.specs.Views.{ascent_of, given_of, keepers_of, first_of, try_of, child_in, IsIdleIn}
 use Rattle.node_rule.specs.Sums.{Each, total, over, posted, posts_in, installs_in, stands_in}
 use Rattle.node_rule.specs.Fronts.{Board, board_of, ancestor, cover}
 
@@ -56,9 +56,9 @@ module _ (plan : Plan) (b : Board) where
     pub below : (tree child stamp : ℕ) → tree < plan.trees → 2 ≤ child → child < 2 * 2 ^ plan.levels
         → stamp ≤ b.stamp tree (child / 2) → b.seen tree child stamp ≤ b.stamp tree child
 
-  -- Of a climb in this tree at this node, that holds this stamp of it. A loaded word of a child is
-  -- no newer than the child, no older than what the install of the loaded parent stamp read, and at
-  -- the climb's own node no older than what it holds
+  -- Of an ascent in this tree at this node, that holds this stamp of it. A loaded word of a child
+  -- is no newer than the child, no older than what the install of the loaded parent stamp read, and
+  -- at the ascent's own node no older than what it holds
   pub record IsLoaded (tree node held parent child word : ℕ) : Type 0 where
     pub reached : stamp_in word ≤ b.stamp tree child
     pub newer : b.seen tree child (stamp_in parent) ≤ stamp_in word
@@ -79,13 +79,13 @@ module _ (plan : Plan) (b : Board) where
   IsStage tree node held (Second s y) = (s < stamp_in y.parent) × IsTry tree node held y
 
   -- the installs of the parent from the second one after the first load on have read the node at
-  -- what the climb holds or later
+  -- what the ascent holds or later
   abbrev pub AreRefreshed : ℕ → ℕ → ℕ → Option ℕ → Type 0
   AreRefreshed tree node held first = IfSome first (λ s. (stamp : ℕ) → s + 2 ≤ stamp
       → stamp ≤ b.stamp tree (node / 2) → held ≤ b.seen tree node stamp)
 
-  -- A climb of the session with this number
-  pub record IsClimb (number : ℕ) (x : Ascent) : Type 0 where
+  -- An ascent of the session with this number
+  pub record IsAscent (number : ℕ) (x : Ascent) : Type 0 where
     pub tree : x.tree < plan.trees
     pub height : x.height < plan.levels
     pub node : x.node ≡ ancestor (leaf_of plan.levels number) x.height
@@ -122,39 +122,39 @@ module _ (plan : Plan) (b : Board) where
         → get_elem? track.calls l ≡ some (Read tree t w) → s ≤ t
 
   -- What it has in hand
-  pub record IsPresent (track : Track) (climb : Option Ascent) : Type 0 where
-    pub climbs : IfSome climb (IsClimb track.number)
-    -- in a tree without a climb in hand the root covers all of the session's posts
-    pub idle : (tree : ℕ) → tree < plan.trees → IsIdleIn tree climb
+  pub record IsPresent (track : Track) (ascent : Option Ascent) : Type 0 where
+    pub ascends : IfSome ascent (IsAscent track.number)
+    -- in a tree without an ascent in hand the root covers all of the session's posts
+    pub idle : (tree : ℕ) → tree < plan.trees → IsIdleIn tree ascent
         → cover (b.seen tree) (leaf_of plan.levels track.number) plan.levels
         (b.stamp tree 1) ≡ b.posts track.number tree
-    -- at the nodes above its climb it has fewer installs than posts
-    pub fewer : IfSome climb (λ x. (height : ℕ) → x.height < height → height ≤ plan.levels
+    -- at the nodes above its ascent it has fewer installs than posts
+    pub fewer : IfSome ascent (λ x. (height : ℕ) → x.height < height → height ≤ plan.levels
         → installs_in x.tree (ancestor (leaf_of plan.levels track.number) height) track < posts_in
         x.tree track)
 
   -- a session: what it did, and what it has in hand
-  pub record IsTrack (track : Track) (climb : Option Ascent) : Type 0 where
+  pub record IsTrack (track : Track) (ascent : Option Ascent) : Type 0 where
     pub past : IsPast track
-    pub present : IsPresent track climb
+    pub present : IsPresent track ascent
 
   -- a seat's view; a spent one says nothing
   abbrev pub IsView : View → Type 0
   IsView (Keeper levels given joined) = (levels ≡ plan.levels)
       × Each (λ track. IsTrack track None) joined
-  IsView (Session levels track climb) = (levels ≡ plan.levels) × IsTrack track climb
+  IsView (Session levels track ascent) = (levels ≡ plan.levels) × IsTrack track ascent
   IsView Spent = Unit {0}
 
--- A climb whose try loaded the parent of x's node above the stamp of x's first load, and then x's
+-- An ascent whose try loaded the parent of x's node above the stamp of x's first load, and then x's
 -- node, loaded that at what x holds or later
 abbrev pub Refreshes : Ascent → Ascent → Type 0
 Refreshes x y = x.tree ≡ y.tree → x.node / 2 ≡ y.node / 2
     → IfSome (first_of x.stage) (λ s. IfSome (try_of y.stage) (λ z. s < stamp_in z.parent
     → IfSome (child_in z x.node) (λ word. x.held ≤ stamp_in word)))
 
--- the same of the climbs that two views have in hand, where they have one
+-- the same of the ascends that two views have in hand, where they have one
 abbrev pub RefreshesAny : View → View → Type 0
-RefreshesAny v w = IfSome (climb_of v) (λ x. IfSome (climb_of w) (λ y. Refreshes x y))
+RefreshesAny v w = IfSome (ascent_of v) (λ x. IfSome (ascent_of w) (λ y. Refreshes x y))
 
 -- The numbers: those below the keeper's count stand once each, and no other stands
 pub record AreNumbered (plan : Plan) (views : List View) : Type 0 where

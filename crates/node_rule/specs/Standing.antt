@@ -28,14 +28,14 @@ pub record Forested : Type 0 where
   pub table : TableId
   pub plan : Plan
 
--- a climb: the table that it is of, the plan, the seat's view, for how many calls there is room, and
--- how many steps the seat made on the table's words
+-- a climb, which is a seat with its lists: its table, the plan, its view, for how many calls there
+-- is room, and how many steps it made on the table's words
 pub record Standing : Type 0 where
   pub table : TableId
   pub plan : Plan
   pub view : View
   pub spare : ℕ
-  pub made : ℕ
+  pub steps : ℕ
 
 -- the plan of so many sessions and posts over trees of this shape
 abbrev pub plan_of : ℕ → ℕ → ℕ → ℕ → Plan
@@ -50,7 +50,7 @@ IsOf words climb = (climb.table ≡ words.table) × (climb.plan ≡ words.plan)
 abbrev pub KeepsTable : Standing → Standing → Type 0
 KeepsTable old new = (new.table ≡ old.table) × (new.plan ≡ old.plan)
 
--- all is as before but the view
+-- all is as before but the view and the steps
 abbrev pub KeepsSeat : Standing → Standing → Type 0
 KeepsSeat old new =
     (new.table ≡ old.table) × (new.plan ≡ old.plan) × (new.spare ≡ old.spare)
@@ -83,19 +83,23 @@ HasPostLeft tree c =
     (track : Track) × (c.view ≡ Session c.plan.levels track None)
     × (posts_in tree track < c.plan.quota)
 
--- a climb that stands at a node of a tree, in this stage
+-- a session with this ascent in hand
 abbrev pub IsAt : Standing → Ascent → Type 0
 IsAt c x = (track : Track) × (c.view ≡ Session c.plan.levels track (Some x))
 
--- a climb that has loaded nothing yet for its parent
+-- an ascent that has loaded nothing yet for its parent
 abbrev pub IsFresh : Standing → Type 0
 IsFresh c = (x : Ascent) × IsAt c (staged x Fresh)
 
--- a climb whose first try lost
+-- an ascent whose first try lost
 abbrev pub HasLostOnce : Standing → Type 0
 HasLostOnce c = (x : Ascent) × (first : ℕ) × IsAt c (staged x (Lost first))
 
--- a climb that has loaded the parent for a try
+-- an ascent with no try in hand: it has loaded nothing yet, or lost its first try
+abbrev pub AwaitsParent : Standing → Type 0
+AwaitsParent c = (x : Ascent) × IsAt c x × (try_of x.stage ≡ None)
+
+-- an ascent that has loaded the parent for a try
 abbrev pub HasTry : Standing → Type 0
 HasTry c = (x : Ascent) × IsAt c x × ((y : Try) × (try_of x.stage ≡ Some y))
 
@@ -105,7 +109,7 @@ IsFull stage =
     (parent : ℕ) × (left : ℕ) × (right : ℕ)
     × (try_of stage ≡ Some (record { parent = parent; left = Some left; right = Some right }))
 
--- a climb that has loaded the parent and both its children for a try
+-- an ascent that has loaded the parent and both its children for a try
 abbrev pub HasFullTry : Standing → Type 0
 HasFullTry c = (x : Ascent) × IsAt c x × IsFull x.stage
 
@@ -128,7 +132,7 @@ abbrev pub HasLost : Standing → Standing → Type 0
 HasLost old new =
     (found : ℕ) × (new.view ≡ after_loss found old.view) × IsOther found old.view
 
--- the session has one post more, and its climb begins at its leaf
+-- the session has one post more, and its ascent begins at its leaf
 abbrev pub HasPosted : ℕ → ℕ → Standing → Standing → Type 0
 HasPosted tree value old new =
     (track : Track) × (old.view ≡ Session old.plan.levels track None)
@@ -148,12 +152,11 @@ IsLatestRead tree stamp old =
     (track : Track) × (old.view ≡ Session old.plan.levels track None)
     × ((k s v : ℕ) → get_elem? track.calls k ≡ some (Read tree s v) → s ≤ stamp)
 
--- the climb of the session that the keeper split off
+-- the climb of the session that the keeper split off, which has made no step
 abbrev pub IsDealt : Standing → Standing → Type 0
-IsDealt keeper made =
-    (made.table ≡ keeper.table) × (made.plan ≡ keeper.plan)
-    × (made.view ≡ session_after_split keeper.view) × (made.spare ≡ 0)
-    × (made.made ≡ 0)
+IsDealt keeper new =
+    (new.table ≡ keeper.table) × (new.plan ≡ keeper.plan)
+    × (new.view ≡ session_after_split keeper.view) × (new.spare ≡ 0) × (new.steps ≡ 0)
 
 -- the calls and the installs of a session between two posts
 abbrev pub AreListsOf : Standing → List Call → List Install → Type 0
@@ -169,7 +172,7 @@ pub record IsBounded (under : ℕ → ℕ → Type 0) (height : ℕ) (y : Try) :
   pub left : IfSome y.left (λ word. under (2 ^ height) (value_in word))
   pub right : IfSome y.right (λ word. under (2 ^ height) (value_in word))
 
--- a climb on its way
+-- an ascent on its way
 pub record IsOnWay (under : ℕ → ℕ → Type 0) (plan : Plan) (number : ℕ) (x : Ascent)
     : Type 0 where
   pub number_in : number < plan.sessions
@@ -192,14 +195,14 @@ pub record IsSound (under : ℕ → ℕ → Type 0) (keeps : Bool) (plan : Plan)
   pub planned : IsPlan plan
   pub number_in : keeps ≡ false → number < plan.sessions
   pub role : IsRole keeps plan number calls trail ascent view
-  pub climb : IfSome ascent (IsOnWay under plan number)
+  pub on_way : IfSome ascent (IsOnWay under plan number)
 
--- how many installs a climb may still make
+-- how many installs an ascent may still win
 abbrev pub levels_left : ℕ → Option Ascent → ℕ
 levels_left levels None = 0
 levels_left levels (Some x) = levels - x.height
 
--- room for the calls that are spare, with the installs that they and the climb in hand may make
+-- room for the calls that are spare, with the installs that they and the ascent in hand may win
 pub record HasRoom (levels spare made call_room won install_room : ℕ) (ascent : Option Ascent)
     : Type 0 where
   pub calls : made + spare ≤ call_room

@@ -8,15 +8,15 @@ use Rattle.node_rule.specs.declared.view.Try.{Try}
 use Rattle.node_rule.specs.declared.view.Plan.{Plan}
 use Rattle.risk_board.specs.declared.hand.Call.{Call}
 use Rattle.risk_board.specs.declared.hand.Call.TheVariants.{Post, Read}
-use Rattle.node_rule.specs.Views.{tracks_of, climb_of, try_of}
+use Rattle.node_rule.specs.Views.{tracks_of, ascent_of, try_of}
 use Rattle.node_rule.specs.Sums.{Each}
 use Rattle.node_rule.specs.Fronts.{IsDeep, word_at, value_at}
 use Rattle.node_rule.specs.StampPart.{IsStamped}
 
 -- of a value for each tree, height, node and stamp
 module _ (plan : Plan) (cap : ℕ) (value : ℕ → ℕ → ℕ → ℕ → ℕ) where
-  -- of a climb in this tree, at this height and node: each loaded word has the value of its node at
-  -- its stamp
+  -- of an ascent in this tree, at this height and node: each loaded word has the value of its node
+  -- at its stamp
   pub record HasValues (tree height node : ℕ) (y : Try) : Type 0 where
     pub parent : value_in y.parent ≡ value tree (suc height) (node / 2) (stamp_in y.parent)
     pub left : IfSome y.left (λ word. value_in word ≡ value tree height (2 * (node / 2))
@@ -31,7 +31,7 @@ module _ (plan : Plan) (cap : ℕ) (value : ℕ → ℕ → ℕ → ℕ → ℕ)
 
   -- the loaded words and the calls of a view
   pub record IsViewValued (v : View) : Type 0 where
-    pub loaded : IfSome (climb_of v) (λ x. IfSome (try_of x.stage)
+    pub loaded : IfSome (ascent_of v) (λ x. IfSome (try_of x.stage)
         (HasValues x.tree x.height x.node))
     pub calls : Each (λ track. Each IsCallValued track.calls) (tracks_of v)
 

@@ -14,25 +14,25 @@ use Rattle.node_rule.specs.declared.view.Ascent.{Ascent}
 -- what the sessions of a view did
 abbrev pub tracks_of : View → List Track
 tracks_of (Keeper levels given joined) = joined
-tracks_of (Session levels track climb) = track ∷ []
+tracks_of (Session levels track ascent) = track ∷ []
 tracks_of Spent = []
 
--- the climb that a view has in hand
-abbrev pub climb_of : View → Option Ascent
-climb_of (Keeper levels given joined) = None
-climb_of (Session levels track climb) = climb
-climb_of Spent = None
+-- the ascent that a view has in hand
+abbrev pub ascent_of : View → Option Ascent
+ascent_of (Keeper levels given joined) = None
+ascent_of (Session levels track ascent) = ascent
+ascent_of Spent = None
 
 -- the keeper's count of the numbers given
 abbrev pub given_of : View → ℕ
 given_of (Keeper levels given joined) = given
-given_of (Session levels track climb) = 0
+given_of (Session levels track ascent) = 0
 given_of Spent = 0
 
 -- 1 for the keeper's view
 abbrev pub keepers_of : View → ℕ
 keepers_of (Keeper levels given joined) = 1
-keepers_of (Session levels track climb) = 0
+keepers_of (Session levels track ascent) = 0
 keepers_of Spent = 0
 
 -- the stamp of the first load of the parent
@@ -62,12 +62,12 @@ is_left child = child % 2 == 0
 abbrev pub child_in : Try → ℕ → Option ℕ
 child_in y child = pick (is_left child) y.left y.right
 
--- no climb in hand in this tree
+-- no ascent in hand in this tree
 abbrev pub IsIdleIn : ℕ → Option Ascent → Type 0
 IsIdleIn tree None = Unit {0}
 IsIdleIn tree (Some x) = x.tree ≡ tree → ⊥
 
--- the climb, so far
+-- the ascent, so far
 abbrev pub staged : Ascent → Stage → Ascent
 staged x stage = record x { stage = stage }
 
@@ -83,7 +83,7 @@ with_left y word = record y { left = Some word }
 abbrev pub with_right : Try → ℕ → Try
 with_right y word = record y { right = Some word }
 
--- the climb at the parent, with what it holds of it
+-- the ascent at the parent, with what it holds of it
 abbrev pub moved : Ascent → ℕ → Ascent
 moved x stamp = record {
   tree = x.tree;
@@ -93,7 +93,7 @@ moved x stamp = record {
   stage = Fresh;
 }
 
--- a climb ends at the root
+-- an ascent ends at the root
 abbrev pub risen : Ascent → ℕ → Option Ascent
 risen x stamp = pick (x.node / 2 == 1) None (Some (moved x stamp))
 
@@ -105,7 +105,7 @@ called track call = record track { calls = track.calls ++ call ∷ [] }
 abbrev pub installed : Track → Install → Track
 installed track x = record track { trail = track.trail ++ x ∷ [] }
 
--- the climb of a post at its leaf; with no level above it, there is none
+-- the ascent of a post at its leaf; with no level above it, there is none
 abbrev pub started : ℕ → ℕ → ℕ → ℕ → Option Ascent
 started levels tree leaf stamp = pick (levels == 0) None
     (Some (record { tree = tree; node = leaf; height = 0; held = stamp; stage = Fresh }))

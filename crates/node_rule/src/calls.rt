@@ -34,8 +34,8 @@ fn started_at(levels: u32, tree: u32, leaf: u32, stamp: u32) -> Option<Ascent>
 }
 
 impl<F: Fold> Words<F> {
-    /// Stores a post in the session's leaf, which begins its climb. Where the leaf is the root there
-    /// is none.
+    /// Stores a post in the session's leaf, which begins its ascent. Where the leaf is the root
+    /// there is none.
     pub fn store_leaf<L: Ledger>(
         &self,
         climb: &mut Climb<F>,
@@ -51,7 +51,7 @@ impl<F: Fold> Words<F> {
         ensures table { KeepsTable climb.old climb.new }
         ensures spare { climb.new.spare ≡ climb.old.spare - 1 }
         ensures view { HasPosted tree value climb.old climb.new }
-        ensures counted { climb.new.made ≡ climb.old.made + 1 }
+        ensures own_step { climb.new.steps ≡ climb.old.steps + 1 }
         ensures one_step { steps.new ≡ steps.old + 1 }
     {
         let posts = climb.counts[tree as usize];
@@ -88,7 +88,7 @@ impl<F: Fold> Words<F> {
         ensures spare { climb.new.spare ≡ climb.old.spare - 1 }
         ensures view { HasRead tree result.stamp result.value climb.old climb.new }
         ensures latest { IsLatestRead tree result.stamp climb.old }
-        ensures counted { climb.new.made ≡ climb.old.made + 1 }
+        ensures own_step { climb.new.steps ≡ climb.old.steps + 1 }
         ensures one_step { steps.new ≡ steps.old + 1 }
     {
         let place = shape_of(&self.plan).root(tree);

@@ -1,6 +1,6 @@
 //! A session's seat, with its lists of calls and installs.
 ghost use Rattle.std.specs.Prelude.{◌≡◌, ◌-◌, ◌≤◌, ◌<◌, OnOk, OnErr, IfSome};
-ghost use Rattle.node_rule.specs.Views.{climb_of};
+ghost use Rattle.node_rule.specs.Views.{ascent_of};
 ghost use Rattle.node_rule.specs.Own.{IsSession, number_in, posts_by, node_in, IsBelowRoot};
 ghost use Rattle.node_rule.specs.Standing.{KeepsTable};
 
@@ -10,19 +10,26 @@ use risk_board::Call;
 use stamp_word::CountedSeat;
 use std::marker::{Model, PhantomData};
 
-/// A session's seat, with its lists of calls and installs, or the keeper's seat. Contracts see the
-/// table and its plan, the seat's view, for how many more calls there is room, and how many steps the
-/// seat made on the table's words. A number counts from 0.
+/// A session's seat, with its lists of calls and installs, or the keeper's seat, whose lists stay
+/// empty. Contracts see the table and its plan, the seat's view, for how many more calls there is
+/// room, and how many steps the seat made on the table's words.
 #[derive(Drop)]
 pub struct Climb<F: Fold> {
     pub(crate) seat: CountedSeat<View>,
     pub(crate) plan: Plan,
+    /// It is the keeper's.
     pub(crate) keeps: bool,
+    /// The session's number, from 0; of the keeper, the next one to give.
     pub(crate) number: u32,
+    /// The session's calls, in order.
     pub(crate) calls: Vec<Call>,
+    /// The installs that its posts won, in order.
     pub(crate) trail: Vec<Install>,
+    /// How many posts it made in each tree.
     pub(crate) counts: Vec<u32>,
+    /// Its post on the way; none between two posts.
     pub(crate) ascent: Option<Ascent>,
+    /// For how many more calls, with their installs, there is room in the lists.
     pub(crate) spare: u32,
     pub(crate) fold: PhantomData<F>,
 }
@@ -38,7 +45,7 @@ impl<F: Fold> Model for Climb<F> {
       plan = c.plan;
       view = c.seat.me.0;
       spare = c.spare;
-      made = c.seat.made;
+      steps = c.seat.steps;
     } };
 
     ghost invariant = { λ c.
@@ -50,9 +57,9 @@ impl<F: Fold> Model for Climb<F> {
 }
 
 impl<F: Fold> Climb<F> {
-    /// The tree of the climb on its way.
+    /// The tree of the ascent in hand.
     pub fn tree(&self) -> u32
-        ensures { IfSome (climb_of self.now.view) (λ x. result ≡ x.tree) }
+        ensures { IfSome (ascent_of self.now.view) (λ x. result ≡ x.tree) }
     {
         match self.ascent {
             Some(x) => x.tree,
@@ -60,10 +67,10 @@ impl<F: Fold> Climb<F> {
         }
     }
 
-    /// The node at which the climb stands, below the root; between two posts the root.
+    /// The node at which the ascent stands, below the root; between two posts the root.
     pub fn node(&self) -> u32
-        ensures node { result ≡ node_in (climb_of self.now.view) }
-        ensures below { IfSome (climb_of self.now.view) (IsBelowRoot self.now.plan) }
+        ensures node { result ≡ node_in (ascent_of self.now.view) }
+        ensures below { IfSome (ascent_of self.now.view) (IsBelowRoot self.now.plan) }
     {
         match self.ascent {
             Some(x) => x.node,
@@ -71,9 +78,9 @@ impl<F: Fold> Climb<F> {
         }
     }
 
-    /// The stamp of the node that covers the post of the climb on its way.
+    /// The stamp of that node which covers the post.
     pub fn held(&self) -> u32
-        ensures { IfSome (climb_of self.now.view) (λ x. result ≡ x.held) }
+        ensures { IfSome (ascent_of self.now.view) (λ x. result ≡ x.held) }
     {
         match self.ascent {
             Some(x) => x.held,
@@ -105,15 +112,14 @@ impl<F: Fold> Climb<F> {
         self.spare
     }
 
-    /// Makes room for so many calls, and for the installs that they and the climb on its way may
-    /// make.
+    /// Makes room for so many calls, and for the installs that they and the ascent in hand may win.
     pub fn reserve(&mut self, calls: u32) -> Result<(), Memory>
         requires { calls ≤ 1000 }
         ensures ok { OnOk result (calls ≤ self.new.spare) }
         ensures table { KeepsTable self.old self.new }
         ensures view { self.new.view ≡ self.old.view }
         ensures spare { self.old.spare ≤ self.new.spare }
-        ensures made { self.new.made ≡ self.old.made }
+        ensures steps { self.new.steps ≡ self.old.steps }
         ensures err { OnErr result (self.new ≡ self.old) }
     {
         if self.spare >= calls {

@@ -28,10 +28,10 @@ impl<F: Fold> Words<F> {
         requires sessions { (1 ≤ sessions) × (sessions ≤ SESSIONS) }
         requires quota { (1 ≤ quota) × (quota ≤ QUOTA) }
         requires shape { IsLeast sessions shape.levels }
-        ensures table { IfOk result (λ made. IsOf made.0 made.1) }
-        ensures plan { IfOk result (λ made.
-            made.0.plan ≡ plan_of shape.levels shape.trees sessions quota) }
-        ensures keeper { IfOk result (λ made. made.1.view ≡ Keeper shape.levels 0 []) }
+        ensures table { IfOk result (λ new. IsOf new.0 new.1) }
+        ensures plan { IfOk result (λ new.
+            new.0.plan ≡ plan_of shape.levels shape.trees sessions quota) }
+        ensures keeper { IfOk result (λ new. new.1.view ≡ Keeper shape.levels 0 []) }
     {
         let plan = Plan {
             levels: shape.levels,
@@ -65,13 +65,14 @@ impl<F: Fold> Words<F> {
         Ok((Words { table, plan, alloc }, keeper))
     }
 
-    /// The climb of the next session. A refused split makes no step.
+    /// The climb of the next session, by one step of the keeper. A refused split makes none.
     pub fn split(&self, alloc: Global, keeper: &mut Climb<F>) -> Result<Climb<F>, Memory>
         requires table { IsOf self.now keeper.old }
         requires room { HasNumberLeft keeper.old }
         ensures table { KeepsTable keeper.old keeper.new }
-        ensures session { IfOk result (λ made. IsDealt keeper.old made) }
+        ensures session { IfOk result (λ new. IsDealt keeper.old new) }
         ensures keeper { IfOk result (λ _. keeper.new.view ≡ keeper_after_split keeper.old.view) }
+        ensures own_step { IfOk result (λ _. keeper.new.steps ≡ keeper.old.steps + 1) }
         ensures refused { OnErr result (keeper.new ≡ keeper.old) }
     {
         let Ok(counts) = (vec![in alloc; 0u32; self.plan.trees as usize]) else {
@@ -94,8 +95,8 @@ impl<F: Fold> Words<F> {
         })
     }
 
-    /// Takes back the climb of a session that is between two posts, and gives its calls and its
-    /// installs.
+    /// Takes back the climb of a session that is between two posts, by one step of the keeper, and
+    /// gives its calls and its installs.
     pub fn join(&self, keeper: &mut Climb<F>, done: Climb<F>) -> (Vec<Call>, Vec<Install>)
         requires table { IsOf self.now keeper.old }
         requires done { IsOf self.now done }
@@ -104,6 +105,7 @@ impl<F: Fold> Words<F> {
         ensures table { KeepsTable keeper.old keeper.new }
         ensures keeper { keeper.new.view ≡ keeper_after_join keeper.old.view done.view }
         ensures lists { AreListsOf done result.0.items result.1.items }
+        ensures own_step { keeper.new.steps ≡ keeper.old.steps + 1 }
     {
         let Climb {
             seat,

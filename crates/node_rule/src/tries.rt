@@ -1,10 +1,10 @@
-//! A try in hand: the word that it would write, its install, and where the climb stands after it.
+//! A try in hand: the word that it would write, its install, and where the ascent stands after it.
 ghost use Rattle.std.specs.Prelude.{◌≡◌, ℕ, suc, ◌+◌, ◌*◌, ◌^◌, ◌<◌, ◌≤◌, Some};
 ghost use Rattle.fold_law.specs.declared.limits.TheConstants.{SESSIONS, QUOTA};
 ghost use Rattle.stamp_word.specs.declared.limits.TheConstants.{LEVELS};
 ghost use Rattle.stamp_word.specs.Word.{stamp_in, value_in};
 ghost use Rattle.node_rule.specs.Views.{try_of, risen};
-ghost use Rattle.node_rule.specs.Steps.{install_of, climb_lost};
+ghost use Rattle.node_rule.specs.Steps.{install_of, ascent_lost};
 ghost use Rattle.node_rule.specs.Standing.{IsBounded};
 
 use crate::view::{Ascent, Install, Stage, Try};
@@ -17,8 +17,8 @@ pub(crate) fn try_held(x: &Ascent) -> Option<Try>
     match x.stage {
         Stage::Fresh => None,
         Stage::First(tried) => Some(tried),
-        Stage::Lost(_) => None,
-        Stage::Second(_, tried) => Some(tried),
+        Stage::Lost { .. } => None,
+        Stage::Second { tried, .. } => Some(tried),
     }
 }
 
@@ -75,14 +75,17 @@ pub(crate) fn risen_to(x: &Ascent, stamp: u32) -> Option<Ascent>
 
 pub(crate) fn after_lost(x: &Ascent, found: u64) -> Option<Ascent>
     requires { x.now.height < LEVELS }
-    ensures { result ≡ climb_lost x.now found x.now.stage }
+    ensures { result ≡ ascent_lost x.now found x.now.stage }
 {
     match x.stage {
-        Stage::First(tried) => Some(Ascent {
-            stage: Stage::Lost(stamp_of(tried.parent)),
-            ..*x
-        }),
-        Stage::Second(_, _) => risen_to(x, stamp_of(found)),
+        Stage::First(tried) => {
+            let first = stamp_of(tried.parent);
+            Some(Ascent {
+                stage: Stage::Lost { first },
+                ..*x
+            })
+        }
+        Stage::Second { .. } => risen_to(x, stamp_of(found)),
         _ => Some(*x),
     }
 }

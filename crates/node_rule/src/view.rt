@@ -27,18 +27,21 @@ pub struct Try {
     pub right: Option<u64>,
 }
 
-/// How far a climb has come at the parent of its node. The number of a lost first try, kept in the
-/// second one, is the stamp of the parent that was loaded first.
+/// How far an ascent has come at the parent of its node.
 #[derive(Clone, Copy, Debug, PartialEq, Eq)]
 pub enum Stage {
+    /// Nothing is loaded yet.
     Fresh,
+    /// In the first try, with these words loaded.
     First(Try),
-    Lost(u32),
-    Second(u32, Try),
+    /// The first try lost. It had loaded the parent at the stamp `first`.
+    Lost { first: u32 },
+    /// In the second try, with these words loaded; the first one had loaded the parent at `first`.
+    Second { first: u32, tried: Try },
 }
 
-/// A climb: a post on its way to the root of its tree. It stands at a node, so many levels above
-/// the leaf, and the stamp `held` of that node covers the post.
+/// A post on its way to the root of its tree. It stands at a node, so many levels above the leaf,
+/// and the stamp `held` of that node covers the post.
 #[derive(Clone, Copy, Debug, PartialEq, Eq)]
 pub struct Ascent {
     pub tree: u32,
@@ -48,12 +51,21 @@ pub struct Ascent {
     pub stage: Stage,
 }
 
-/// The view of a seat. Those of the keeper and of a session begin with the levels of the trees,
-/// which a step has to know; the keeper's goes on with how many numbers it gave and what the joined
-/// sessions did, a session's with what it did and the climb in hand. A joined seat's view is spent.
+/// The view of a seat. A step has to know the `levels` of the trees.
 pub enum View {
-    Keeper(u32, u32, LinkedList<Track>),
-    Session(u32, Track, Option<Ascent>),
+    /// Of the keeper: how many numbers it gave, and what the joined sessions did.
+    Keeper {
+        levels: u32,
+        given: u32,
+        joined: LinkedList<Track>,
+    },
+    /// Of a session: what it did, and the ascent in hand.
+    Session {
+        levels: u32,
+        track: Track,
+        ascent: Option<Ascent>,
+    },
+    /// Of a seat that was joined.
     Spent,
 }
 

@@ -1,12 +1,12 @@
-//! The words of the trees, and the steps of a climb.
+//! The words of the trees, and the steps of an ascent.
 ghost use Rattle.std.specs.Prelude.{◌≡◌, ℕ, ◌+◌, ◌*◌, ◌^◌, ◌<◌, ◌≤◌, Some};
 ghost use Rattle.std.specs.Bool.{OnTrue, OnFalse};
 ghost use Rattle.node_rule.specs.declared.view.Stage.TheVariants.{Fresh, First, Lost, Second};
 ghost use Rattle.node_rule.specs.Standing.{IsOf, KeepsSeat};
-ghost use Rattle.node_rule.specs.Standing.{IsFresh, HasLostOnce, HasTry, HasFullTry};
+ghost use Rattle.node_rule.specs.Standing.{IsFresh, HasLostOnce, AwaitsParent, HasTry, HasFullTry};
 ghost use Rattle.node_rule.specs.Standing.{HasLoaded, HasLost};
 ghost use Rattle.node_rule.specs.StampPart.{IsPlan};
-ghost use Rattle.node_rule.specs.Steps.{first_stage, left_stage, right_stage, after_win};
+ghost use Rattle.node_rule.specs.Steps.{parent_stage, left_stage, right_stage, after_win};
 ghost use Rattle.node_rule.specs.Views.{staged};
 
 use crate::climb::Climb;
@@ -50,37 +50,37 @@ impl<F: Fold> Words<F> {
         shape_of(&self.plan)
     }
 
-    /// Loads the parent of the climb's node, for the first try.
+    /// Loads the parent of the ascent's node, for the first try.
     pub fn first_load<L: Ledger>(&self, climb: &mut Climb<F>, steps: &mut Steps<L>)
         requires table { IsOf self.now climb.old }
         requires stage { IsFresh climb.old }
         ensures table { KeepsSeat climb.old climb.new }
-        ensures view { HasLoaded first_stage climb.old climb.new }
-        ensures counted { climb.new.made ≡ climb.old.made + 1 }
+        ensures view { HasLoaded parent_stage climb.old climb.new }
+        ensures own_step { climb.new.steps ≡ climb.old.steps + 1 }
         ensures one_step { steps.new ≡ steps.old + 1 }
     {
-        let Some(x) = climb.ascent else {
-            unreachable!()
-        };
-        let place = shape_of(&self.plan).path(x.tree, x.node / 2);
-        let word = load::<View, Plan, NodeRule<F>, LoadParent, L>(
-            &self.table,
-            &mut climb.seat,
-            place,
-            steps,
-        );
-        if let Some(ascent) = &mut climb.ascent {
-            keep_parent(ascent, word);
-        }
+        self.load_parent(climb, steps);
     }
 
-    /// Loads the parent of the climb's node again, for the second try.
+    /// Loads the parent of the ascent's node again, for the second try.
     pub fn second_load<L: Ledger>(&self, climb: &mut Climb<F>, steps: &mut Steps<L>)
         requires table { IsOf self.now climb.old }
         requires stage { HasLostOnce climb.old }
         ensures table { KeepsSeat climb.old climb.new }
-        ensures view { HasLoaded first_stage climb.old climb.new }
-        ensures counted { climb.new.made ≡ climb.old.made + 1 }
+        ensures view { HasLoaded parent_stage climb.old climb.new }
+        ensures own_step { climb.new.steps ≡ climb.old.steps + 1 }
+        ensures one_step { steps.new ≡ steps.old + 1 }
+    {
+        self.load_parent(climb, steps);
+    }
+
+    // Loads the parent of the ascent's node, for a try.
+    fn load_parent<L: Ledger>(&self, climb: &mut Climb<F>, steps: &mut Steps<L>)
+        requires table { IsOf self.now climb.old }
+        requires stage { AwaitsParent climb.old }
+        ensures table { KeepsSeat climb.old climb.new }
+        ensures view { HasLoaded parent_stage climb.old climb.new }
+        ensures own_step { climb.new.steps ≡ climb.old.steps + 1 }
         ensures one_step { steps.new ≡ steps.old + 1 }
     {
         let Some(x) = climb.ascent else {
@@ -104,13 +104,14 @@ impl<F: Fold> Words<F> {
         requires stage { HasTry climb.old }
         ensures table { KeepsSeat climb.old climb.new }
         ensures view { HasLoaded left_stage climb.old climb.new }
-        ensures counted { climb.new.made ≡ climb.old.made + 1 }
+        ensures own_step { climb.new.steps ≡ climb.old.steps + 1 }
         ensures one_step { steps.new ≡ steps.old + 1 }
     {
         let Some(x) = climb.ascent else {
             unreachable!()
         };
-        let place = shape_of(&self.plan).path(x.tree, 2 * (x.node / 2));
+        let shape = shape_of(&self.plan);
+        let place = shape.path(x.tree, shape.left(x.node / 2));
         let word = load::<View, Plan, NodeRule<F>, LoadLeft<F>, L>(
             &self.table,
             &mut climb.seat,
@@ -128,13 +129,14 @@ impl<F: Fold> Words<F> {
         requires stage { HasTry climb.old }
         ensures table { KeepsSeat climb.old climb.new }
         ensures view { HasLoaded right_stage climb.old climb.new }
-        ensures counted { climb.new.made ≡ climb.old.made + 1 }
+        ensures own_step { climb.new.steps ≡ climb.old.steps + 1 }
         ensures one_step { steps.new ≡ steps.old + 1 }
     {
         let Some(x) = climb.ascent else {
             unreachable!()
         };
-        let place = shape_of(&self.plan).path(x.tree, 2 * (x.node / 2) + 1);
+        let shape = shape_of(&self.plan);
+        let place = shape.path(x.tree, shape.right(x.node / 2));
         let word = load::<View, Plan, NodeRule<F>, LoadRight<F>, L>(
             &self.table,
             &mut climb.seat,
@@ -154,7 +156,7 @@ impl<F: Fold> Words<F> {
         ensures table { KeepsSeat climb.old climb.new }
         ensures won { OnTrue result (climb.new.view ≡ after_win climb.old.view) }
         ensures lost { OnFalse result (HasLost climb.old climb.new) }
-        ensures counted { climb.new.made ≡ climb.old.made + 1 }
+        ensures own_step { climb.new.steps ≡ climb.old.steps + 1 }
         ensures one_step { steps.new ≡ steps.old + 1 }
     {
         let Some(x) = climb.ascent else {
@@ -197,7 +199,7 @@ pub(crate) fn shape_of(plan: &Plan) -> Shape
 }
 
 fn keep_parent(x: &mut Ascent, word: u64)
-    ensures { x.new ≡ staged x.old (first_stage x.old.stage word) }
+    ensures { x.new ≡ staged x.old (parent_stage x.old.stage word) }
 {
     let tried = Try {
         parent: word,
@@ -206,7 +208,7 @@ fn keep_parent(x: &mut Ascent, word: u64)
     };
     match x.stage {
         Stage::Fresh => x.stage = Stage::First(tried),
-        Stage::Lost(stamp) => x.stage = Stage::Second(stamp, tried),
+        Stage::Lost { first } => x.stage = Stage::Second { first, tried },
         _ => {}
     }
 }
@@ -221,14 +223,14 @@ fn keep_left(x: &mut Ascent, word: u64)
                 ..tried
             })
         }
-        Stage::Second(stamp, tried) => {
-            x.stage = Stage::Second(
-                stamp,
-                Try {
+        Stage::Second { first, tried } => {
+            x.stage = Stage::Second {
+                first,
+                tried: Try {
                     left: Some(word),
                     ..tried
                 },
-            )
+            }
         }
         _ => {}
     }
@@ -244,14 +246,14 @@ fn keep_right(x: &mut Ascent, word: u64)
                 ..tried
             })
         }
-        Stage::Second(stamp, tried) => {
-            x.stage = Stage::Second(
-                stamp,
-                Try {
+        Stage::Second { first, tried } => {
+            x.stage = Stage::Second {
+                first,
+                tried: Try {
                     right: Some(word),
                     ..tried
                 },
-            )
+            }
         }
         _ => {}
     }

@@ -6,6 +6,7 @@ pub mod RowColumns
 pub mod RowCuts
 pub mod RowLists
 pub mod PlacedActs
+pub mod PlacedEvents
 pub mod PlacedSoFar
 pub mod RowTexts
 pub mod RowsWith

@@ -1,31 +1,15 @@
--- Acts with their reads' places: what doesn't change, and which events they are.
-use Rattle.std.proofs.Common.{◌≡◌, ℕ, ◌+◌, ◌==◌, List, [], ◌∷◌, ◌++◌, map, fold, refl, ap, ◌∙◌}
-use Rattle.std.proofs.Common.{cond, if◌then◌else◌}
-use Rattle.risk_board.specs.History.{events_of_calls}
-use Rattle.risk_board.specs.History.Event.{Posted, Saw}
-use Rattle.risk_board.specs.declared.hand.Call.TheVariants as call
+-- Acts with their reads' places: what doesn't change.
+use Rattle.std.proofs.Common.{◌≡◌, ℕ, ◌+◌, List, [], ◌∷◌, ◌++◌, map, fold, refl, ap, ◌∙◌}
+use Rattle.std.proofs.Common.{cond}
 use Rattle.risk_journal.specs.declared.acts.Act.{Act}
 use Rattle.risk_journal.specs.declared.acts.Act.TheVariants.{Post, Read, Sent, Refused}
 use Rattle.risk_journal.specs.declared.acts.Act.TheVariants.{Noted, Ended}
 use Rattle.risk_journal.specs.ActLists.{SeenAt, is_post_act_in, posts_in, latest, last_post}
-use Rattle.risk_journal.specs.ActLists.{placed, calls_of, events_of, reads_of}
+use Rattle.risk_journal.specs.ActLists.{placed, placed_by, reads_of, unplaced}
 
 -- a read with its place by its stamp
 abbrev pub seen_placed : (ℕ → ℕ) → SeenAt → SeenAt
 seen_placed place seen = record seen { place = place seen.stamp }
-
--- no call names a place
-pub calls_of-placed : (place : ℕ → ℕ) (acts : List Act)
-    → calls_of (map (placed place) acts) ≡ calls_of acts
-calls_of-placed place [] = refl
-calls_of-placed place (Post tree index value ∷ acts) =
-    ap (λ calls. call.Post tree value ∷ calls) (calls_of-placed place acts)
-calls_of-placed place (Read tree stamp at value ∷ acts) =
-    ap (λ calls. call.Read tree stamp value ∷ calls) (calls_of-placed place acts)
-calls_of-placed place (Sent frame ∷ acts) = calls_of-placed place acts
-calls_of-placed place (Refused frame code first second ∷ acts) = calls_of-placed place acts
-calls_of-placed place (Noted frame code first second ∷ acts) = calls_of-placed place acts
-calls_of-placed place (Ended end ∷ acts) = calls_of-placed place acts
 
 -- the reads are the same but for their places
 pub reads_of-placed : (place : ℕ → ℕ) (acts : List Act)
@@ -97,18 +81,18 @@ pub last_post-placed : (place : ℕ → ℕ) (tree : ℕ) (acts : List Act)
     → last_post tree (map (placed place) acts) ≡ last_post tree acts
 last_post-placed place tree acts = last_from-placed place tree 0 acts
 
--- the events of acts whose places are their stamps are those of the calls
-pub events_of-placed : (tree : ℕ) (acts : List Act)
-    → events_of tree (map (placed (λ stamp. stamp)) acts)
-    ≡ events_of_calls (λ stamp. stamp) tree (calls_of acts)
-events_of-placed tree [] = refl
-events_of-placed tree (Post in_tree index value ∷ acts) =
-    ap (λ later. if in_tree == tree then Posted value ∷ later else later)
-    (events_of-placed tree acts)
-events_of-placed tree (Read in_tree stamp at value ∷ acts) =
-    ap (λ later. if in_tree == tree then Saw stamp stamp value ∷ later else later)
-    (events_of-placed tree acts)
-events_of-placed tree (Sent frame ∷ acts) = events_of-placed tree acts
-events_of-placed tree (Refused frame code first second ∷ acts) = events_of-placed tree acts
-events_of-placed tree (Noted frame code first second ∷ acts) = events_of-placed tree acts
-events_of-placed tree (Ended end ∷ acts) = events_of-placed tree acts
+one_alike : (place : ℕ → ℕ → ℕ) (act : Act) → unplaced (placed_by place act) ≡ unplaced act
+one_alike place (Post tree index value) = refl
+one_alike place (Read tree stamp before value) = refl
+one_alike place (Sent frame) = refl
+one_alike place (Refused frame code first second) = refl
+one_alike place (Noted frame code first second) = refl
+one_alike place (Ended end) = refl
+
+-- acts that were placed differ in the places of their reads alone
+pub alike : (place : ℕ → ℕ → ℕ) (acts : List Act)
+    → map unplaced (map (placed_by place) acts) ≡ map unplaced acts
+alike place [] = refl
+alike place (act ∷ acts) =
+    ap (λ own. own ∷ map unplaced (map (placed_by place) acts)) (one_alike place act)
+    ∙ ap (λ more. unplaced act ∷ more) (alike place acts)

@@ -1,6 +1,6 @@
 -- What the acts of a session are: its posts and reads by tree, its calls, and its reads' places.
 use Rattle.std.specs.Prelude.{ℕ, ◌==◌, List, [], ◌∷◌, fold, count_by, if◌then◌else◌, Bool, false}
-use Rattle.std.specs.Prelude.{nat_lt}
+use Rattle.std.specs.Prelude.{nat_lt, slice_index, slice_index_or}
 use Rattle.risk_board.specs.History.{Event}
 use Rattle.risk_board.specs.History.Event.{Posted, Saw}
 use Rattle.risk_board.specs.declared.hand.Call.{Call}
@@ -91,11 +91,23 @@ calls_at tree (Refused frame code first second ∷ acts) = calls_at tree acts
 calls_at tree (Noted frame code first second ∷ acts) = calls_at tree acts
 calls_at tree (Ended end ∷ acts) = calls_at tree acts
 
--- an act with the place of a read by its stamp
+-- an act with the place of a read by its tree and its stamp
+abbrev pub placed_by : (ℕ → ℕ → ℕ) → Act → Act
+placed_by place (Read tree stamp before value) = Read tree stamp (place tree stamp) value
+placed_by place (Post tree index value) = Post tree index value
+placed_by place (Sent frame) = Sent frame
+placed_by place (Refused frame code first second) = Refused frame code first second
+placed_by place (Noted frame code first second) = Noted frame code first second
+placed_by place (Ended end) = Ended end
+
+-- an act with the place of a read by its stamp alone
 abbrev pub placed : (ℕ → ℕ) → Act → Act
-placed place (Read tree stamp before value) = Read tree stamp (place stamp) value
-placed place (Post tree index value) = Post tree index value
-placed place (Sent frame) = Sent frame
-placed place (Refused frame code first second) = Refused frame code first second
-placed place (Noted frame code first second) = Noted frame code first second
-placed place (Ended end) = Ended end
+placed place act = placed_by (λ tree stamp. place stamp) act
+
+-- an act with no place of a read
+abbrev pub unplaced : Act → Act
+unplaced act = placed_by (λ tree stamp. 0) act
+
+-- the place of a stamp of a tree, of these places by tree and by stamp; 0 where there is none
+abbrev pub place_in : List (List ℕ) → ℕ → ℕ → ℕ
+place_in places tree stamp = slice_index (slice_index_or places tree []) stamp

@@ -56,18 +56,21 @@ fn writes_the_journal(rt: HostRuntime) -> Result<(), Fail> {
 }
 
 #[test]
-fn sets_a_place_to_its_stamp(rt: HostRuntime) -> Result<(), Fail> {
+fn sets_a_place_by_tree_and_stamp(rt: HostRuntime) -> Result<(), Fail> {
     let mut acts = ACTS.to_vec(rt.alloc())?;
     acts[1] = Act::Read {
-        tree: 0,
-        stamp: 7,
+        tree: 1,
+        stamp: 2,
         place: 0,
         value: 1000,
     };
-    set_places(&mut acts);
+    let mut places = Vec::new(rt.alloc());
+    places.push(vec![in rt.alloc(); 0, 1, 2]?)?;
+    places.push(vec![in rt.alloc(); 0, 3, 7]?)?;
+    set_places(&mut acts, &places);
     let want = Act::Read {
-        tree: 0,
-        stamp: 7,
+        tree: 1,
+        stamp: 2,
         place: 7,
         value: 1000,
     };

@@ -1,20 +1,21 @@
--- A seat that counts its steps: its view has a number beside it, which each step raises by one.
+-- Seats that count their steps: beside a view stands a number, which each step of its seat raises
+-- by 1.
 use Rattle.std.specs.Prelude.{◌≡◌, ℕ, suc, map}
 use Rattle.atomic_table.specs.Seated.{TableId}
 use Rattle.atomic_table.specs.Table.{State, Me, Step}
 
--- what contracts see of a table whose seats count: which it is, and what its rule was told
+-- what contracts see of a table: which it is, and what its rule was told once
 pub record TableValue (K : Type 0) : Type 0 where
   pub table_id : TableId
   pub key : K
 
--- what contracts see of a seat that counts: its table, its number, what it knows, and the steps that
--- it made
+-- what contracts see of a seat: its table, its number, its view with the slots that it has, and how
+-- many steps it made on the words
 pub record SeatValue (V : Type 0) : Type 0 where
   pub table_id : TableId
   pub id : ℕ
   pub me : Me (Unit {0}) V
-  pub made : ℕ
+  pub steps : ℕ
 
 module _ {S V : Type 0} where
   -- the table without the counts
@@ -25,7 +26,7 @@ module _ {S V : Type 0} where
   abbrev pub plain : Me S (V × ℕ) → Me S V
   plain me = (me.0.0, me.1)
 
-  -- what the step tells, and that the count is one more
+  -- what a step tells, and that its seat's count is one more
   abbrev pub Counts : (Step S → Me S V → ℕ → Me S V → Type 0) → Step S → Me S (V × ℕ) → ℕ
       → Me S (V × ℕ) → Type 0
   Counts tells step me found after =

@@ -4,7 +4,8 @@
 //! A word is `{ stamp, value }`: the 24 high bits of a u64 are the stamp, the 40 low bits the value.
 //! A tree is a row of words: its root is node 1, the children of node k are the nodes 2k and 2k + 1,
 //! and the leaves are the last nodes. A step is one atomic load, store or exchange of one word.
-//! Nothing here says what a stamp or a value means, and no call takes memory or waits.
+//! Each is counted by the seat that makes it, and no other crate reaches a word but by such a step.
+//! Nothing here says what a stamp or a value means, and no step takes memory or waits.
 #![tactic(auto)]
 
 mod counted;

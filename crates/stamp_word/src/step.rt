@@ -1,4 +1,5 @@
-//! Single steps on one word of a table, each counted.
+//! Single steps on one word of a table, each counted twice: by its seat, and by the counter that is
+//! handed in.
 //!
 //! The step is named by a type `M`, which says what the seat is told. A step asks what the table
 //! asks: that, whatever the words and the views are, the step keeps the table's rule.
@@ -31,7 +32,7 @@ pub fn load<V, K, R: TableRule<(), V, K>, M: Play<(), V>, L: Ledger>(
     ensures seat { (seat.new.table_id ≡ seat.old.table_id) × (seat.new.id ≡ seat.old.id) }
     ensures told { let step = loading table.now.table_id.slots place in
         M.then step seat.old.me result seat.new.me }
-    ensures counted { seat.new.made ≡ seat.old.made + 1 }
+    ensures own_step { seat.new.steps ≡ seat.old.steps + 1 }
     ensures one_step { steps.new ≡ steps.old + 1 }
 {
     steps.tick();
@@ -56,7 +57,7 @@ pub fn store<V, K, R: TableRule<(), V, K>, M: Play<(), V>, L: Ledger>(
     ensures seat { (seat.new.table_id ≡ seat.old.table_id) × (seat.new.id ≡ seat.old.id) }
     ensures told { let step = storing table.now.table_id.slots place word in
         M.then step seat.old.me word seat.new.me }
-    ensures counted { seat.new.made ≡ seat.old.made + 1 }
+    ensures own_step { seat.new.steps ≡ seat.old.steps + 1 }
     ensures one_step { steps.new ≡ steps.old + 1 }
 {
     steps.tick();
@@ -85,7 +86,7 @@ pub fn exchange_if<V, K, R: TableRule<(), V, K>, M: Play<(), V>, L: Ledger>(
         MatchResult result
         (λ _. M.then step seat.old.me old seat.new.me)
         (λ found. (found ≢ old) × M.then step seat.old.me found seat.new.me) }
-    ensures counted { seat.new.made ≡ seat.old.made + 1 }
+    ensures own_step { seat.new.steps ≡ seat.old.steps + 1 }
     ensures one_step { steps.new ≡ steps.old + 1 }
 {
     steps.tick();

@@ -1,13 +1,13 @@
 -- One level down from a node to its child on the way to a leaf.
 use Rattle.std.proofs.Common.{◌≡◌, ℕ, zero, suc, ◌+◌, ◌/◌, ◌^◌, ◌<◌, ◌≤◌, List, [], ◌∷◌, length}
-use Rattle.std.proofs.Common.{◌⊎◌, inl, inr, ⊎_elim, refl, ap, sym, ◌∙◌, subst, arith}
+use Rattle.std.proofs.Common.{refl, ap, sym, ◌∙◌, subst, arith}
 use Rattle.std.proofs.Math.Nat.{pow-suc}
 use native.Mathlib.Nat.{div-div-eq-div-mul}
 use Rattle.stamp_word.specs.Word.{stamp_in}
 use Rattle.stamp_word.specs.Places.{leaf_of}
 use Rattle.node_rule.specs.declared.view.View.{View}
 use Rattle.node_rule.specs.declared.view.Plan.{Plan}
-use Rattle.node_rule.specs.Sums.{total, over, seen_in, times_in}
+use Rattle.node_rule.specs.Sums.{total, over, seen_in}
 use Rattle.node_rule.specs.Fronts.{Board, board_of, word_at, ancestor, cover}
 use Rattle.node_rule.specs.Standing.{plan_of}
 use Rattle.node_rule.proofs.Bounds.{stamp_most}
@@ -16,8 +16,6 @@ use Rattle.f_array.specs.declared.record.Record.{Record}
 use Rattle.f_array.specs.Records.{Did}
 use Rattle.trail_replay.specs.Sums.{read_in_all}
 use Rattle.trail_replay.specs.Fronts.{tracks_from, view_of, last_stamp, IsStampedRecord}
-use Rattle.trail_replay.specs.Installs.{install_in, child_stamp}
-use Rattle.trail_replay.proofs.Installs.{times_in_all, found_read}
 
 total-tracks : (tree child stamp first : ℕ) (passes : List Did)
     → total (seen_in tree child stamp) (tracks_from first passes)
@@ -32,26 +30,6 @@ pub seen-trails : (levels tree child stamp : ℕ) (passes : List Did)
     ≡ read_in_all tree child stamp passes
 seen-trails levels tree child stamp passes =
     let all = total-tracks tree child stamp 0 passes in omega arith
-
-times-tracks : (tree child stamp first : ℕ) (passes : List Did)
-    → total (times_in tree (child / 2) stamp) (tracks_from first passes)
-    ≡ times_in_all tree child stamp passes
-times-tracks tree child stamp first [] = refl
-times-tracks tree child stamp first (did ∷ passes) =
-    let rest = times-tracks tree child stamp (first + 1) passes in omega arith
-
--- how many installs of a node have a stamp is the number in the trails
-times-trails : (levels tree child stamp : ℕ) (passes : List Did)
-    → over (times_in tree (child / 2) stamp) (view_of levels passes ∷ [])
-    ≡ times_in_all tree child stamp passes
-times-trails levels tree child stamp passes =
-    let all = times-tracks tree child stamp 0 passes in omega arith
-
-le_or_lt : (a b : ℕ) → (a ≤ b) ⊎ (b < a)
-le_or_lt zero b = inl (omega arith)
-le_or_lt (suc a) zero = inr (omega arith)
-le_or_lt (suc a) (suc b) = ⊎_elim (λ (le : a ≤ b). inl (omega (arith, le)))
-    (λ (lt : b < a). inr (omega (arith, lt))) (le_or_lt a b)
 
 -- the node above a leaf is the leaf's number without its last bits
 pub ancestor-shift : (leaf height : ℕ) → ancestor leaf height ≡ leaf / 2 ^ height
@@ -152,29 +130,3 @@ module _ (taken : Record) (stamped : IsStampedRecord taken) (tree session : ℕ)
       let here : ancestor leaf height ≡ node / 2 =
       ap (ancestor leaf) same ∙ ap (λ n. n / 2) (sym up) in
       subst (λ n. held ≤ stamp_in (word_at levels taken.words.items tree n)) here reached
-
-  -- an inner node has at most one install of each stamp
-  one_at_most : (node stamp : ℕ) → 1 ≤ node → node < 2 ^ levels → board.times tree node stamp ≤ 1
-  one_at_most node zero low high =
-      let none = stamped.1.grown.none_at_zero tree node tree_in low high in omega (arith, none)
-  one_at_most node (suc s) low high = ⊎_elim
-      (λ (up : suc s ≤ board.stamp tree node).
-      let one = stamped.1.grown.once tree node (suc s) tree_in low high (omega arith) up in
-      omega (arith, one))
-      (λ (past : board.stamp tree node < suc s).
-      let none = stamped.1.grown.none_else tree node (suc s) tree_in low high past in
-      omega (arith, none))
-      (le_or_lt (suc s) (board.stamp tree node))
-
-  -- so what the found install of the parent read of a node on the way is the sum over all trails
-  pub found_on_way : (next held node : ℕ) → node ≡ leaf / 2 ^ next → suc next ≤ levels
-      → child_stamp node (install_in tree (node / 2, held) passes)
-      ≡ read_in_all tree node held passes
-  found_on_way next held node is le =
-      let up : node ≡ ancestor leaf next = is ∙ sym (ancestor-shift leaf next) in
-      let within = ancestor-within levels next session below_leaves (omega arith) in
-      let low = ancestor-child levels next session below_leaves le in
-      let high = within.high in
-      let few = one_at_most (node / 2) held (omega (arith, up, low)) (omega (arith, up, high)) in
-      let same = times-trails levels tree node held passes in
-      found_read tree node held passes (omega (arith, few, same))

@@ -9,7 +9,6 @@ pub mod CallPosts
 pub mod Placed
 pub mod LegalHistories
 pub mod ClosedRecords
-pub mod Installs
 pub mod Covering
 pub mod Counts
 pub mod Places
@@ -18,3 +17,6 @@ pub mod WalkLaws
 pub mod Walkable
 pub mod Rows
 pub mod PreparedTables
+pub mod Leaves
+pub mod Totals
+pub mod ReplayedTrees

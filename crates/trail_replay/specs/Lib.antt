@@ -4,4 +4,4 @@ pub mod Sums
 pub mod Histories
 pub mod Arrays
 pub mod Reads
-pub mod Installs
+pub mod Replayed

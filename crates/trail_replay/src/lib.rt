@@ -13,24 +13,20 @@
 
 mod array;
 mod blocks;
-#[cfg(test)]
-mod covers;
+mod histories;
 mod history;
 mod law;
-#[cfg(test)]
-mod plain_blocks;
-#[cfg(test)]
-mod plain_installs;
-#[cfg(test)]
-mod plain_posts;
+mod laws;
 mod posts;
 mod prepared;
 mod reads;
 mod tree_posts;
 mod walk;
 
+pub use histories::{Histories, add_histories};
 pub use history::{History, at, place};
 pub use law::{closed_records_are_lawful, histories_are_legal};
+pub use laws::{components_are_leaves, histories_are_legal_by_places, histories_have_totals};
 pub use prepared::{Prepared, replay, replay_of};
 pub use walk::Walk;
 

@@ -1,7 +1,7 @@
 //! A record prepared once, and the histories of its trees.
 ghost use Rattle.std.specs.Prelude.{◌≡◌, ◌+◌, ◌<◌, length, IfOk};
 ghost use Rattle.trail_replay.specs.Arrays.{AreLines};
-ghost use Rattle.trail_replay.specs.Fronts.{last_stamp, IsLawful};
+ghost use Rattle.trail_replay.specs.Fronts.{last_stamp, IsLawful, IsStampedRecord};
 ghost use Rattle.trail_replay.specs.Histories.{history_of, places_of, AreLegalIn};
 
 use crate::blocks::history_to;
@@ -62,9 +62,17 @@ pub fn replay_of<F: Fold>(alloc: Global, prepared: &Prepared, tree: u32) -> Resu
     ensures walkable { IfOk result (λ h. AreLines F.CAP h.lines.items) }
 {
     let taken = prepared.taken;
-    let root = taken.words[taken.shape.root(tree) as usize];
-    let last = stamp_of(root);
+    let last = last_of(taken, tree);
     history_to(alloc, taken, &prepared.rows, &prepared.posts, tree, last)
+}
+
+// The last stamp of a tree's root.
+fn last_of(taken: &Record, tree: u32) -> u32
+    requires stamped { IsStampedRecord taken.now }
+    requires tree { tree < taken.now.shape.trees }
+    ensures { result ≡ last_stamp taken.now tree }
+{
+    stamp_of(taken.words[taken.shape.root(tree) as usize])
 }
 
 /// The history of a tree of a lawful record: the posts in the order of the first stamp of the root

@@ -1,10 +1,10 @@
 //! What the installs of a record read, in rows by tree, node and stamp, made in one pass over all
 //! trails. A node's stamps are dense from 1, so a row has no gaps.
 ghost use Rattle.std.specs.Prelude.{◌≡◌, ◌+◌, ◌/◌, ◌^◌, ◌<◌, ◌≤◌, map, replicate, slice_index};
-ghost use Rattle.std.specs.Prelude.{IfOk};
+ghost use Rattle.std.specs.Prelude.{length, slice_index_or, IfOk};
 ghost use Rattle.stamp_word.specs.Word.{stamp_in};
 ghost use Rattle.trail_replay.specs.Reads.{unread, row_with, nodes_with, rows_with, rows_after};
-ghost use Rattle.trail_replay.specs.Reads.{rows_of};
+ghost use Rattle.trail_replay.specs.Reads.{rows_of, row_of};
 ghost use Rattle.trail_replay.specs.Reads.{empty_nodes, empty_rows, end_stamp, AreRows};
 ghost use Rattle.trail_replay.specs.Sums.{read_in_all};
 
@@ -155,11 +155,21 @@ pub(crate) fn seen_at(
     requires fits { read_in_all tree child stamp taken.now.passes.items < 2 ^ 32 }
     ensures { result ≡ read_in_all tree child stamp taken.now.passes.items }
 {
-    let row = &rows[tree as usize][(child / 2) as usize];
-    let stamps = row[stamp as usize];
+    let stamps = stamps_at(rows, tree, child / 2, stamp);
     if child % 2 == 0 {
         stamps.left
     } else {
         stamps.right
     }
+}
+
+/// What the install of a node with a stamp of its row read.
+fn stamps_at(rows: &[Vec<Vec<ChildStamps>>], tree: u32, node: u32, stamp: u32) -> ChildStamps
+    requires has { let all = map (λ nodes. map (λ row. row.items) nodes.items) rows.now in
+        stamp < length (row_of all tree node) }
+    ensures { let all = map (λ nodes. map (λ row. row.items) nodes.items) rows.now in
+        result ≡ slice_index_or (row_of all tree node) stamp unread }
+{
+    let row = &rows[tree as usize][node as usize];
+    row[stamp as usize]
 }

@@ -9,7 +9,6 @@ ghost use Rattle.f_array.specs.Records.{AreAllOf};
 ghost use Rattle.trail_replay.specs.Arrays.{AreLines};
 ghost use Rattle.trail_replay.specs.Fronts.{IsLawful};
 
-use crate::plain_blocks::replay_plain;
 use crate::{History, Prepared, Walk, at, place, replay, replay_of};
 use f_array::{Forest, Keeper, Pass, Record};
 use fold_law::{LEAF, Sum};
@@ -267,22 +266,6 @@ fn lines_of_tree(alloc: Global, taken: &Record, prepared: &Prepared, tree: u32) 
     Some(history.lines.len())
 }
 
-// Whether the plain program gives the same lines and places.
-fn is_plain(alloc: Global, taken: &Record, prepared: &Prepared, tree: u32) -> bool
-    requires lawful { IsLawful 0 LEAF sum_of taken.now }
-    requires prepared { prepared.now ≡ taken.now }
-    requires tree { tree < taken.now.shape.trees }
-{
-    let Ok(history) = replay_of::<Sum>(alloc, prepared, tree) else {
-        return false;
-    };
-    let Ok(plain) = replay_plain::<Sum>(alloc, taken, tree) else {
-        return false;
-    };
-    let lines = plain.lines.as_slice() == history.lines.as_slice();
-    lines && plain.places.as_slice() == history.places.as_slice()
-}
-
 const NONE: Job = Job {
     only: None,
     rounds: 0,
@@ -355,20 +338,6 @@ const BOTH: Job = Job {
     posts: true,
     reads: true,
 };
-
-#[test]
-fn the_plain_program_gives_the_same_rows(rt: HostRuntime) -> Result<(), Fail> {
-    let Some(taken) = record_of(&rt, rt.alloc(), 8, 14, 13, [BOTH, NONE, BOTH]) else {
-        panic!(rt; "no record")
-    };
-    let Ok(prepared) = Prepared::of(rt.alloc(), &taken) else {
-        panic!(rt; "no memory")
-    };
-    for tree in 0..14 {
-        assert!(rt; is_plain(rt.alloc(), &taken, &prepared, tree), "{tree}");
-    }
-    Ok(())
-}
 
 #[test]
 fn reads_on_threads_are_as_a_walk_says(rt: HostRuntime) -> Result<(), Fail> {

@@ -24,10 +24,10 @@ loop-preserved g c =
     let steps = c.refresh.ensures.steps in
     let few = c.loop.invariant.2 in
     let most = c.loop.invariant.3 in
-    let made_few = c.loop.invariant.4 in
-    let made_most = c.loop.invariant.5 in
-    let made_least = c.refresh.ensures.made_least in
-    let made_more = c.refresh.ensures.made_most in (
+    let own_few = c.loop.invariant.4 in
+    let own_most = c.loop.invariant.5 in
+    let least = c.refresh.ensures.own_least in
+    let more = c.refresh.ensures.own_most in (
       (kept.0 ∙ c.loop.invariant.0.0, kept.1 ∙ c.loop.invariant.0.1),
       subst (λ (n : ℕ). IsUp c.args.climb.now n c.refresh.new.climb) one_more
           (up_next c.args.climb.now c.loop.climb c.refresh.new.climb c.loop.counter

@@ -9,6 +9,6 @@ invariant-loop g l =
     × IsUp l.fn.climb l.counter l.climb
     × (l.fn.steps ≤ l.steps)
     × (l.steps ≤ l.fn.steps + 8 * l.counter)
-    × (l.fn.climb.made ≤ l.climb.made)
-    × (l.climb.made ≤ l.fn.climb.made + 8 * l.counter)
+    × (l.fn.climb.steps ≤ l.climb.steps)
+    × (l.climb.steps ≤ l.fn.climb.steps + 8 * l.counter)
     × (l.end ≡ l.fn.climb.plan.levels + 1)

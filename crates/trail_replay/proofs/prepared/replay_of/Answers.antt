@@ -8,13 +8,19 @@ use Rattle.trail_replay.specs.Blocks.{places_to}
 use Rattle.trail_replay.specs.Fronts.{front_of, last_stamp, IsLawful}
 use Rattle.trail_replay.specs.Histories.{posts_of_tree, lines_of_tree, history_of, places_of}
 use Rattle.trail_replay.specs.Histories.{AreLegalIn}
-use Rattle.trail_replay.proofs.BlockSteps.{root_stamp, if_ok_both}
+use Rattle.trail_replay.proofs.BlockSteps.{if_ok_both}
 use Rattle.node_rule.proofs.Closing.{if_ok}
 use Rattle.trail_replay.proofs.LegalHistories.{legal_lines}
 use Rattle.trail_replay.proofs.Places.{length-places_to}
 use Rattle.trail_replay.proofs.PreparedTables.{map-twice, all-long}
 use Rattle.trail_replay.proofs.Walkable.{walkable}
 use Rattle.trail_replay.proofs.prepared.replay_of.Goals as goal
+
+pub last_of-last-requires-clause-stamped : goal.last_of-last-requires-clause-stamped
+last_of-last-requires-clause-stamped g c =
+    let lawful = subst (IsLawful g.F.Fold.UNIT g.F.Fold.CAP g.F.Fold.join)
+    (sym c.prepared.view_is) c.requires.lawful in
+    (lawful.quota, lawful.kept.stamps)
 
 pub history_to-requires-clause-posts : goal.history_to-requires-clause-posts
 history_to-requires-clause-posts g c =
@@ -44,15 +50,10 @@ returns-clause-lines g c =
     let taken = c.prepared.inside.taken.now in
     let tree = c.args.tree in
     let is = c.prepared.view_is in
-    let lawful = subst (IsLawful g.F.Fold.UNIT g.F.Fold.CAP g.F.Fold.join) (sym is)
-    c.requires.lawful in
-    let last = root_stamp taken (lawful.quota, lawful.kept.stamps) tree
-    (subst (λ (r : Record). tree < r.shape.trees) (sym is) c.requires.tree)
-    c.index-root.result.now c.root.result c.stamp_of-last.result c.stamp_of-last.ensures.stamp
-    c.index-root.ensures c.root.ensures in
     if_ok _ _ c.history_to.result
     (λ h lines. lines
-    ∙ (ap (lines_of_tree taken tree) last ∙ ap (λ (r : Record). history_of r tree) is))
+    ∙ (ap (lines_of_tree taken tree) c.last_of-last.ensures
+    ∙ ap (λ (r : Record). history_of r tree) is))
     c.history_to.ensures.lines
 
 pub returns-clause-places : goal.returns-clause-places
@@ -60,17 +61,12 @@ returns-clause-places g c =
     let taken = c.prepared.inside.taken.now in
     let tree = c.args.tree in
     let is = c.prepared.view_is in
-    let lawful = subst (IsLawful g.F.Fold.UNIT g.F.Fold.CAP g.F.Fold.join) (sym is)
-    c.requires.lawful in
-    let last = root_stamp taken (lawful.quota, lawful.kept.stamps) tree
-    (subst (λ (r : Record). tree < r.shape.trees) (sym is) c.requires.tree)
-    c.index-root.result.now c.root.result c.stamp_of-last.result c.stamp_of-last.ensures.stamp
-    c.index-root.ensures c.root.ensures in
     let front = front_of taken.shape.levels taken.passes.items tree in
     let posts = posts_of_tree tree taken.passes.items in
     if_ok _ _ c.history_to.result
     (λ h places. places
-    ∙ (ap (places_to front posts) last ∙ ap (λ (r : Record). places_of r tree) is))
+    ∙ (ap (places_to front posts) c.last_of-last.ensures
+    ∙ ap (λ (r : Record). places_of r tree) is))
     c.history_to.ensures.places
 
 pub returns-clause-legal : goal.returns-clause-legal
@@ -81,9 +77,7 @@ returns-clause-legal g c =
     let lawful = subst (IsLawful g.F.Fold.UNIT g.F.Fold.CAP g.F.Fold.join) (sym is)
     c.requires.lawful in
     let tree_in = subst (λ (r : Record). tree < r.shape.trees) (sym is) c.requires.tree in
-    let last = root_stamp taken (lawful.quota, lawful.kept.stamps) tree tree_in
-    c.index-root.result.now c.root.result c.stamp_of-last.result c.stamp_of-last.ensures.stamp
-    c.index-root.ensures c.root.ensures in
+    let last = c.last_of-last.ensures in
     let front = front_of taken.shape.levels taken.passes.items tree in
     let posts = posts_of_tree tree taken.passes.items in
     if_ok_both _ _ _ c.history_to.result
@@ -101,14 +95,9 @@ returns-clause-stamps g c =
     let taken = c.prepared.inside.taken.now in
     let tree = c.args.tree in
     let is = c.prepared.view_is in
-    let lawful = subst (IsLawful g.F.Fold.UNIT g.F.Fold.CAP g.F.Fold.join) (sym is)
-    c.requires.lawful in
-    let last = root_stamp taken (lawful.quota, lawful.kept.stamps) tree
-    (subst (λ (r : Record). tree < r.shape.trees) (sym is) c.requires.tree)
-    c.index-root.result.now c.root.result c.stamp_of-last.result c.stamp_of-last.ensures.stamp
-    c.index-root.ensures c.root.ensures in
     let long = length-places_to (front_of taken.shape.levels taken.passes.items tree)
-    (posts_of_tree tree taken.passes.items) c.stamp_of-last.result in
+    (posts_of_tree tree taken.passes.items) c.last_of-last.result in
+    let last = c.last_of-last.ensures in
     let end = ap (λ (r : Record). last_stamp r tree) is in
     if_ok _ _ c.history_to.result
     (λ h places. let same = ap (λ (s : List ℕ). length s) places in
@@ -121,6 +110,6 @@ returns-clause-walkable g c =
     let lawful = subst (IsLawful g.F.Fold.UNIT g.F.Fold.CAP g.F.Fold.join)
     (sym c.prepared.view_is) c.requires.lawful in
     let can = walkable g.F.Fold.UNIT g.F.Fold.CAP g.F.Fold.join taken c.args.tree
-    c.stamp_of-last.result lawful in
+    c.last_of-last.result lawful in
     if_ok _ _ c.history_to.result
     (λ h lines. subst (AreLines g.F.Fold.CAP) (sym lines) can) c.history_to.ensures.lines

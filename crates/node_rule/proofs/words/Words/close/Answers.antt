@@ -6,14 +6,14 @@ use Rattle.node_rule.proofs.Closing.{close_kept, if_ok}
 use Rattle.node_rule.proofs.words.Words.close.Goals as goal
 
 pub free-requires : goal.free-requires
-free-requires g c = λ k h. let none = c.close_with-closed.ensures.counts.1 in
+free-requires g c = λ k h. let none = c.close_with-closed.ensures.slots.0 in
     let slots = c.self.invariant.2 in absurd (omega arith)
 
 pub returns : goal.returns
 returns g c =
     let joined = c.requires.joined in
     let seen = ap (λ s. s.view) c.keeper.view_is ∙ joined.2 in
-    let final = c.close_with-closed.ensures.values.2 in
+    let final = c.close_with-closed.ensures.rule in
     let kept = close_kept c.self.inside.table.key c.args.self.plan g.F.Fold.UNIT g.F.Fold.CAP
     g.F.Fold.join (c.self.invariant.1
     ∙ ap (λ s. s.plan) c.self.view_is) c.keeper.inside.seat.id c.keeper.inside.seat.me.0

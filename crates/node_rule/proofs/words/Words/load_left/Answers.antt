@@ -1,53 +1,47 @@
-use Rattle.std.proofs.Common.{◌≡◌, ◌<◌, ◌*◌, ◌^◌, ◌/◌, ℕ, ap, sym, subst, ◌∙◌, arith}
+use Rattle.std.proofs.Common.{◌≡◌, ap, ◌∙◌, arith}
 use Rattle.std.specs.Prelude.{Some}
 use Rattle.node_rule.specs.declared.view.View.TheVariants.{Session}
 use Rattle.stamp_word.specs.Places.{place_of}
-use Rattle.node_rule.specs.declared.view.Plan.{Plan}
-use Rattle.node_rule.proofs.OnWay.{node_place_in, held_stands, held_is}
+use Rattle.node_rule.proofs.Held.{same_plan, held_stands, held_is, parent_is_inner, near_place_in}
 use Rattle.node_rule.proofs.ClimbSteps.{left_allowed}
 use Rattle.node_rule.proofs.words.Words.load_left.Goals as goal
 
+pub left-requires : goal.left-requires
+left-requires g c =
+    let stands = held_stands c.climb.invariant.0 c.self.inside.plan c.in-Some.x
+    (same_plan c.climb.view_is c.self.view_is c.requires.table) c.in-Some.is in
+    record {
+      inner = parent_is_inner stands c.shape_of-shape.result.levels c.shape_of-shape.ensures.0;
+    }
+
 pub path-place-requires-clause-node : goal.path-place-requires-clause-node
 path-place-requires-clause-node g c =
-    let stands = held_stands g.F.Fold.under c.climb.inside.keeps c.climb.inside.plan
-    c.climb.inside.number c.climb.inside.calls.items c.climb.inside.trail.items
-    c.climb.inside.ascent c.climb.inside.seat.me.0 c.climb.invariant.0 c.in-Some.x
-    c.in-Some.is in
-    let levels : c.climb.inside.plan.levels ≡ c.shape_of.result.levels =
-    ap (λ s. s.plan.levels) c.climb.view_is
-    ∙ (ap (λ (p : Plan). p.levels) (c.requires.table.1 ∙ sym (ap (λ s. s.plan) c.self.view_is))
-    ∙ sym c.shape_of.ensures.0) in
-    let high : c.in-Some.x.node < 2 * 2 ^ c.shape_of.result.levels =
-    subst (λ (n : ℕ). c.in-Some.x.node < 2 * 2 ^ n) levels stands.high in
+    let stands = held_stands c.climb.invariant.0 c.self.inside.plan c.in-Some.x
+    (same_plan c.climb.view_is c.self.view_is c.requires.table) c.in-Some.is in
+    let inner = parent_is_inner stands c.shape_of-shape.result.levels c.shape_of-shape.ensures.0 in
+    let high = inner.1 in
+    let child = c.left.ensures in
     omega arith
 
 pub load-word-requires-clause-place : goal.load-word-requires-clause-place
 load-word-requires-clause-place g c =
-    let stands = held_stands g.F.Fold.under c.climb.inside.keeps c.climb.inside.plan
-    c.climb.inside.number c.climb.inside.calls.items c.climb.inside.trail.items
-    c.climb.inside.ascent c.climb.inside.seat.me.0 c.climb.invariant.0 c.in-Some.x
-    c.in-Some.is in
-    let same : c.climb.inside.plan ≡ c.self.inside.plan = ap (λ s. s.plan) c.climb.view_is
-    ∙ (c.requires.table.1 ∙ sym (ap (λ s. s.plan) c.self.view_is)) in
-    node_place_in c.self.inside.plan c.climb.inside.plan c.in-Some.x same stands
-    (2 * (c.in-Some.x.node / 2)) c.shape_of.result.levels c.path-place.result
-    c.self.inside.table.table_id.words
-    (omega arith) c.shape_of.ensures.0 c.path-place.ensures c.self.invariant.3
+    let stands = held_stands c.climb.invariant.0 c.self.inside.plan c.in-Some.x
+    (same_plan c.climb.view_is c.self.view_is c.requires.table) c.in-Some.is in
+    let child = c.left.ensures in
+    near_place_in stands c.left.result c.shape_of-shape.result.levels c.path-place.result
+    c.self.inside.table.table_id.words (omega arith) c.shape_of-shape.ensures.0
+    c.path-place.ensures c.self.invariant.3
 
 pub load-word-requires-clause-allowed : goal.load-word-requires-clause-allowed
 load-word-requires-clause-allowed g c =
     let x = c.requires.stage.0 in
-    let seen : c.climb.inside.seat.me.0 ≡ Session c.args.climb.now.plan.levels c.requires.stage.1.0
-    (Some x) = ap (λ s. s.view) c.climb.view_is ∙ c.requires.stage.1.1 in
-    let same : c.climb.inside.plan ≡ c.self.inside.plan = ap (λ s. s.plan) c.climb.view_is
-    ∙ (c.requires.table.1 ∙ sym (ap (λ s. s.plan) c.self.view_is)) in
-    let held = held_is g.F.Fold.under c.climb.inside.keeps c.climb.inside.plan c.climb.inside.number
-    c.climb.inside.calls.items c.climb.inside.trail.items c.climb.inside.ascent
-    c.climb.inside.seat.me.0 c.climb.invariant.0 _ _ x c.in-Some.x seen c.in-Some.is in
-    let key : c.self.inside.table.key ≡ c.self.inside.plan = c.self.invariant.1 in
-    left_allowed g.F.Fold.UNIT g.F.Fold.CAP g.F.Fold.join g.F.Fold.le g.F.Fold.under
-    g.met.F.Fold.laws c.self.inside.table.table_id.slots c.climb.inside.seat.id
-    c.climb.inside.seat.me c.self.inside.table.key c.self.inside.plan key
-    _ _ x c.in-Some.x c.requires.stage.2.0 seen held c.requires.stage.2.1 c.path-place.result
-    (c.path-place.ensures ∙ ap (λ (n : ℕ). place_of n c.in-Some.x.tree
-    (2 * (c.in-Some.x.node / 2))) c.shape_of.ensures.0)
+    let track = c.requires.stage.1.0 in
+    let seen : c.climb.inside.seat.me.0 ≡ Session c.args.climb.now.plan.levels track (Some x) =
+    ap (λ s. s.view) c.climb.view_is ∙ c.requires.stage.1.1 in
+    let held = held_is c.climb.invariant.0 c.args.climb.now.plan.levels track x c.in-Some.x seen
+    c.in-Some.is in
+    left_allowed g.met.F.Fold.laws c.self.inside.table.table_id.slots c.climb.inside.seat.id
+    c.climb.inside.seat.me c.self.invariant.1 c.args.climb.now.plan.levels track x c.in-Some.x
+    seen held c.path-place.result c.requires.stage.2.0 c.requires.stage.2.1
+    (c.path-place.ensures
+    ∙ (λ i. place_of (c.shape_of-shape.ensures.0 i) c.in-Some.x.tree (c.left.ensures i)))

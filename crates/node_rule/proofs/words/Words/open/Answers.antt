@@ -30,7 +30,9 @@ of_words-requires g c =
     let words : c.as_slice.result.now ≡ replicate
     (plan.trees * (2 * 2 ^ plan.levels)) g.F.Fold.UNIT = c.as_slice.ensures.value
     ∙ (made ∙ (λ i. replicate (plan.trees * fits i) (c.UNIT.ensures i))) in
-    subst (λ (ws : List ℕ). IsKept plan g.F.Fold.UNIT g.F.Fold.CAP g.F.Fold.join ws
-    (Keeper plan.levels 0 [] ∷ [])) (sym words)
-    (opens plan g.F.Fold.UNIT g.F.Fold.CAP g.F.Fold.join g.F.Fold.le g.F.Fold.under
-    g.met.F.Fold.laws planned)
+    record {
+      rule = subst (λ (ws : List ℕ). IsKept plan g.F.Fold.UNIT g.F.Fold.CAP g.F.Fold.join ws
+          (Keeper plan.levels 0 [] ∷ [])) (sym words)
+          (opens plan g.F.Fold.UNIT g.F.Fold.CAP g.F.Fold.join g.F.Fold.le g.F.Fold.under
+          g.met.F.Fold.laws planned);
+    }

@@ -21,10 +21,9 @@ load-word-requires-clause-allowed g c =
     let tree_in : c.args.tree < c.self.inside.plan.trees =
     subst (λ (p : Plan). c.args.tree < p.trees) (c.requires.table.1
     ∙ sym (ap (λ s. s.plan) c.self.view_is)) c.requires.tree in
-    read_allowed g.F.Fold.UNIT g.F.Fold.CAP g.F.Fold.join g.F.Fold.le g.F.Fold.under
-    g.met.F.Fold.laws c.self.inside.table.table_id.slots c.climb.inside.seat.id
-    c.climb.inside.seat.me c.self.inside.table.key c.self.inside.plan c.self.invariant.1
-    c.args.climb.now.plan.levels track c.args.tree c.root-place.result seen tree_in (omega arith)
+    read_allowed g.met.F.Fold.laws c.self.inside.table.table_id.slots c.climb.inside.seat.id
+    c.climb.inside.seat.me c.self.invariant.1 c.args.climb.now.plan.levels track c.args.tree
+    c.root-place.result seen tree_in (omega arith)
     (c.root-place.ensures ∙ ap (λ (n : ℕ). place_of n c.args.tree 1) c.shape_of.ensures.0)
 
 pub returns-clause-view : goal.returns-clause-view
@@ -45,12 +44,7 @@ pub invariant_of-climb : goal.invariant_of-climb
 invariant_of-climb g c =
     let track = c.requires.idle.0 in
     let seen = ap (λ s. s.view) c.climb.view_is ∙ c.requires.idle.1 in
-    let same : c.climb.inside.plan ≡ c.self.inside.plan = ap (λ s. s.plan) c.climb.view_is
-    ∙ (c.requires.table.1 ∙ sym (ap (λ s. s.plan) c.self.view_is)) in
-    let seat = idle_seat g.F.Fold.under c.climb.inside.plan c.climb.inside.number
-    c.climb.inside.calls.items c.climb.inside.trail.items c.climb.inside.ascent
-    c.climb.inside.seat.me.0 c.climb.inside.keeps c.climb.invariant.0
-    c.args.climb.now.plan.levels track seen in
+    let seat = idle_seat c.climb.invariant.0 c.args.climb.now.plan.levels track seen in
     let after = read_told c.self.inside.plan c.args.climb.now.plan.levels track c.args.tree
     c.root-place.result c.load-word.result c.stamp_of.result c.value_of.result
     c.climb.inside.seat.me c.load-word.new.seat.me seen
@@ -59,14 +53,12 @@ invariant_of-climb g c =
     c.stamp_of.ensures.stamp c.value_of.ensures.value c.load-word.ensures.told.0 in
     let made = c.push_reserved.ensures.items in
     let call : Call = Read c.args.tree c.stamp_of.result c.value_of.result in (
-      called_sound g.F.Fold.under c.climb.inside.plan c.climb.inside.number
-          c.climb.inside.calls.items c.climb.inside.trail.items c.climb.inside.ascent
-          c.climb.inside.seat.me.0 c.climb.inside.keeps c.climb.invariant.0
-          c.args.climb.now.plan.levels track seen call c.push_reserved.new.self.items made
+      called_sound c.climb.invariant.0 c.args.climb.now.plan.levels track seen call
+          c.push_reserved.new.self.items made
           c.climb.inside.ascent
-          c.climb.invariant.0.climb c.load-word.new.seat.me.0
+          c.climb.invariant.0.on_way c.load-word.new.seat.me.0
           (after ∙ ap (λ (o : Option Ascent). Session c.args.climb.now.plan.levels
-          (called track call) o) (sym seat.climb)),
+          (called track call) o) (sym seat.no_ascent)),
       ap (λ m. m.1) c.load-word.ensures.told.0 ∙ c.climb.invariant.1,
       read_room c.climb.inside.plan.levels c.climb.inside.spare _ _ _ _ _ _ c.climb.inside.ascent
           (let some = ap (λ s. s.spare) c.climb.view_is in let spare = c.requires.spare in

@@ -11,10 +11,10 @@ join_seat-requires g c =
     let both = g.M.Join.both in
     let spent = g.M.Join.spent in
     let table = sym (ap (λ t. t.table_id) c.self.view_is) in (
-      ap (λ s. s.table_id) c.seat.view_is ∙ (c.requires.0 ∙ table),
-      ap (λ s. s.table_id) c.other.view_is ∙ (c.requires.1 ∙ table),
-      ap (λ s. s.me.1) c.other.view_is ∙ c.requires.2,
-      subst (λ t. 0 < t.table_id.words) (sym c.self.view_is) c.requires.3,
+      ap (λ s. s.table_id) c.seat.view_is ∙ (c.requires.seat ∙ table),
+      ap (λ s. s.table_id) c.other.view_is ∙ (c.requires.other.0 ∙ table),
+      ap (λ s. s.me.1) c.other.view_is ∙ c.requires.other.1,
+      subst (λ t. 0 < t.table_id.words) (sym c.self.view_is) c.requires.some,
       counted_joins (holds c.self.inside.table.shared.key) seat.id seat.me.0 other.id other.me.0
           (both seat.me.0.0 other.me.0.0) spent (suc seat.me.0.1) 0
           (subst (λ t. Joins (holds t.key) seat.id seat.me.0.0 other.id other.me.0.0
@@ -23,5 +23,5 @@ join_seat-requires g c =
           (both s.me.0 other.me.0.0) spent) (sym c.seat.view_is)
           (subst (λ o. Joins (holds c.args.self.now.key) c.args.seat.now.id c.args.seat.now.me.0
           o.id o.me.0 (both c.args.seat.now.me.0 o.me.0) spent) (sym c.other.view_is)
-          c.requires.4))),
+          c.requires.allowed))),
     )

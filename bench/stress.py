@@ -1,0 +1,128 @@
+#!/usr/bin/env python3
+"""Runs the built program over random sessions that share an account and a symbol, and judges each run.
+
+usage: stress.py [--runs N] [--seed N] [--gate PATH] [--keep FOLDER]      2,000 runs, seed 1
+
+A run has 2 to 32 sessions. Its journal has to be legal and to admit within the limits at every place;
+each session's acts and both streams, the totals and the status have to be those of the plain model in
+`model` over its input and its reads. It prints what it ran and saw, and in how much of it sessions met:
+a read that has posts of a session which goes on posting after it. It ends with status 1 at the first run
+that is wrong, whose files it leaves in FOLDER, where one is given.
+"""
+import argparse
+import os
+import platform
+import random
+import shutil
+import subprocess
+import sys
+import tempfile
+import time
+from collections import Counter
+
+import loads
+from model.judge import Wrong, judge_run
+
+HERE = os.path.dirname(os.path.abspath(__file__))
+PROGRAM = os.path.join(HERE, "..", "crates", "gate_program", "out", "gate_program")
+
+
+def write(folder, name, data):
+    """Writes a file, and gives its path."""
+    path = os.path.join(folder, name)
+    with open(path, "wb") as file:
+        file.write(data)
+    return path
+
+
+def read(folder, name):
+    """A file's bytes."""
+    with open(os.path.join(folder, name), "rb") as file:
+        return file.read()
+
+
+def made(number):
+    """The limit file and the inputs of a run."""
+    dice = random.Random(number)
+    limits = loads.limits(dice)
+    sessions = dice.choice((2, 2, 3, 4, 5, 8, 8, 16, 32))
+    messages = dice.choice((5, 20, 60, 200)) if sessions <= 8 else dice.choice((5, 20, 60))
+    return limits, [loads.session(dice, session, messages) for session in range(sessions)]
+
+
+def run(program, folder, limits, inputs):
+    """Runs the program in a folder. Gives what `judge_run` takes behind the inputs."""
+    out = os.path.join(folder, "out")
+    os.mkdir(out)
+    names = [write(folder, f"s{number:02}.fix", data) for number, data in enumerate(inputs)]
+    words = [program, "run", write(folder, "limits.csv", limits.encode()), out] + names
+    done = subprocess.run(words, capture_output=True, text=True, check=False)
+    venues = [read(out, f"s{number:02}.venue") for number in range(len(inputs))]
+    clients = [read(out, f"s{number:02}.client") for number in range(len(inputs))]
+    return venues, clients, read(out, "journal.csv").decode(), done.stdout, done.returncode
+
+
+def overlaps(acts):
+    """Whether a session read between posts of another in the firm's tree, by the reads' places."""
+    spans = []
+    for own in acts:
+        places = [act[3] for act in own if act[0] == "read" and act[1] == 0]
+        if places:
+            spans.append((min(places), max(places)))
+    spans.sort()
+    return any(after[0] < before[1] for before, after in zip(spans, spans[1:]))
+
+
+def count(counts, acts):
+    """Adds what a run's sessions did."""
+    counts["runs"] += 1
+    counts["sessions"] += len(acts)
+    counts["met"] += overlaps(acts)
+    for own in acts:
+        for act in own:
+            if act[0] == "refused":
+                counts["refused", act[2]] += 1
+            elif act[0] == "noted":
+                counts["noted", act[2]] += 1
+            counts[act[0]] += 1
+
+
+def arguments():
+    """What the command line asks for."""
+    parser = argparse.ArgumentParser()
+    parser.add_argument("--runs", type=int, default=2_000)
+    parser.add_argument("--seed", type=int, default=1)
+    parser.add_argument("--gate", default=PROGRAM)
+    parser.add_argument("--keep")
+    return parser.parse_args()
+
+
+def tell(counts, seconds):
+    """Prints the figures."""
+    causes = ", ".join(f"{code}: {counts['refused', code]:,}" for code in range(1, 17))
+    notes = ", ".join(f"{code}: {counts['noted', code]:,}" for code in range(1, 7))
+    print(f"{counts['runs']:,} runs of {counts['sessions']:,} sessions, in {counts['met']:,} of which "
+          f"sessions met, {seconds:.0f} s; {platform.machine()}, {os.cpu_count()} processors")
+    print(f"posts {counts['post']:,}, reads {counts['read']:,}, sent {counts['sent']:,}, "
+          f"refused {counts['refused']:,}, noted {counts['noted']:,}")
+    print(f"refused by code  {causes}")
+    print(f"noted by code    {notes}")
+
+
+def main():
+    asked, counts, start = arguments(), Counter(), time.monotonic()
+    for number in range(asked.runs):
+        limits, inputs = made(asked.seed * 1_000_003 + number)
+        with tempfile.TemporaryDirectory() as folder:
+            try:
+                count(counts, judge_run(limits, inputs, *run(asked.gate, folder, limits, inputs)))
+            except (Wrong, OSError) as wrong:
+                if asked.keep:
+                    shutil.copytree(folder, asked.keep)
+                print(f"run {number} of seed {asked.seed} is wrong: {wrong!r}")
+                sys.exit(1)
+    tell(counts, time.monotonic() - start)
+
+
+if __name__ == "__main__":
+    main()

@@ -1,0 +1,8 @@
+use Rattle.std.proofs.Common.{refl}
+use Rattle.trail_replay.proofs.LegalHistories.{legal_lines}
+use Rattle.trail_replay.proofs.laws.histories_are_legal_by_places.Goals as goal
+
+pub returns : goal.returns
+returns g c taken tree lawful tree_in =
+    legal_lines g.F.Fold.UNIT g.F.Fold.CAP g.F.Fold.join g.F.Fold.le g.F.Fold.under
+    g.met.F.Fold.laws taken tree lawful tree_in _ _ refl refl

@@ -1,0 +1,95 @@
+"""One call of the launcher, from its words to its status."""
+import os
+import signal
+import subprocess
+import sys
+
+from launcher.building import is_due, program_of
+from launcher.files import why_not_read
+from launcher.outputs import left_over, marks
+from launcher.reasons import reasons
+from launcher.say import name, say
+from launcher.usage import HELP, USAGE, version
+from launcher.words import read_run
+
+NO_PROGRAM, MALFORMED, UNREAD = 1, 2, 5
+
+
+def main(top, words):
+    """Does what the words ask for; the status of the call."""
+    try:
+        if words and words[0] in ("--help", "-h"):
+            print(HELP.format(top=top), end="")
+            return 0
+        if words and words[0] == "--version":
+            print(version(top))
+            return 0
+        if words and words[0] == "report":
+            return report(top, words[1:])
+        return run(top, words)
+    except KeyboardInterrupt:
+        return 130
+
+
+def run(top, words):
+    """A run, or what is wrong with the words."""
+    asked, fault = read_run(words)
+    if fault:
+        say(f"{fault}. Nothing was read or written; `gate --help` tells more")
+        print(USAGE)
+        return MALFORMED
+    if is_due(top):
+        unread = next(((path, why) for path in asked.inputs() if (why := why_not_read(path))), None)
+        if unread:
+            say(f"{name(unread[0])} can't be read: {unread[1]}. Nothing was built or written")
+            print("read fault")
+            return UNREAD
+    program = program_of(top)
+    return run_program(program, words, asked) if program else NO_PROGRAM
+
+
+def report(top, words):
+    """A report on a run, made by the script beside the program. It needs no program."""
+    script = os.path.join(top, "report")
+    if not os.path.isdir(script):
+        say(f"there is no report in {top}")
+        return NO_PROGRAM
+    return subprocess.call([sys.executable, "-B", script, *words])
+
+
+def run_program(program, words, asked):
+    """Runs the program, and says why where its status isn't 0, and what lies in OUT of an earlier run."""
+    try:
+        os.makedirs(asked.out, exist_ok=True)
+    except OSError:
+        pass  # The program says that it can't write there, and `reasons` why.
+    before = marks(asked.out)
+    try:
+        status = status_of([program, *words])
+    except OSError as error:
+        say(f"{program} can't be started: {error.strerror}")
+        return NO_PROGRAM
+    if status != 0:
+        for line in reasons(asked, status, before):
+            say(line)
+    tell_left_over(asked, before, status)
+    return status if status >= 0 else 128 - status
+
+
+def status_of(command):
+    """The status of a command, which gets this call's input and output, and what would end this call."""
+    started = subprocess.Popen(command)
+    for number in (signal.SIGTERM, signal.SIGHUP):
+        signal.signal(number, lambda got, _: started.send_signal(got))
+    while True:
+        try:
+            return started.wait()
+        except KeyboardInterrupt:
+            continue  # The program got it too, and ends by it.
+
+
+def tell_left_over(asked, before, status):
+    """Names the outputs of an earlier run, which aren't this one's."""
+    old = left_over(asked, before, status)
+    if old:
+        say(f"warning: of an earlier run, and not written by this one: {', '.join(f'{name(asked.out)}/{one}' for one in old)}")

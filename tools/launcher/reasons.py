@@ -1,0 +1,146 @@
+"""Why a run ended with a status other than 0: read from the files themselves, after it has ended."""
+import os
+import signal
+import stat
+
+from launcher import limit_file, session_file
+from launcher.files import is_full, why_not_read, why_not_written
+from launcher.outputs import was_written
+from launcher.say import name
+
+ENDS = {"1": "cut", "2": "broken", "3": "long"}
+
+
+def reasons(run, status, before):
+    """The lines for standard error about a run that ended with this status. `before` are the marks of OUT at its
+    beginning."""
+    if status < 0:
+        return [killed(-status)]
+    told = {3: of_limits, 4: of_sessions, 5: of_reads, 6: of_writes, 8: of_memory, 9: of_rows}
+    return told[status](run, before) if status in told else [f"the program ended with {status}, which is no status of a run"]
+
+
+def killed(number):
+    """A program that a signal ended."""
+    known = signal.Signals(number).name if number in list(signal.Signals) else f"signal {number}"
+    more = ": maybe the machine ran out of memory" if number == signal.SIGKILL else ""
+    return f"the program was ended by {known}{more}"
+
+
+def of_limits(run, _):
+    try:
+        with open(run.limits, "rb") as file:
+            fault = limit_file.first_fault(file.read(limit_file.LONGEST + 1))
+    except OSError as error:
+        return [f"{name(run.limits)} can't be read again: {error.strerror}"]
+    if fault is None:
+        return [f"{name(run.limits)} has no fault now: it was changed meanwhile"]
+    return fault.told(name(run.limits))
+
+
+def of_sessions(run, before):
+    """For each session that ended before its file did: where and why."""
+    lines = []
+    for session, end in ends(run, before):
+        lines += of_session(run, session, end)
+    return lines or ["no session file ends early now: one was changed meanwhile"]
+
+
+def of_session(run, session, end):
+    kind, place = end
+    path = run.sessions[session]
+    if kind == "read":
+        return [f"{name(path)}: session {session} ended, since a read failed{because(why_not_read(path))}"]
+    if kind == "write":
+        streams = [run.stream(session, one) for one in ("venue", "client")]
+        return [
+            f"session {session} ended, since a write failed, of {name(streams[0])} or {name(streams[1])}"
+            + because(next((why for why in map(why_not_written, streams) if why), room(run.out)))
+        ]
+    if kind == "memory":
+        return [f"{name(path)}: session {session} ended, since memory was refused"]
+    if not is_plain(path):
+        return [f"{name(path)}, byte {place:,}: {session_file.WHAT[kind]}. It is no plain file, and can't be read again"]
+    return session_file.told(path, session_file.End(kind, place))
+
+
+def because(why):
+    return f": {why}" if why else ""
+
+
+def room(out):
+    return "no room is left on the disk" if is_full(out) else None
+
+
+def is_plain(path):
+    try:
+        return stat.S_ISREG(os.stat(path).st_mode)
+    except OSError:
+        return False
+
+
+def ends(run, before):
+    """Each session whose end isn't that of its whole file, with that end: from the journal of this run, or from the
+    session files where it wrote none."""
+    if was_written(run, before):
+        found = list(journal_ends(run))
+        if found:
+            return found
+    return list(file_ends(run))
+
+
+def journal_ends(run):
+    """The ends that the journal tells."""
+    words = {**ENDS, "4": "read", "5": "write", "6": "memory"}
+    with open(run.journal(), encoding="ascii", errors="replace") as journal:
+        for line in journal:
+            row = line.rstrip("\n").split(",")
+            if row[0] == "ended" and len(row) == 6 and row[2] in words and int(row[1]) < len(run.sessions):
+                yield int(row[1]), (words[row[2]], int(row[3] or 0))
+
+
+def file_ends(run):
+    """The ends that the session files have by themselves."""
+    for session, path in enumerate(run.sessions):
+        if is_plain(path) and not why_not_read(path):
+            end = session_file.end_of(path)
+            if end.kind != "whole":
+                yield session, (end.kind, end.place)
+
+
+def of_reads(run, before):
+    """The files that can't be read, or the sessions that ended so."""
+    unread = [(path, why_not_read(path)) for path in run.inputs()]
+    lines = [f"{name(path)} can't be read: {why}" for path, why in unread if why]
+    return lines or [line for session, end in ends(run, before) for line in of_session(run, session, end)] or [
+        "a read failed, of " + ", ".join(name(path) for path in run.inputs()) + "; each can be read now"
+    ]
+
+
+def of_writes(run, before):
+    """The files that can't be written, or the sessions that ended so, or else standard output."""
+    unwritten = [(path, why_not_written(path)) for path in run.outputs()]
+    lines = [f"{name(path)} can't be written: {why}" for path, why in unwritten if why]
+    if was_written(run, before):
+        lines += [line for session, end in ends(run, before) for line in of_session(run, session, end)]
+    if lines:
+        return lines
+    full = room(run.out)
+    return [f"{name(run.out)}: {full}" if full else "standard output couldn't be written: it is closed or full"]
+
+
+def of_memory(run, _):
+    return ["out of memory: give it more, or run fewer or shorter sessions at once. What OUT holds now is of no use"]
+
+
+def of_rows(run, _):
+    """The first row that isn't served."""
+    with open(run.limits, "rb") as file:
+        data = file.read(limit_file.LONGEST + 1)
+    for row in limit_file.rows(data):
+        if row.kind == b"off":
+            return [
+                f"{name(run.limits)}, row {row.number}, line {row.line}: `off` rows, which drop a screen, "
+                "aren't served yet: take the row away"
+            ]
+    return [f"{name(run.limits)} has a row that isn't served yet"]

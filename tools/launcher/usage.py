@@ -1,0 +1,67 @@
+"""What `--help` and `--version` tell, and the one line that a wrong call gets on standard output."""
+import os
+import shutil
+import subprocess
+
+USAGE = "usage: gate run LIMITS OUT SESSION..."
+
+KIT = "rattle-kit-13f logic dac8208d650f15bf"
+
+HELP = """\
+usage: gate run LIMITS OUT SESSION...
+       gate report LIMITS OUT SESSION...
+       gate --help | --version
+
+Reads a limit file and 1 to 32 session files in FIX 4.4, sends each order on or refuses it, and writes
+OUT/s00.venue and OUT/s00.client for the first session, s01 for the second and so on, and OUT/journal.csv.
+OUT is made where it isn't there. The program is proved and built first, where that is due.
+`report`, with the words of a run that has ended, writes OUT/report.html and OUT/requests.csv about it.
+
+status of a run
+  0  every session file was read to its end, and everything was written
+  1  the program couldn't be built or started
+  2  the command line is malformed, or names one file twice; nothing was read or written
+  3  the limit file has a fault
+  4  a session file ends within a message, or something stands in it that is no message
+  5  a file couldn't be read
+  6  a file, or standard output, couldn't be written
+  8  out of memory
+  9  the limit file has a row that isn't served yet
+
+To try it: ./gate run examples/first/limits.csv out/first examples/first/session.fix
+A log with `|` for SOH or with time prefixes: tools/session_from_log.py makes a session file of it, and
+tools/merge_logs.py puts a client's and a venue's log together.
+GATE_PROGRAM=PATH runs the program at PATH and builds nothing.
+
+documents, in {top}
+  README.md          what it is, and where to begin
+  docs/FORMATS.md    limit files, messages, the journal, statuses
+  docs/CLAIMS.md     what is proved
+"""
+
+
+def version(top):
+    """The version of this copy, the kit that it is proved with, and the kit that is here."""
+    return f"gate, {commit(top)}\nproved with {KIT}\non this machine: {kit_here()}"
+
+
+def commit(top):
+    """Which commit this copy is of, and whether something in it was changed since."""
+    where = ["git", "-C", top]
+    head = answer([*where, "log", "-1", "--format=%h of %cs"])
+    if not os.path.exists(os.path.join(top, ".git")) or head is None:
+        return "a copy without its history"
+    changed = answer([*where, "status", "--porcelain"])
+    return f"commit {head}" + (", changed since" if changed else "")
+
+
+def kit_here():
+    return answer(["rt", "version"]) or "no `rt` on the PATH"
+
+
+def answer(command):
+    """What a command prints, or None where it can't be run or fails."""
+    if shutil.which(command[0]) is None:
+        return None
+    done = subprocess.run(command, capture_output=True, text=True, stdin=subprocess.DEVNULL)
+    return done.stdout.strip() if done.returncode == 0 else None

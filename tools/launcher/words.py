@@ -1,0 +1,104 @@
+"""The words of a call: which run they ask for, and what is wrong with them where they ask for none."""
+import os
+
+from launcher.files import first_pair, identity
+from launcher.say import name
+
+SESSIONS = 32
+
+
+class Run:
+    """`run LIMITS OUT SESSION...`: the names as they were given."""
+
+    def __init__(self, limits, out, sessions):
+        self.limits = limits
+        self.out = out
+        self.sessions = sessions
+
+    def inputs(self):
+        """The names that are read, LIMITS first."""
+        return [self.limits, *self.sessions]
+
+    def outputs(self):
+        """The names that are written: two for each session, then the journal."""
+        streams = [self.stream(session, kind) for session in range(len(self.sessions)) for kind in ("venue", "client")]
+        return [*streams, self.journal()]
+
+    def stream(self, session, kind):
+        """The name of a session's messages for the venue, or of the answers for its client."""
+        return f"{self.out}/s{session:02}.{kind}"
+
+    def journal(self):
+        return f"{self.out}/journal.csv"
+
+
+def read_run(words):
+    """The run that these words ask for and None, or None and what is wrong with them."""
+    fault = wrong_word(words) or wrong_number(words)
+    if fault:
+        return None, fault
+    run = Run(words[1], words[2], words[3:])
+    fault = repeated(run) or overwritten(run)
+    return (None, fault) if fault else (run, None)
+
+
+def wrong_word(words):
+    """What is wrong with one of the words, or None."""
+    if not words:
+        return "no words were given"
+    for place, word in enumerate(words, 1):
+        if not is_utf8(word):
+            return f"word {place} isn't UTF-8: {name(word)}"
+    if words[0] != "run":
+        return f"`{words[0]}` is no command"
+    for place, word in enumerate(words, 1):
+        if not word:
+            return f"word {place} is empty"
+        if word.startswith("-"):
+            return f"word {place}, `{word}`, begins with a dash: write `./{word}` for a file of that name"
+    return None
+
+
+def wrong_number(words):
+    """Whether there are too few words or too many, or None."""
+    if len(words) < 4:
+        missing = ("a limit file", "a folder for the outputs", "a session file")[len(words) - 1 :]
+        return "`run` lacks " + " and ".join(missing)
+    count = len(words) - 3
+    if count > SESSIONS:
+        return f"{count} sessions were given: a run takes 1 to {SESSIONS}"
+    return None
+
+
+def repeated(run):
+    """Whether one session was given twice, under whatever names, or None."""
+    pair = first_pair([(label(run, place), path) for place, path in enumerate(run.sessions, 1)])
+    return f"{pair[0]} and {pair[1]} are the same file: a session can't be given twice" if pair else None
+
+
+def overwritten(run):
+    """Whether the run would write two outputs to one file, or write what it reads, or None."""
+    pair = first_pair([(path, path) for path in run.outputs()])
+    if pair:
+        return f"the outputs {pair[0]} and {pair[1]} are the same file"
+    written = {identity(path): path for path in run.outputs()}
+    for place, path in enumerate(run.inputs()):
+        output = written.get(identity(path))
+        if output:
+            return f"{label(run, place)} and the output {output} are the same file: the run would overwrite what it reads"
+    return None
+
+
+def label(run, place):
+    """How an input is called in a message: the word and what it is given as."""
+    if place == 0:
+        return f"{run.limits} (word 2, the limit file)"
+    return f"{run.sessions[place - 1]} (word {place + 3}, session {place - 1})"
+
+
+def is_utf8(word):
+    try:
+        os.fsencode(word).decode("utf-8")
+        return True
+    except UnicodeDecodeError:
+        return False

@@ -1,0 +1,161 @@
+"""The examples: what their READMEs show is what is in their files, and, where the program is built, what it writes.
+
+With one session each byte of a run is determined; with several it isn't, and then only the files that are read are
+compared here. The program is that of GATE_PROGRAM, or the one in crates/gate_program/out."""
+import os
+import re
+import subprocess
+import unittest
+
+from launcher.building import is_built, is_program
+from tests.places import TOP, InFolder
+from tests.test_reasons import ENDS, FAULTS
+
+EXAMPLES = os.path.join(TOP, "examples")
+ONE_SESSION = ("first", "desk", "day")
+MESSAGE = re.compile(rb"8=FIX\.4\.4\x01.*?\x0110=[0-9]{3}\x01")
+
+
+def built():
+    """The built program, or None."""
+    named = os.environ.get("GATE_PROGRAM")
+    program = os.path.join(TOP, "crates/gate_program/out/gate_program")
+    if named and is_program(named):
+        return os.path.abspath(named)
+    return program if is_built(TOP, program) else None
+
+
+def read(*names):
+    with open(os.path.join(EXAMPLES, *names), "rb") as file:
+        return file.read()
+
+
+def blocks(name):
+    """The fenced blocks of an example's README, as text."""
+    return re.findall(r"^```\n(.*?)^```$", read(name, "README.md").decode(), re.M | re.S)
+
+
+def shown(data):
+    """The messages in these bytes, as a README shows them."""
+    return [one.replace(b"\x01", b"|").decode() for one in MESSAGE.findall(data.replace(b"\n", b""))]
+
+
+class Readmes(InFolder):
+    def test_each_example_has_an_out_of_its_own(self):
+        for name in sorted(os.listdir(EXAMPLES)):
+            with self.subTest(name):
+                calls = [block for block in blocks(name) if block.startswith("./gate run ")]
+                self.assertEqual([call.split()[2:4] for call in calls], [[f"examples/{name}/limits.csv", f"out/{name}"]])
+
+    def test_the_limits_are_those_of_the_readme(self):
+        for name in sorted(os.listdir(EXAMPLES)):
+            with self.subTest(name):
+                self.assertIn(read(name, "limits.csv").decode(), blocks(name))
+
+    def test_the_messages_of_the_sessions_are_those_of_the_readme(self):
+        for name in ("first", "desk"):
+            with self.subTest(name):
+                self.assertIn("".join(line + "\n" for line in shown(read(name, "session.fix"))), blocks(name))
+
+    def test_the_days_session_is_that_of_its_logs(self):
+        tool = os.path.join(TOP, "tools/merge_logs.py")
+        logs = [os.path.join(EXAMPLES, "day", log) for log in ("client.log", "venue.log")]
+        self.assertEqual(subprocess.run([tool, *logs, self.path("day.fix")], capture_output=True).returncode, 0)
+        self.assertEqual(self.read("day.fix"), read("day", "session.fix"))
+
+    def test_what_the_day_shows_is_what_is_expected(self):
+        streams = {line for name in ("s00.venue", "s00.client") for line in shown(read("day", "expected", name))}
+        logs = read("day", "client.log").decode() + read("day", "venue.log").decode()
+        journal = read("day", "expected", "journal.csv").decode()
+        for block in blocks("day"):
+            with self.subTest(block):
+                if block.startswith("8=FIX"):
+                    self.assertLessEqual(set(block.splitlines()), streams)
+                elif block.startswith("2024"):
+                    self.assertLessEqual(set(block.splitlines()), set(logs.splitlines()))
+                elif re.match("post|sent|line", block):
+                    self.assertIn(block, journal)
+
+
+def history(journal, tree):
+    """The root of a tree of sums after each of its lines, and the place and root of each read of it."""
+    rows = [row.split(",") for row in journal.splitlines()]
+    last, roots = {}, [0]
+    for _, session, _, _, _, value in (row for row in rows if row[0] == "line" and row[2] == str(tree)):
+        last[session] = int(value)
+        roots.append(sum(last.values()))
+    reads = [(int(row[4]), int(row[5])) for row in rows if row[0] == "read" and row[2] == str(tree)]
+    return roots, reads
+
+
+@unittest.skipUnless(built(), "the program isn't built")
+class Runs(InFolder):
+    """Runs of the built program."""
+
+    def run_example(self, name):
+        words = [os.path.join(EXAMPLES, name, "limits.csv"), "out", os.path.join(EXAMPLES, name, "session.fix")]
+        status, out, error = self.gate("run", *words, env={"GATE_PROGRAM": built()})
+        self.assertEqual((status, error), (0, ""))
+        return out
+
+    def test_the_day(self):
+        self.assertEqual(self.run_example("day"), read("day", "expected", "stdout").decode())
+        for name in ("journal.csv", "s00.venue", "s00.client"):
+            self.assertEqual(self.read(f"out/{name}"), read("day", "expected", name), name)
+
+    def test_the_totals_and_journal_of_the_readmes(self):
+        for name in ONE_SESSION:
+            with self.subTest(name):
+                self.assertIn(self.run_example(name), blocks(name))
+                journal = self.read("out/journal.csv").decode()
+                for block in blocks(name):
+                    if re.match("kind,session|post|sent|line|read", block):
+                        self.assertIn(block, journal)
+
+    def test_the_messages_of_the_readmes(self):
+        for name in ONE_SESSION:
+            with self.subTest(name):
+                self.run_example(name)
+                there = {line for one in ("s00.venue", "s00.client") for line in shown(self.read(f"out/{one}"))}
+                there |= set(shown(read(name, "session.fix")))
+                for block in blocks(name):
+                    if block.startswith("8=FIX"):
+                        self.assertLessEqual(set(block.splitlines()), there)
+
+    def test_the_firm_however_its_sessions_fall(self):
+        inputs = [os.path.join(EXAMPLES, "firm", f"{name}.fix") for name in ("alpha1", "beta1", "alpha2", "beta2")]
+        done = self.run_words("run", os.path.join(EXAMPLES, "firm", "limits.csv"), self.folder, *inputs)
+        self.assertEqual(done.returncode, 0)
+        ended = re.findall(rb"session (\d) whole sent (\d) refused (\d) noted 0", done.stdout)
+        self.assertEqual([int(sent) + int(refused) for _, sent, refused in ended], [1, 2, 3, 1])
+        roots, reads = history(self.read("journal.csv").decode(), tree=0)
+        self.assertTrue(reads)
+        self.assertEqual([roots[place] for place, _ in reads], [root for _, root in reads])
+        self.assertLessEqual(roots[-1], 5000)
+
+    def test_what_the_launcher_finds_in_limits_is_what_the_program_finds(self):
+        for name, text, number, row, _, _ in FAULTS:
+            with self.subTest(name):
+                self.write("limits.csv", text)
+                done = self.run_words("run", "limits.csv", "out", "a.fix")
+                self.assertEqual((done.returncode, done.stdout), (3, f"limits fault {number} row {row}\n".encode()))
+
+    def test_what_the_launcher_finds_in_sessions_is_what_the_program_finds(self):
+        os.makedirs(self.path("out"))
+        for name, data, kind, place, _ in ENDS:
+            with self.subTest(name):
+                self.write("a.fix", data)
+                done = self.run_words("run", "limits.csv", "out", "a.fix")
+                self.assertEqual(done.returncode, 4)
+                self.says(done.stdout.decode(), f"session 0 {kind} {place} sent ")
+
+    def run_words(self, *words):
+        return subprocess.run([built(), *words], cwd=self.folder, capture_output=True)
+
+    def test_a_malformed_call_is_answered_as_the_program_does(self):
+        done = subprocess.run([built(), "run"], capture_output=True)
+        self.assertEqual((done.returncode, done.stdout.decode()), self.gate("run")[:2])
+
+
+if __name__ == "__main__":
+    unittest.main()
