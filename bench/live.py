@@ -1,14 +1,14 @@
 #!/usr/bin/env python3
-"""Runs the built program over two sessions at once through pipes, and looks at each answer before it goes on.
+"""Runs the built program over two sessions at once through pipes, and looks at each answer.
 
-usage: live.py [--gate PATH] [--orders N] [--seconds S] [--one]      20 orders a session, 10 seconds an answer
+usage: live.py [--gate PATH] [--orders N] [--seconds S] [--one]      20 orders, 10 s an answer
 
-Each session's file is a pipe whose writer stays open. An order is written to a session, then one to the
-other, and so on by turns; before the next order is written to a session, the answer to its last one has
-to stand in its file: an order's forward in the venue's, or the refusal of every third, which is above the
-size, in the client's. At the end both pipes are closed, and the program has to end with status 0. It
-prints what it saw, and ends with status 1 where an answer doesn't come in time. With --one there is one
-session alone.
+Each session's file is a pipe whose writer stays open. An order is written to a session, then one to
+the other, and so on by turns; before the next order is written to a session, the answer to its last
+one has to stand in its file: an order's forward in the venue's, or the refusal of every third, which
+is above the size, in the client's. At the end both pipes are closed, and the program has to end
+with status 0. It prints what it saw, and ends with status 1 where an answer doesn't come in time.
+With --one there is one session alone.
 """
 import argparse
 import os
@@ -28,16 +28,17 @@ def new_order(session, number):
     """A NewOrderSingle (35=D) of 5 at 10.00; every third is of 11, above the size of 10."""
     quantity = 11 if number % 3 == 2 else 5
     return frame([
-        (35, "D"), (49, f"C{session}"), (56, "GATE"), (34, number + 1), (52, TIME), (11, f"o{number}"),
-        (1, "ACC"), (55, "XYZ"), (54, 1), (38, quantity), (40, 2), (44, "10.00"), (60, TIME),
+        (35, "D"), (49, f"C{session}"), (56, "GATE"), (34, number + 1), (52, TIME),
+        (11, f"o{number}"), (1, "ACC"), (55, "XYZ"), (54, 1), (38, quantity), (40, 2),
+        (44, "10.00"), (60, TIME),
     ]).encode()
 
 
 def forward(session, number, count):
     """What the venue's file gets of it, as its message `count`."""
     return frame([
-        (35, "D"), (49, "GATE"), (56, "VENUE"), (34, count), (52, TIME), (11, f"o{number}"), (1, "ACC"),
-        (55, "XYZ"), (54, 1), (38, 5), (40, 2), (44, "10.00"), (60, TIME),
+        (35, "D"), (49, "GATE"), (56, "VENUE"), (34, count), (52, TIME), (11, f"o{number}"),
+        (1, "ACC"), (55, "XYZ"), (54, 1), (38, 5), (40, 2), (44, "10.00"), (60, TIME),
     ]).encode()
 
 
@@ -45,8 +46,8 @@ def refusal(session, number, count):
     """What the client's file gets of it, as its message `count`."""
     return frame([
         (35, "8"), (49, "GATE"), (56, f"C{session}"), (34, count), (52, TIME), (37, "NONE"),
-        (11, f"o{number}"), (17, f"G{count}"), (150, 8), (39, 8), (103, 99), (1, "ACC"), (55, "XYZ"),
-        (54, 1), (38, 11), (151, 0), (14, 0), (6, 0), (58, "SCREEN 1"),
+        (11, f"o{number}"), (17, f"G{count}"), (150, 8), (39, 8), (103, 99), (1, "ACC"),
+        (55, "XYZ"), (54, 1), (38, 11), (151, 0), (14, 0), (6, 0), (58, "SCREEN 1"),
     ]).encode()
 
 
@@ -127,7 +128,8 @@ def main():
         with open(limits, "w", encoding="ascii") as file:
             file.write(LIMITS)
         lines = [Line(folder, session) for session in range(1 if asked.one else 2)]
-        words = [asked.gate, "run", limits, os.path.join(folder, "out")] + [line.path for line in lines]
+        words = [asked.gate, "run", limits, os.path.join(folder, "out")]
+        words += [line.path for line in lines]
         with subprocess.Popen(words, stdout=subprocess.PIPE, text=True) as gate:
             try:
                 talk(lines, asked)
@@ -136,11 +138,12 @@ def main():
                 gate.kill()
         for line in lines:
             sent, refused = (len(line.wanted[stream]) for stream in ("venue", "client"))
-            print(f"session {line.session}: {sent} orders sent and {refused} refused, each answered before "
-                  f"the next was written, the slowest after {line.slowest * 1000:.1f} ms")
+            print(f"session {line.session}: {sent} orders sent and {refused} refused, each "
+                  f"answered before the next was written, the slowest after "
+                  f"{line.slowest * 1000:.1f} ms")
         if gate.returncode != 0 or not told.endswith("status 0\n"):
             sys.exit(f"status {gate.returncode}: {told}")
-        print("both pipes stayed open; status 0" if len(lines) == 2 else "the pipe stayed open; status 0")
+        print(f"{len(lines)} open at once; status 0")
 
 
 if __name__ == "__main__":

@@ -1,7 +1,8 @@
-"""Random sessions over one account and one symbol: limit files, and inputs of messages of each kind."""
+"""Random sessions over one account and one symbol: limit files, and inputs of all messages."""
 from model.frames import framed
 
 TIME = "20240102-10:00:00"
+QUANTITIES = (1, 5, 20, 60, 501, 1_000_000_000)
 
 
 def message(kind, sender, number, rest):
@@ -11,7 +12,7 @@ def message(kind, sender, number, rest):
 
 
 def limits(random):
-    """A limit file that some orders meet: firm, account, symbol, at times a trip, repeats, a small quota."""
+    """A limit file that some orders meet; at times a trip, repeats, a small quota."""
     firm = random.choice((500, 2_000, 8_000, 30_000))
     account, symbol = (firm * random.choice((7, 10, 13)) // 10 for _ in range(2))
     rows = [f"firm,,{firm},,,", f"account,ACC,{account},,,", f"symbol,XYZ,{symbol},1,12,500"]
@@ -25,19 +26,20 @@ def limits(random):
 
 
 class Client:
-    """One session's messages, one after another: orders and requests, and what a venue might report."""
+    """One session's messages, one after another: its own, and what a venue might report."""
 
     def __init__(self, random, session):
         self.random, self.name = random, f"C{session:02}"
         self.orders, self.requests, self.sent, self.told = [], [], 0, 0
 
     def terms(self):
-        """A symbol's price, size and side: now and then above its collar, its size or a leaf's most."""
-        quantity = self.random.choices((1, 5, 20, 60, 501, 1_000_000_000), (30, 30, 20, 15, 4, 1))[0]
+        """Price, size and side: now and then above the collar, the size or a leaf's most."""
+        quantity = self.random.choices(QUANTITIES, (30, 30, 20, 15, 4, 1))[0]
         price = f"{self.random.randint(1, 12)}.{self.random.randint(0, 99):02}"
         if quantity == 1_000_000_000:
             price = "999999.9999"
-        return [(55, "XYZ"), (54, self.random.choice((1, 1, 2, 5, 6))), (38, quantity), (40, 2), (44, price)]
+        side = self.random.choice((1, 1, 2, 5, 6))
+        return [(55, "XYZ"), (54, side), (38, quantity), (40, 2), (44, price)]
 
     def from_client(self, kind, rest):
         """A message of the client."""
@@ -82,13 +84,16 @@ class Client:
 
     def trade(self):
         """A trade of one of the last orders, now and then above its price or its leaves."""
-        quantity, price = self.random.choice((1, 5, 20, 100)), self.random.choice(("0.5", "1", "9.5", "12.0001"))
+        quantity = self.random.choice((1, 5, 20, 100))
+        price = self.random.choice(("0.5", "1", "9.5", "12.0001"))
         return self.from_venue("8", [(17, f"E{self.told}"), (150, "F"), (11, self.known()),
                                      (32, quantity), (31, price)])
 
     def report(self):
         """A report on one of the last requests or orders."""
-        own = self.random.choice(self.requests[-4:] or ["none"]) if self.random.random() < 0.7 else self.known()
+        own = self.known()
+        if self.random.random() < 0.7:
+            own = self.random.choice(self.requests[-4:] or ["none"])
         exec_type = self.random.choice("0458C5A")
         return self.from_venue("8", [(17, f"E{self.told}"), (150, exec_type), (11, own)])
 
@@ -109,14 +114,14 @@ class Client:
 
     def next(self):
         """The next message, half of them orders."""
-        kinds = ((self.order, 40), (self.cancel, 8), (self.replace, 12), (self.trade, 18), (self.report, 14),
-                 (self.refusal, 4), (self.odd, 4))
+        kinds = ((self.order, 40), (self.cancel, 8), (self.replace, 12), (self.trade, 18),
+                 (self.report, 14), (self.refusal, 4), (self.odd, 4))
         calls, weights = zip(*kinds)
         return self.random.choices(calls, weights)[0]()
 
 
 def session(random, number, messages):
-    """A session's input: so many messages, now and then with line ends, or cut or broken at its end."""
+    """A session's input: so many messages, now and then with line ends, or cut or broken."""
     client = Client(random, number)
     between = random.choice((b"", b"\n", b"\r\n"))
     data = between.join(client.next() for _ in range(messages))

@@ -1,13 +1,13 @@
 #!/usr/bin/env python3
-"""Runs the built program over random sessions that share an account and a symbol, and judges each run.
+"""Runs the built program over random sessions that share an account and a symbol, and judges it.
 
 usage: stress.py [--runs N] [--seed N] [--gate PATH] [--keep FOLDER]      2,000 runs, seed 1
 
-A run has 2 to 32 sessions. Its journal has to be legal and to admit within the limits at every place;
-each session's acts and both streams, the totals and the status have to be those of the plain model in
-`model` over its input and its reads. It prints what it ran and saw, and in how much of it sessions met:
-a read that has posts of a session which goes on posting after it. It ends with status 1 at the first run
-that is wrong, whose files it leaves in FOLDER, where one is given.
+A run has 2 to 32 sessions. Its journal has to be legal and to admit within the limits at every
+place; each session's acts and both streams, the totals and the status have to be those of the plain
+model in `model` over its input and its reads. It prints what it ran and saw, and in how many runs
+sessions met: the places of their reads in the firm's tree overlap. It ends with status 1 at the
+first run that is wrong, whose files it leaves in FOLDER, where one is given.
 """
 import argparse
 import os
@@ -63,7 +63,7 @@ def run(program, folder, limits, inputs):
 
 
 def overlaps(acts):
-    """Whether a session read between posts of another in the firm's tree, by the reads' places."""
+    """Whether sessions met: the places of their reads in the firm's tree overlap."""
     spans = []
     for own in acts:
         places = [act[3] for act in own if act[0] == "read" and act[1] == 0]
@@ -101,8 +101,9 @@ def tell(counts, seconds):
     """Prints the figures."""
     causes = ", ".join(f"{code}: {counts['refused', code]:,}" for code in range(1, 17))
     notes = ", ".join(f"{code}: {counts['noted', code]:,}" for code in range(1, 7))
-    print(f"{counts['runs']:,} runs of {counts['sessions']:,} sessions, in {counts['met']:,} of which "
-          f"sessions met, {seconds:.0f} s; {platform.machine()}, {os.cpu_count()} processors")
+    print(f"{counts['runs']:,} runs of {counts['sessions']:,} sessions, which met in "
+          f"{counts['met']:,} of them, {seconds:.0f} s; {platform.machine()}, "
+          f"{os.cpu_count()} processors, load {os.getloadavg()[0]:.1f}")
     print(f"posts {counts['post']:,}, reads {counts['read']:,}, sent {counts['sent']:,}, "
           f"refused {counts['refused']:,}, noted {counts['noted']:,}")
     print(f"refused by code  {causes}")

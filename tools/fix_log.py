@@ -1,5 +1,5 @@
-"""Messages of FIX in a log: with SOH, `|`, `^A`, `<SOH>` or the like between fields, and with or without something before
-them on their line."""
+"""Messages of FIX in a log: with SOH, `|`, `^A`, `<SOH>` or the like between fields, and with or
+without something before them on their line."""
 import re
 
 BEGIN = re.compile(rb"8=FIXT?\.[0-9]\.[0-9](?:SP[0-9])?")
@@ -8,7 +8,7 @@ SOH = b"\x01"
 
 
 class Message:
-    """One message with SOH between its fields, and the line of the log that it stands in, from 1."""
+    """One message with SOH between its fields, and the line of the log that it is in, from 1."""
 
     def __init__(self, text, line):
         self.text = text
@@ -23,11 +23,14 @@ class Message:
 
     def fault(self):
         """What is wrong with BodyLength or CheckSum, or None."""
-        found = re.fullmatch(rb"8=[^\x01]*\x019=([0-9]+)\x01(.*\x01)10=([0-9]{3})\x01", self.text, re.DOTALL)
+        found = re.fullmatch(
+            rb"8=[^\x01]*\x019=([0-9]+)\x01(.*\x01)10=([0-9]{3})\x01", self.text, re.DOTALL
+        )
         if not found:
             return "it doesn't begin with 8 and 9 or end with 10"
         if int(found.group(1)) != len(found.group(2)):
-            return f"BodyLength (9) is {int(found.group(1))}, and the body has {len(found.group(2))} bytes"
+            length, body = int(found.group(1)), len(found.group(2))
+            return f"BodyLength (9) is {length}, and the body has {body} bytes"
         total = sum(self.text[: found.start(3) - 3]) % 256
         if int(found.group(3)) != total:
             return f"CheckSum (10) is {found.group(3).decode()}, and the bytes come to {total:03}"
@@ -55,12 +58,15 @@ def messages_of(line, number):
 
 
 def with_soh(text):
-    """A message with SOH in place of what separates its fields, up to its CheckSum. None where it has no field 9."""
+    """A message with SOH in place of what separates its fields, up to its CheckSum. None where it
+    has no field 9."""
     begin = BEGIN.match(text)
     mark = SEPARATOR.match(text, begin.end())
     if mark is None:
         return None
     separator = mark.group(1)
-    whole = re.compile(rb".*?" + re.escape(separator) + rb"10=[0-9]*", re.DOTALL).match(text, begin.end())
+    whole = re.compile(rb".*?" + re.escape(separator) + rb"10=[0-9]*", re.DOTALL).match(
+        text, begin.end()
+    )
     message = whole.group() if whole else text[begin.end() :].removesuffix(separator)
     return begin.group() + message.replace(separator, SOH) + SOH

@@ -3,10 +3,11 @@
 
 usage: merge_logs.py CLIENT VENUE SESSION
 
-The logs are as session_from_log.py reads them; session files are such logs. Messages are put in order by SendingTime
-(52). Each log keeps its own order, and of two messages with one time the client's comes first: a report of an order
-can't come before the order. A message without a time, or with one before that of the message above it in its log,
-counts at that one's time, which is said. The status is as of session_from_log.py.
+The logs are as session_from_log.py reads them; session files are such logs. Messages are put in
+order by SendingTime (52). Each log keeps its own order, and of two messages with one time the
+client's comes first: a report of an order can't come before the order. A message without a time,
+or with one before that of the message above it in its log, counts at that one's time, which is
+said. The status is as of session_from_log.py.
 """
 import heapq
 import os
@@ -37,7 +38,9 @@ def main(words):
                 read.append(messages(file.read()))
         timed = [with_times(log, found) for log, (found, _) in zip(logs, read)]
         with open(session, "wb") as file:
-            file.writelines(message.text + b"\n" for _, message in heapq.merge(*timed, key=lambda pair: pair[0]))
+            file.writelines(
+                message.text + b"\n" for _, message in heapq.merge(*timed, key=lambda pair: pair[0])
+            )
     except OSError as error:
         print(f"{error.filename}: {error.strerror}", file=sys.stderr)
         return 2
@@ -52,7 +55,10 @@ def with_times(log, found):
         time = time_of(message)
         if time is None or time < now:
             what = "has no SendingTime (52)" if time is None else "goes back in time"
-            print(f"{log}, line {message.line}: the message {what}, and stays behind the one before it", file=sys.stderr)
+            print(
+                f"{log}, line {message.line}: the message {what}, and stays behind the one before",
+                file=sys.stderr,
+            )
         else:
             now = time
         timed.append((now, message))

@@ -1,12 +1,14 @@
 #!/usr/bin/env python3
-"""Makes a session file of a log: takes each message out of its line, and puts SOH between its fields.
+"""Makes a session file of a log: takes each message out of its line, and puts SOH between its
+fields.
 
 usage: session_from_log.py LOG SESSION
 
-LOG is text with at most some messages on a line: with `|`, `^A`, `;` or SOH between fields, and with anything before
-a message on its line, as a time. SESSION is written anew, a message a line. The status is 0 where each message's
-BodyLength and CheckSum fit, 1 where one's don't (it is written all the same, and the gate says what it makes of it),
-and 2 where LOG can't be read or SESSION can't be written.
+LOG is text with at most some messages on a line: with `|`, `^A`, `;` or SOH between fields, and
+with anything before a message on its line, as a time. SESSION is written anew, a message a line.
+The status is 0 where each message's BodyLength and CheckSum fit, 1 where one's don't (it is
+written all the same, and the gate says what it makes of it), and 2 where LOG can't be read or
+SESSION can't be written.
 """
 import os
 import sys

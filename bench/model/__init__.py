@@ -4,5 +4,5 @@ frames      frames and their fields         messages    what a frame says, and i
 limits      a limit file                    book        orders and what they may cost
 screens     the program's three screens     answers     the messages that are written
 session     one session: input and reads in, acts and two streams out
-journal     the text of a journal, read     judge       whether a journal is legal, and its run the model's
+journal     the text of a journal, read     judge       whether a run is legal, and the model's
 """

@@ -106,7 +106,7 @@ class Book:
         self.add(order, order.exposure() - before)
 
     def apply(self, kind, values):
-        """Changes the order of a report or of an OrderCancelReject: `stray`, `over`, or the order."""
+        """Changes the order of a report or an OrderCancelReject: `stray`, `over`, or the order."""
         order = self.by_id.get(values.get(11))
         if not order:
             return "stray"

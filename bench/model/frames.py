@@ -8,7 +8,7 @@ BODY_MOST = 8_192
 FIELDS = re.compile(rb"(?:[1-9][0-9]{0,5}=[^\x01]*\x01)+")
 TAIL = re.compile(rb"10=([0-9]{3})\x01")
 
-# A frame: where it starts and ends, its body, its fields as (tag, value) where it is sound, else None.
+# A frame: where it starts and ends, its body, and its fields as (tag, value); None if not sound.
 Frame = namedtuple("Frame", "start end body fields")
 # What is no frame, by the word of the totals (whole, cut, broken, long), and its place.
 Rest = namedtuple("Rest", "word place")
@@ -64,7 +64,7 @@ def next_frame(data, start):
 
 
 def fields_of(body):
-    """The fields of a body as (tag, value); None where it has none, or MsgType (35) isn't the first."""
+    """The fields of a body as (tag, value); None where it has none, or 35 isn't the first."""
     if not FIELDS.fullmatch(body):
         return None
     parts = (part.split(b"=", 1) for part in body[:-1].split(SOH))

@@ -28,7 +28,7 @@ def walk(lines, sessions, fold):
 
 
 def judge_posts(acts, lines, tree):
-    """Each post of each session stands in the tree's lines once, with its value, and no other line."""
+    """Each post of each session stands in the tree's lines once, and no other line does."""
     for session, own in enumerate(acts):
         posts = [act[2:] for act in own if act[0] == "post" and act[1] == tree]
         found = [line[1:] for line in lines if line[0] == session]
@@ -50,13 +50,13 @@ def reads_of(acts, tree):
 
 
 def judge_tree(acts, lines, tree, fold, limit):
-    """Raises where a tree isn't legal, or admits more than its limit somewhere; `limit` may be None."""
+    """Raises where a tree isn't legal, or somewhere admits more than its limit, if it has one."""
     judge_posts(acts, lines, tree)
     reads = sorted(reads_of(acts, tree))
     for before, after in zip(reads, reads[1:]):
         demand(before[1] <= after[1], "stamps fall", tree, before, after)
-        is_same = before[1] == after[1]
-        demand(not is_same or before[0] == after[0], "one stamp has two places", tree, before, after)
+        if before[1] == after[1]:
+            demand(before[0] == after[0], "one stamp has two places", tree, before, after)
     posted, admitted, at = [0] * len(acts), [0] * len(acts), 0
     for place, (counts, root, poster) in enumerate(walk(lines, len(acts), fold)):
         if poster is not None:
@@ -65,7 +65,7 @@ def judge_tree(acts, lines, tree, fold, limit):
         while at < len(reads) and reads[at][0] == place:
             _, _, value, session, posts = reads[at]
             demand(value == root, "a read isn't the fold at its place", tree, reads[at], root)
-            demand(counts[session] == posts, "a read hasn't the reader's own posts", tree, reads[at])
+            demand(counts[session] == posts, "a read hasn't its own posts", tree, reads[at])
             if limit is not None and value <= limit:
                 admitted[session] = posted[session]
             at += 1

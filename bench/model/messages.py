@@ -1,4 +1,4 @@
-"""What a sound frame says, by the table of fields: its kind, its values, or its first field fault."""
+"""What a sound frame says, by the table of fields: its values, or its first field fault."""
 import re
 from collections import namedtuple
 
@@ -78,7 +78,7 @@ def same(text):
 
 
 ALL = {kind: "required" for kind in READ}
-# Tag, in which kind it is required, optional or required with a value of another field, and how it is read.
+# Tag; in which kind it is required, optional, or required with another field's value; its reader.
 TABLE = (
     (34, ALL, read_seq),
     (49, ALL, read_id),

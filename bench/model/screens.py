@@ -25,7 +25,7 @@ class Collar:
 
 
 class Repeat:
-    """Refuses with 3 an order like one of the last that it judged, which joins them in either case."""
+    """Refuses with 3 an order like one of the last that it judged; it joins them either way."""
     name = b"repeat"
 
     def __init__(self, count):

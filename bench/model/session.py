@@ -141,7 +141,8 @@ class Session:
         if message.kind == "D":
             if values[1] not in self.limits.accounts:
                 return "unknown account"
-            return (values[1], values[55]) if values[55] in self.limits.symbols else "unknown symbol"
+            is_known = values[55] in self.limits.symbols
+            return (values[1], values[55]) if is_known else "unknown symbol"
         fault = self.book.fault_of(values[11], values[41])
         if fault:
             return fault

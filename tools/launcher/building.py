@@ -15,17 +15,17 @@ PROGRAM = "gate_program"
 READ = ("src", "specs", "proofs")
 
 BEGINS = """\
-proving and building the program. From nothing that takes about {minutes} minutes on four processors;
-later only what was changed is proved again. Each crate is named as it is begun."""
+proving and building the program. From nothing that takes about {minutes} minutes on
+four processors; later only what was changed is proved again. Each crate is named as it is begun."""
 MINUTES = 30
 
 NO_KIT = f"""\
 the program isn't built, and `rt` isn't on the PATH. It is the command of the Rattle kit, {KIT}:
-unpack the kit that goes with this repository, and add its folder bin to the PATH. Or name a program that
-was built elsewhere: GATE_PROGRAM=PATH ./gate ..."""
+unpack the kit that goes with this repository, and add its folder bin to the PATH. Or name a
+program that was built elsewhere: GATE_PROGRAM=PATH ./gate ..."""
 
-# What `rt run` writes on standard error: which crate it begins, a line for each item that is proved, now and then how
-# far it is, and a line behind each crate.
+# What `rt run` writes on standard error: which crate it begins, a line for each item that is
+# proved, now and then how far it is, and a line behind each crate.
 BEGUN = re.compile(r"^rt: chose --jobs \d+ for (\w+)")
 SO_FAR = re.compile(r"^so far: (\d+ of \d+ functions)")
 ITEM = re.compile(r"^(?:fn|struct|enum|impl|trait|const|static|union|mod|type) (\w+)::.*: proved")
@@ -33,7 +33,8 @@ PROVED = re.compile(r"^logic=proved functions=(\d+)")
 
 
 def program_of(top):
-    """The path of the built program, built anew where that is due. None where it can't be had, which was told."""
+    """The path of the built program, built anew where that is due. None where it can't be had,
+    which was told."""
     named = os.environ.get("GATE_PROGRAM")
     if named is not None:
         return named if is_program(named) else missing(named)
@@ -74,7 +75,8 @@ def sources(top):
 
 
 def source_files(top):
-    """The sources of the crates that the program stands on, with the list of crates and the handles."""
+    """The sources of the crates that the program stands on, with the list of crates and the
+    handles."""
     yield os.path.join(top, "crates.txt")
     if os.path.isfile(os.path.join(top, "HANDLES")):
         yield os.path.join(top, "HANDLES")
@@ -110,7 +112,7 @@ def read_text(path):
 
 
 def build(top, crate, program):
-    """Builds the program from the sources as they are at the end. Whether that came to a program."""
+    """Builds the program from the sources as they are at the end, and says whether it could."""
     if shutil.which("rt") is None:
         say(NO_KIT)
         return False
@@ -128,14 +130,20 @@ def build(top, crate, program):
 
 
 def build_once(top, crate, program):
-    """One `rt run`, which proves, builds, and then runs the program with no words. Its messages are kept where
-    no program comes of it."""
+    """One `rt run`, which proves, builds, and then runs the program with no words. Its messages are
+    kept where no program comes of it."""
     if os.path.exists(program):
         os.remove(program)
-    kept = tempfile.NamedTemporaryFile("w", prefix="gate-build-", suffix=".log", delete=False, encoding="utf-8")
+    kept = tempfile.NamedTemporaryFile(
+        "w", prefix="gate-build-", suffix=".log", delete=False, encoding="utf-8"
+    )
     with kept as log:
         proving = subprocess.Popen(
-            ["rt", "run"], cwd=crate, stdin=subprocess.DEVNULL, stdout=subprocess.DEVNULL, stderr=subprocess.PIPE
+            ["rt", "run"],
+            cwd=crate,
+            stdin=subprocess.DEVNULL,
+            stdout=subprocess.DEVNULL,
+            stderr=subprocess.PIPE,
         )
         tell_progress(proving.stderr, log, len(crates(top)))
         proving.wait()
@@ -152,14 +160,16 @@ def tell_progress(messages, log, count):
     for raw in messages:
         line = raw.decode("utf-8", "replace")
         log.write(line)
-        named, proved, so_far = BEGUN.match(line) or ITEM.match(line), PROVED.match(line), SO_FAR.match(line)
+        named = BEGUN.match(line) or ITEM.match(line)
+        proved, so_far = PROVED.match(line), SO_FAR.match(line)
         if named and named.group(1) != at:
             at, begun, since = named.group(1), begun + 1, time.monotonic()
             say(f"proving {at} (crate {begun}, of at most {count})")
         elif so_far and at:
             say(f"{at}: {so_far.group(1)}")
         elif proved and at:
-            say(f"{at}: {proved.group(1)} functions proved, {round(time.monotonic() - since)} seconds")
+            seconds = round(time.monotonic() - since)
+            say(f"{at}: {proved.group(1)} functions proved, {seconds} seconds")
             at = None
 
 

@@ -3,8 +3,8 @@ import os
 
 
 def identity(path):
-    """What two names of one file have in common: the file's number on its device, or, where there is no
-    file yet, the path with every link followed."""
+    """What two names of one file have in common: the file's number on its device, or, where there
+    is no file yet, the path with every link followed."""
     try:
         found = os.stat(path)
         return (found.st_dev, found.st_ino)
@@ -24,7 +24,8 @@ def first_pair(named):
 
 
 def why_not_read(path):
-    """Why the file can't be read, or None. A pipe is left alone, since to open it would take its bytes."""
+    """Why the file can't be read, or None. A pipe is left alone, since to open it would take its
+    bytes."""
     try:
         if os.path.isdir(path):
             return "it is a folder"

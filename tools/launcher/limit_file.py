@@ -1,5 +1,5 @@
-"""What is wrong with a limit file: its first fault, as docs/FORMATS.md has them, with the row, its line and what
-was expected there."""
+"""What is wrong with a limit file: its first fault, as docs/FORMATS.md has them, with the row, its
+line and what was expected there."""
 import re
 
 from launcher.say import counted, shown
@@ -44,13 +44,18 @@ class Fault:
         if self.row is None:
             return [f"{path}: fault {self.number}: {self.expected}"]
         row = self.row
-        return [f"{path}, row {row.number}, line {row.line}: {shown(row.text)}", f"fault {self.number}: {self.expected}"]
+        return [
+            f"{path}, row {row.number}, line {row.line}: {shown(row.text)}",
+            f"fault {self.number}: {self.expected}",
+        ]
 
 
 def first_fault(data):
     """The first fault of a limit file's bytes, or None."""
     if len(data) > LONGEST:
-        return Fault(7, None, f"it has {counted(len(data))} bytes: at most {counted(LONGEST)} are read")
+        return Fault(
+            7, None, f"it has {counted(len(data))} bytes: at most {counted(LONGEST)} are read"
+        )
     before = []
     for row in rows(data):
         for wrong in (shape, kind, filled, numbers, wrong_name, repeated, too_many, band):
@@ -66,7 +71,8 @@ def first_fault(data):
 def shape(row, _):
     count = len(row.columns)
     if count != len(COLUMNS):
-        return 1, f"it has {count} column{'' if count == 1 else 's'}: a row has six, " + ", ".join(COLUMNS)
+        columns = f"{count} column" + ("" if count == 1 else "s")
+        return 1, f"it has {columns}: a row has six, " + ", ".join(COLUMNS)
     return None
 
 
@@ -91,8 +97,8 @@ def filled(row, _):
     empty = () if row.kind == b"symbol" else (3, 4, 5)
     for place in empty if named else (1, *empty):
         if row.columns[place]:
-            kind_of = row.kind.decode()
-            return 1, f"the column {COLUMNS[place]} is {shown(row.columns[place])}: in a row `{kind_of}` it stays empty"
+            column, of = f"{COLUMNS[place]} is {shown(row.columns[place])}", row.kind.decode()
+            return 1, f"the column {column}: in a row `{of}` it stays empty"
     return None
 
 
@@ -109,8 +115,8 @@ def wrong_number(row, place, ends):
     if re.fullmatch(rb"[0-9]{1,12}", text) and low <= int(text) <= high:
         return None
     return 3, (
-        f"the column {COLUMNS[place]} is {shown(text)}: it has to be a whole number from {counted(low)} to "
-        f"{counted(high)}, in digits alone"
+        f"the column {COLUMNS[place]} is {shown(text)}: it has to be a whole number "
+        f"from {counted(low)} to {counted(high)}, in digits alone"
     )
 
 
@@ -119,8 +125,8 @@ def wrong_price(row, place):
     if price(text) is not None:
         return None
     return 3, (
-        f"the column {COLUMNS[place]} is {shown(text)}: it has to be a price from 0.0001 to 999,999.9999, "
-        "in digits, with a point and four decimals at most"
+        f"the column {COLUMNS[place]} is {shown(text)}: it has to be a price "
+        "from 0.0001 to 999,999.9999, in digits, with a point and four decimals at most"
     )
 
 
@@ -144,8 +150,9 @@ def wrong_name(row, _):
 
 
 def repeated(row, before):
+    named = KINDS[row.kind][0]
     for earlier in before:
-        if earlier.columns[:2] == row.columns[:2] or earlier.kind == row.kind and not KINDS[row.kind][0]:
+        if earlier.kind == row.kind and (not named or earlier.columns[1] == row.columns[1]):
             what = row.kind.decode() + (f" {shown(row.columns[1])}" if KINDS[row.kind][0] else "")
             return 5, f"there was a row {what} before, row {earlier.number}, line {earlier.line}"
     return None

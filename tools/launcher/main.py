@@ -58,7 +58,8 @@ def report(top, words):
 
 
 def run_program(program, words, asked):
-    """Runs the program, and says why where its status isn't 0, and what lies in OUT of an earlier run."""
+    """Runs the program, and says why where its status isn't 0, and what lies in OUT of an earlier
+    run."""
     try:
         os.makedirs(asked.out, exist_ok=True)
     except OSError:
@@ -77,7 +78,8 @@ def run_program(program, words, asked):
 
 
 def status_of(command):
-    """The status of a command, which gets this call's input and output, and what would end this call."""
+    """The status of a command, which gets this call's input and output, and what would end this
+    call."""
     started = subprocess.Popen(command)
     for number in (signal.SIGTERM, signal.SIGHUP):
         signal.signal(number, lambda got, _: started.send_signal(got))
@@ -92,4 +94,7 @@ def tell_left_over(asked, before, status):
     """Names the outputs of an earlier run, which aren't this one's."""
     old = left_over(asked, before, status)
     if old:
-        say(f"warning: of an earlier run, and not written by this one: {', '.join(f'{name(asked.out)}/{one}' for one in old)}")
+        say(
+            "warning: of an earlier run, and not written by this one: "
+            + ", ".join(f"{name(asked.out)}/{one}" for one in old)
+        )

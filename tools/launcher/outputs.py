@@ -1,8 +1,9 @@
-"""The outputs that lie in the folder OUT, and which of them are of an earlier run."""
+"""The outputs that lie in the folder OUT, a report among them, and which of them are of an earlier
+run."""
 import os
 import re
 
-OUTPUT = re.compile(r"s\d\d\.(?:venue|client)|journal\.csv")
+OUTPUT = re.compile(r"s\d\d\.(?:venue|client)|journal\.csv|report\.html|requests\.csv")
 
 
 def marks(out):
@@ -26,7 +27,7 @@ def names(out):
 
 
 def left_over(run, before, status):
-    """The outputs of an earlier run that this one didn't write. At 0 and 4 it wrote all of its own."""
+    """The outputs of an earlier run that this one didn't write. At 0 and 4 it wrote all its own."""
     after = marks(run.out)
     own = {os.path.basename(path) for path in run.outputs()}
     kept = [name for name in before if after.get(name) == before[name]]

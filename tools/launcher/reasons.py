@@ -1,5 +1,6 @@
-"""Why a run ended with a status other than 0: read from the files themselves, after it has ended."""
+"""Why a run ended with a status other than 0: read from the files themselves, afterwards."""
 import os
+import re
 import signal
 import stat
 
@@ -8,16 +9,28 @@ from launcher.files import is_full, why_not_read, why_not_written
 from launcher.outputs import was_written
 from launcher.say import name
 
-ENDS = {"1": "cut", "2": "broken", "3": "long"}
+# The row of a session's end in the journal, and the ends that aren't that of a whole file.
+ENDED = re.compile(r"ended,([0-9]+),([1-6]),([0-9]*),,\n")
+ENDS = {"1": "cut", "2": "broken", "3": "long", "4": "read", "5": "write", "6": "memory"}
 
 
 def reasons(run, status, before):
-    """The lines for standard error about a run that ended with this status. `before` are the marks of OUT at its
-    beginning."""
+    """The lines for standard error about a run that ended with this status. `before` are the marks
+    of OUT at its beginning."""
+    try:
+        return reasons_of(run, status, before)
+    except OSError as error:
+        return [f"the cause can't be found any more: {error}"]
+
+
+def reasons_of(run, status, before):
+    """The same, where the files can still be read."""
     if status < 0:
         return [killed(-status)]
     told = {3: of_limits, 4: of_sessions, 5: of_reads, 6: of_writes, 8: of_memory, 9: of_rows}
-    return told[status](run, before) if status in told else [f"the program ended with {status}, which is no status of a run"]
+    if status not in told:
+        return [f"the program ended with {status}, which is no status of a run"]
+    return told[status](run, before)
 
 
 def killed(number):
@@ -50,17 +63,24 @@ def of_session(run, session, end):
     kind, place = end
     path = run.sessions[session]
     if kind == "read":
-        return [f"{name(path)}: session {session} ended, since a read failed{because(why_not_read(path))}"]
+        return [
+            f"{name(path)}: session {session} ended, since a read failed"
+            + because(why_not_read(path))
+        ]
     if kind == "write":
         streams = [run.stream(session, one) for one in ("venue", "client")]
         return [
-            f"session {session} ended, since a write failed, of {name(streams[0])} or {name(streams[1])}"
+            f"session {session} ended, since a write failed, "
+            f"of {name(streams[0])} or {name(streams[1])}"
             + because(next((why for why in map(why_not_written, streams) if why), room(run.out)))
         ]
     if kind == "memory":
         return [f"{name(path)}: session {session} ended, since memory was refused"]
     if not is_plain(path):
-        return [f"{name(path)}, byte {place:,}: {session_file.WHAT[kind]}. It is no plain file, and can't be read again"]
+        return [
+            f"{name(path)}, byte {place:,}: {session_file.WHAT[kind]}. "
+            "It is no plain file, and can't be read again"
+        ]
     return session_file.told(path, session_file.End(kind, place))
 
 
@@ -80,8 +100,8 @@ def is_plain(path):
 
 
 def ends(run, before):
-    """Each session whose end isn't that of its whole file, with that end: from the journal of this run, or from the
-    session files where it wrote none."""
+    """Each session whose end isn't that of its whole file, with that end: from the journal of this
+    run, or from the session files where it wrote none."""
     if was_written(run, before):
         found = list(journal_ends(run))
         if found:
@@ -91,12 +111,11 @@ def ends(run, before):
 
 def journal_ends(run):
     """The ends that the journal tells."""
-    words = {**ENDS, "4": "read", "5": "write", "6": "memory"}
     with open(run.journal(), encoding="ascii", errors="replace") as journal:
         for line in journal:
-            row = line.rstrip("\n").split(",")
-            if row[0] == "ended" and len(row) == 6 and row[2] in words and int(row[1]) < len(run.sessions):
-                yield int(row[1]), (words[row[2]], int(row[3] or 0))
+            row = ENDED.fullmatch(line)
+            if row and int(row.group(1)) < len(run.sessions):
+                yield int(row.group(1)), (ENDS[row.group(2)], int(row.group(3) or 0))
 
 
 def file_ends(run):
@@ -112,9 +131,10 @@ def of_reads(run, before):
     """The files that can't be read, or the sessions that ended so."""
     unread = [(path, why_not_read(path)) for path in run.inputs()]
     lines = [f"{name(path)} can't be read: {why}" for path, why in unread if why]
-    return lines or [line for session, end in ends(run, before) for line in of_session(run, session, end)] or [
-        "a read failed, of " + ", ".join(name(path) for path in run.inputs()) + "; each can be read now"
-    ]
+    for session, end in ends(run, before) if not lines else ():
+        lines += of_session(run, session, end)
+    names = ", ".join(name(path) for path in run.inputs())
+    return lines or [f"a read failed, of {names}; each can be read now"]
 
 
 def of_writes(run, before):
@@ -122,15 +142,24 @@ def of_writes(run, before):
     unwritten = [(path, why_not_written(path)) for path in run.outputs()]
     lines = [f"{name(path)} can't be written: {why}" for path, why in unwritten if why]
     if was_written(run, before):
-        lines += [line for session, end in ends(run, before) for line in of_session(run, session, end)]
+        lines += [
+            line for session, end in ends(run, before) for line in of_session(run, session, end)
+        ]
     if lines:
         return lines
     full = room(run.out)
-    return [f"{name(run.out)}: {full}" if full else "standard output couldn't be written: it is closed or full"]
+    return [
+        f"{name(run.out)}: {full}"
+        if full
+        else "standard output couldn't be written: it is closed or full"
+    ]
 
 
 def of_memory(run, _):
-    return ["out of memory: give it more, or run fewer or shorter sessions at once. What OUT holds now is of no use"]
+    return [
+        "out of memory: give it more, or run fewer or shorter sessions at once. "
+        "What OUT holds now is of no use"
+    ]
 
 
 def of_rows(run, _):
@@ -140,7 +169,7 @@ def of_rows(run, _):
     for row in limit_file.rows(data):
         if row.kind == b"off":
             return [
-                f"{name(run.limits)}, row {row.number}, line {row.line}: `off` rows, which drop a screen, "
-                "aren't served yet: take the row away"
+                f"{name(run.limits)}, row {row.number}, line {row.line}: `off` rows, which drop "
+                "a screen, aren't served yet: take the row away"
             ]
     return [f"{name(run.limits)} has a row that isn't served yet"]

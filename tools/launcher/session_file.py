@@ -1,5 +1,5 @@
-"""Where a session file ended before its end, what stands there, and what is likely the cause. docs/FORMATS.md tells
-what a frame is."""
+"""Where a session file ended before its end, what stands there, and what is likely the cause.
+docs/FORMATS.md tells what a frame is."""
 import re
 
 from launcher.say import counted, shown
@@ -13,7 +13,7 @@ RECIPE = "tools/session_from_log.py makes a session file of such a log"
 
 
 class End:
-    """How a file ends: `whole`, `cut`, `broken` or `long`, and the place of its end, a byte from 0."""
+    """How a file ends: `whole`, `cut`, `broken` or `long`, and where, a byte from 0."""
 
     def __init__(self, kind, place):
         self.kind = kind
@@ -93,7 +93,17 @@ def cause(end, rest):
     """What is likely the cause."""
     if end.place >= MOST:
         return f"only the first {counted(MOST)} bytes of a file are read: split it at a message"
-    for likely in (packed, separator, other_version, prefix, no_length, too_long, wrong_length, wrong_tail, cut_short):
+    for likely in (
+        packed,
+        separator,
+        other_version,
+        prefix,
+        no_length,
+        too_long,
+        wrong_length,
+        wrong_tail,
+        cut_short,
+    ):
         found = likely(rest)
         if found:
             return found
@@ -129,7 +139,8 @@ def prefix(rest):
     found = re.search(rb"8=FIXT?\.[0-9]", line)
     if not found or found.start() == 0:
         return None
-    return f"{shown(line[: found.start()])} stands before the message, as in a log with times: {RECIPE}"
+    before = shown(line[: found.start()])
+    return f"{before} stands before the message, as in a log with times: {RECIPE}"
 
 
 def no_length(rest):
@@ -148,7 +159,8 @@ def head_of(rest):
 
 
 def right_length(rest):
-    """The BodyLength that leads to the first CheckSum, or None where none follows before the next message."""
+    """The BodyLength that leads to the first CheckSum, or None where none follows before the next
+    message."""
     _, body = head_of(rest)
     tail = TAIL.search(rest, body - 1)
     begun = rest.find(b"8=FIX", body)
@@ -183,12 +195,19 @@ def wrong_tail(rest):
     tail = rest[head[1] + head[0] :][:7]
     if tail.startswith(b"10="):
         return f"CheckSum (10) is {shown(tail[3:].split(bytes([1]))[0])}: it has to be three digits"
-    return f"no CheckSum (10) stands {head[0]} bytes behind BodyLength (9), and none follows before the next message"
+    return (
+        f"no CheckSum (10) stands {head[0]} bytes behind BodyLength (9), "
+        "and none follows before the next message"
+    )
 
 
 def cut_short(rest):
     head = head_of(rest)
     if not head:
-        return "the file ends in the head of a message" if HEAD.startswith(rest) or rest.startswith(HEAD) else None
+        in_head = HEAD.startswith(rest) or rest.startswith(HEAD)
+        return "the file ends in the head of a message" if in_head else None
     lacks = head[1] + head[0] + 7 - len(rest)
-    return f"{counted(lacks)} byte{'' if lacks == 1 else 's'} of the message that begins here are missing" if lacks > 0 else None
+    if lacks <= 0:
+        return None
+    missing = "1 byte" if lacks == 1 else f"{counted(lacks)} bytes"
+    return f"{missing} of the message that begins here are missing"

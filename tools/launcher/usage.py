@@ -1,4 +1,4 @@
-"""What `--help` and `--version` tell, and the one line that a wrong call gets on standard output."""
+"""What `--help` and `--version` tell, and the line that a wrong call gets on standard output."""
 import os
 import shutil
 import subprocess
@@ -12,10 +12,11 @@ usage: gate run LIMITS OUT SESSION...
        gate report LIMITS OUT SESSION...
        gate --help | --version
 
-Reads a limit file and 1 to 32 session files in FIX 4.4, sends each order on or refuses it, and writes
-OUT/s00.venue and OUT/s00.client for the first session, s01 for the second and so on, and OUT/journal.csv.
-OUT is made where it isn't there. The program is proved and built first, where that is due.
-`report`, with the words of a run that has ended, writes OUT/report.html and OUT/requests.csv about it.
+Reads a limit file and 1 to 32 session files in FIX 4.4, sends each order on or refuses it, and
+writes OUT/s00.venue and OUT/s00.client for the first session, s01 for the second and so on, and
+OUT/journal.csv. OUT is made where it isn't there. The program is proved and built first, where that
+is due. `report`, with the words of a run that has ended, writes OUT/report.html and
+OUT/requests.csv about it.
 
 status of a run
   0  every session file was read to its end, and everything was written
@@ -29,8 +30,8 @@ status of a run
   9  the limit file has a row that isn't served yet
 
 To try it: ./gate run examples/first/limits.csv out/first examples/first/session.fix
-A log with `|` for SOH or with time prefixes: tools/session_from_log.py makes a session file of it, and
-tools/merge_logs.py puts a client's and a venue's log together.
+A log with `|` for SOH or with time prefixes: tools/session_from_log.py makes a session file of it,
+and tools/merge_logs.py puts a client's and a venue's log together.
 GATE_PROGRAM=PATH runs the program at PATH and builds nothing.
 
 documents, in {top}

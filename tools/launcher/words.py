@@ -1,4 +1,4 @@
-"""The words of a call: which run they ask for, and what is wrong with them where they ask for none."""
+"""The words of a call: which run they ask for, and what is wrong where they ask for none."""
 import os
 
 from launcher.files import first_pair, identity
@@ -21,7 +21,11 @@ class Run:
 
     def outputs(self):
         """The names that are written: two for each session, then the journal."""
-        streams = [self.stream(session, kind) for session in range(len(self.sessions)) for kind in ("venue", "client")]
+        streams = [
+            self.stream(session, kind) for session in range(len(self.sessions)) for kind in (
+                "venue", "client"
+            )
+        ]
         return [*streams, self.journal()]
 
     def stream(self, session, kind):
@@ -55,7 +59,7 @@ def wrong_word(words):
         if not word:
             return f"word {place} is empty"
         if word.startswith("-"):
-            return f"word {place}, `{word}`, begins with a dash: write `./{word}` for a file of that name"
+            return f"word {place}, `{word}`, begins with a dash: write `./{word}` for such a file"
     return None
 
 
@@ -73,7 +77,9 @@ def wrong_number(words):
 def repeated(run):
     """Whether one session was given twice, under whatever names, or None."""
     pair = first_pair([(label(run, place), path) for place, path in enumerate(run.sessions, 1)])
-    return f"{pair[0]} and {pair[1]} are the same file: a session can't be given twice" if pair else None
+    if not pair:
+        return None
+    return f"{pair[0]} and {pair[1]} are the same file: a session can't be given twice"
 
 
 def overwritten(run):
@@ -85,7 +91,8 @@ def overwritten(run):
     for place, path in enumerate(run.inputs()):
         output = written.get(identity(path))
         if output:
-            return f"{label(run, place)} and the output {output} are the same file: the run would overwrite what it reads"
+            both = f"{label(run, place)} and the output {output}"
+            return f"{both} are the same file: the run would overwrite what it reads"
     return None
 
 

@@ -1,1 +1,2 @@
-"""Tests of the launcher and of the tools: python3 -m unittest discover -s tools -t tools, at the top."""
+"""Tests of the launcher and of the tools: python3 -m unittest discover -s tools -t tools, at the
+top."""

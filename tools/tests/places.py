@@ -31,13 +31,14 @@ def soh(text):
 
 
 ORDER = soh(
-    "8=FIX.4.4|9=113|35=D|49=C1|56=GATE|34=1|52=20240102-10:00:00|11=a1|1=ACC|55=XYZ|54=1|38=100|40=2|44=10.0000|"
-    "60=20240102-10:00:00|10=175|"
+    "8=FIX.4.4|9=113|35=D|49=C1|56=GATE|34=1|52=20240102-10:00:00|11=a1|1=ACC|55=XYZ|54=1|38=100|"
+    "40=2|44=10.0000|60=20240102-10:00:00|10=175|"
 )
 
 
 class InFolder(unittest.TestCase):
-    """A test in a folder of its own, with limits, a session `a.fix`, and a program that stands in for the gate."""
+    """A test in a folder of its own, with limits, a session `a.fix`, and a program that stands in
+    for the gate."""
 
     def setUp(self):
         self.folder = tempfile.mkdtemp(prefix="gate-test-")
@@ -63,12 +64,27 @@ class InFolder(unittest.TestCase):
 
     def gate(self, *words, top=TOP, env=None, **told):
         """The launcher's status, standard output and standard error, over the stand-in."""
-        call = {**os.environ, "GATE_PROGRAM": self.program, "FAKE": json.dumps({"status": 0, **told}), **(env or {})}
+        call = {
+            **os.environ,
+            "GATE_PROGRAM": self.program,
+            "FAKE": json.dumps({"status": 0, **told}),
+            **(env or {}),
+        }
         call = {key: value for key, value in call.items() if value is not None}
         done = subprocess.run(
-            [os.path.join(top, "gate"), *words], cwd=self.folder, env=call, capture_output=True, stdin=subprocess.DEVNULL
+            [
+                sys.executable, os.path.join(top, "gate"), *words
+            ], cwd=self.folder, env=call, capture_output=True, stdin=subprocess.DEVNULL
         )
         return done.returncode, done.stdout.decode(), done.stderr.decode()
+
+    def bare(self):
+        """A PATH on which there is Python and nothing else."""
+        folder = self.path("bare")
+        os.makedirs(folder, exist_ok=True)
+        if not os.path.exists(os.path.join(folder, "python3")):
+            os.symlink(sys.executable, os.path.join(folder, "python3"))
+        return folder
 
     def says(self, told, *parts):
         """That each of these texts stands in what was told."""

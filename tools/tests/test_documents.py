@@ -12,7 +12,9 @@ def documents():
     """The paths of all documents, from the top."""
     for folder, folders, names in os.walk(TOP):
         folders[:] = [one for one in folders if one not in (".git", "out", "__pycache__")]
-        yield from (os.path.relpath(os.path.join(folder, name), TOP) for name in names if name.endswith(".md"))
+        for name in names:
+            if name.endswith(".md"):
+                yield os.path.relpath(os.path.join(folder, name), TOP)
 
 
 def text(path):
@@ -34,7 +36,8 @@ class Documents(unittest.TestCase):
                     continue
                 with self.subTest(document, link=link):
                     path, _, anchor = link.partition("#")
-                    to = os.path.normpath(os.path.join(os.path.dirname(document), path)) if path else document
+                    beside = os.path.join(os.path.dirname(document), path)
+                    to = os.path.normpath(beside) if path else document
                     self.assertTrue(os.path.exists(os.path.join(TOP, to)))
                     self.assertTrue(not anchor or anchor in anchors(to))
 
@@ -50,7 +53,8 @@ class Documents(unittest.TestCase):
                         self.assertTrue(os.path.exists(os.path.join(edits, edit + ".edit")))
 
     def test_each_edit_of_the_clause_of_gate_is_there(self):
-        edits = {name[: -len(".edit")] for _, _, names in os.walk(os.path.join(TOP, "crates")) for name in names}
+        walk = os.walk(os.path.join(TOP, "crates"))
+        edits = {name.removesuffix(".edit") for _, _, names in walk for name in names}
         crates = os.listdir(os.path.join(TOP, "crates"))
         for row in re.findall(r"^\| \d+ \|.*\|(.*)\|$", text("docs/CLAIMS.md"), re.M):
             for word in re.findall(r"`([a-z0-9_]+)`", row):
@@ -70,8 +74,8 @@ class Documents(unittest.TestCase):
 
 def claims(readme):
     """The tables of claims of a README, those with a column of edits."""
-    found = re.findall(r"^\| Claim [^\n]*Edits that break it \|\n\|[-|]+\|\n((?:\|.*\n)+)", readme, re.M)
-    return "".join(found)
+    table = r"^\| Claim [^\n]*Edits that break it \|\n\|[-|]+\|\n((?:\|.*\n)+)"
+    return "".join(re.findall(table, readme, re.M))
 
 
 if __name__ == "__main__":

@@ -1,7 +1,9 @@
-"""The examples: what their READMEs show is what is in their files, and, where the program is built, what it writes.
+"""The examples: what their READMEs show is what is in their files, and, where the program is built,
+what it writes.
 
-With one session each byte of a run is determined; with several it isn't, and then only the files that are read are
-compared here. The program is that of GATE_PROGRAM, or the one in crates/gate_program/out."""
+With one session each byte of a run is determined; with several it isn't, and then only the files
+that are read are compared here. The program is that of GATE_PROGRAM, or the one in
+crates/gate_program/out."""
 import os
 import re
 import subprocess
@@ -37,7 +39,9 @@ def blocks(name):
 
 def shown(data):
     """The messages in these bytes, as a README shows them."""
-    return [one.replace(b"\x01", b"|").decode() for one in MESSAGE.findall(data.replace(b"\n", b""))]
+    return [
+        one.replace(b"\x01", b"|").decode() for one in MESSAGE.findall(data.replace(b"\n", b""))
+    ]
 
 
 class Readmes(InFolder):
@@ -45,7 +49,10 @@ class Readmes(InFolder):
         for name in sorted(os.listdir(EXAMPLES)):
             with self.subTest(name):
                 calls = [block for block in blocks(name) if block.startswith("./gate run ")]
-                self.assertEqual([call.split()[2:4] for call in calls], [[f"examples/{name}/limits.csv", f"out/{name}"]])
+                self.assertEqual(
+                    [call.split()[2:4] for call in calls],
+                    [[f"examples/{name}/limits.csv", f"out/{name}"]],
+                )
 
     def test_the_limits_are_those_of_the_readme(self):
         for name in sorted(os.listdir(EXAMPLES)):
@@ -55,16 +62,24 @@ class Readmes(InFolder):
     def test_the_messages_of_the_sessions_are_those_of_the_readme(self):
         for name in ("first", "desk"):
             with self.subTest(name):
-                self.assertIn("".join(line + "\n" for line in shown(read(name, "session.fix"))), blocks(name))
+                self.assertIn(
+                    "".join(line + "\n" for line in shown(read(name, "session.fix"))), blocks(name)
+                )
 
     def test_the_days_session_is_that_of_its_logs(self):
         tool = os.path.join(TOP, "tools/merge_logs.py")
         logs = [os.path.join(EXAMPLES, "day", log) for log in ("client.log", "venue.log")]
-        self.assertEqual(subprocess.run([tool, *logs, self.path("day.fix")], capture_output=True).returncode, 0)
+        self.assertEqual(
+            subprocess.run([tool, *logs, self.path("day.fix")], capture_output=True).returncode, 0
+        )
         self.assertEqual(self.read("day.fix"), read("day", "session.fix"))
 
     def test_what_the_day_shows_is_what_is_expected(self):
-        streams = {line for name in ("s00.venue", "s00.client") for line in shown(read("day", "expected", name))}
+        streams = {
+            line for name in ("s00.venue", "s00.client") for line in shown(
+                read("day", "expected", name)
+            )
+        }
         logs = read("day", "client.log").decode() + read("day", "venue.log").decode()
         journal = read("day", "expected", "journal.csv").decode()
         for block in blocks("day"):
@@ -78,10 +93,13 @@ class Readmes(InFolder):
 
 
 def history(journal, tree):
-    """The root of a tree of sums after each of its lines, and the place and root of each read of it."""
+    """The root of a tree of sums after each of its lines, and the place and root of each read of
+    it."""
     rows = [row.split(",") for row in journal.splitlines()]
     last, roots = {}, [0]
-    for _, session, _, _, _, value in (row for row in rows if row[0] == "line" and row[2] == str(tree)):
+    for _, session, _, _, _, value in (
+        row for row in rows if row[0] == "line" and row[2] == str(tree)
+    ):
         last[session] = int(value)
         roots.append(sum(last.values()))
     reads = [(int(row[4]), int(row[5])) for row in rows if row[0] == "read" and row[2] == str(tree)]
@@ -93,7 +111,11 @@ class Runs(InFolder):
     """Runs of the built program."""
 
     def run_example(self, name):
-        words = [os.path.join(EXAMPLES, name, "limits.csv"), "out", os.path.join(EXAMPLES, name, "session.fix")]
+        words = [
+            os.path.join(EXAMPLES, name, "limits.csv"),
+            "out",
+            os.path.join(EXAMPLES, name, "session.fix"),
+        ]
         status, out, error = self.gate("run", *words, env={"GATE_PROGRAM": built()})
         self.assertEqual((status, error), (0, ""))
         return out
@@ -116,15 +138,25 @@ class Runs(InFolder):
         for name in ONE_SESSION:
             with self.subTest(name):
                 self.run_example(name)
-                there = {line for one in ("s00.venue", "s00.client") for line in shown(self.read(f"out/{one}"))}
+                there = {
+                    line for one in ("s00.venue", "s00.client") for line in shown(
+                        self.read(f"out/{one}")
+                    )
+                }
                 there |= set(shown(read(name, "session.fix")))
                 for block in blocks(name):
                     if block.startswith("8=FIX"):
                         self.assertLessEqual(set(block.splitlines()), there)
 
     def test_the_firm_however_its_sessions_fall(self):
-        inputs = [os.path.join(EXAMPLES, "firm", f"{name}.fix") for name in ("alpha1", "beta1", "alpha2", "beta2")]
-        done = self.run_words("run", os.path.join(EXAMPLES, "firm", "limits.csv"), self.folder, *inputs)
+        inputs = [
+            os.path.join(EXAMPLES, "firm", f"{name}.fix") for name in (
+                "alpha1", "beta1", "alpha2", "beta2"
+            )
+        ]
+        done = self.run_words(
+            "run", os.path.join(EXAMPLES, "firm", "limits.csv"), self.folder, *inputs
+        )
         self.assertEqual(done.returncode, 0)
         ended = re.findall(rb"session (\d) whole sent (\d) refused (\d) noted 0", done.stdout)
         self.assertEqual([int(sent) + int(refused) for _, sent, refused in ended], [1, 2, 3, 1])
@@ -138,7 +170,10 @@ class Runs(InFolder):
             with self.subTest(name):
                 self.write("limits.csv", text)
                 done = self.run_words("run", "limits.csv", "out", "a.fix")
-                self.assertEqual((done.returncode, done.stdout), (3, f"limits fault {number} row {row}\n".encode()))
+                self.assertEqual(
+                    (done.returncode, done.stdout),
+                    (3, f"limits fault {number} row {row}\n".encode()),
+                )
 
     def test_what_the_launcher_finds_in_sessions_is_what_the_program_finds(self):
         os.makedirs(self.path("out"))

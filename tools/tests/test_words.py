@@ -12,12 +12,28 @@ MALFORMED = [
     ("no words", [], "no words were given"),
     ("another command", ["walk", "limits.csv", "out", "a.fix"], "`walk` is no command"),
     ("no session", ["run", "limits.csv", "out"], "`run` lacks a session file"),
-    ("run alone", ["run"], "`run` lacks a limit file and a folder for the outputs and a session file"),
-    ("33 sessions", ["run", "limits.csv", "out", *(f"{n}.fix" for n in range(33))], "33 sessions were given"),
+    (
+        "run alone",
+        ["run"],
+        "`run` lacks a limit file and a folder for the outputs and a session file",
+    ),
+    (
+        "33 sessions",
+        ["run", "limits.csv", "out", *(f"{n}.fix" for n in range(33))],
+        "33 sessions were given",
+    ),
     ("an empty word", ["run", "limits.csv", "", "a.fix"], "word 3 is empty"),
     ("an option", ["run", "limits.csv", "out", "-a"], "word 4, `-a`, begins with a dash"),
-    ("a session twice", ["run", "limits.csv", "out", "a.fix", "a.fix"], "a session can't be given twice"),
-    ("a session that is an output", ["run", "limits.csv", "out", "out/s00.venue"], "would overwrite"),
+    (
+        "a session twice",
+        ["run", "limits.csv", "out", "a.fix", "a.fix"],
+        "a session can't be given twice",
+    ),
+    (
+        "a session that is an output",
+        ["run", "limits.csv", "out", "out/s00.venue"],
+        "would overwrite",
+    ),
     ("limits that are the journal", ["run", "out/journal.csv", "out", "a.fix"], "would overwrite"),
     ("no UTF-8", ["run", "limits.csv", "out", b"a\xff.fix"], "word 4 isn't UTF-8"),
 ]
@@ -34,7 +50,9 @@ class Words(InFolder):
                 self.assertEqual(sorted(os.listdir(self.folder)), before)
 
     def test_a_malformed_call_needs_no_program_and_no_kit(self):
-        status, out, error = self.gate("run", "limits.csv", env={"GATE_PROGRAM": None, "PATH": "/usr/bin:/bin"})
+        status, out, error = self.gate(
+            "run", "limits.csv", env={"GATE_PROGRAM": None, "PATH": self.bare()}
+        )
         self.assertEqual((status, out), (2, USAGE))
         self.says(error, "`run` lacks")
 
@@ -48,21 +66,31 @@ class Words(InFolder):
 
     def test_help_has_a_line_for_each_status(self):
         for word in ("--help", "-h"):
-            status, out, error = self.gate(word, env={"GATE_PROGRAM": None, "PATH": "/usr/bin:/bin"})
+            status, out, error = self.gate(word, env={"GATE_PROGRAM": None, "PATH": self.bare()})
             self.assertEqual((status, error), (0, ""))
             self.assertEqual(re.findall(r"^  ([0-9])  ", out, re.M), list("01234568") + ["9"])
-            self.says(out, "docs/FORMATS.md", "docs/CLAIMS.md", "README.md", "session_from_log.py", "GATE_PROGRAM")
+            self.says(
+                out,
+                "docs/FORMATS.md",
+                "docs/CLAIMS.md",
+                "README.md",
+                "session_from_log.py",
+                "GATE_PROGRAM",
+            )
 
     def test_version_has_the_commit_and_the_kit(self):
         status, out, _ = self.gate("--version")
         self.assertEqual(status, 0)
-        self.assertRegex(out, r"^gate, (commit [0-9a-f]{7,} of \d{4}-\d\d-\d\d|a copy without its history)")
+        self.assertRegex(
+            out, r"^gate, (commit [0-9a-f]{7,} of \d{4}-\d\d-\d\d|a copy without its history)"
+        )
         self.says(out, "rattle-kit-13f logic dac8208d650f15bf")
-        self.says(self.gate("--version", env={"PATH": "/usr/bin:/bin"})[1], "no `rt` on the PATH")
+        self.says(self.gate("--version", env={"PATH": self.bare()})[1], "no `rt` on the PATH")
 
 
 class SameFiles(InFolder):
-    """One file under two names: the run is refused, both words are named, and the file keeps its bytes."""
+    """One file under two names: the run is refused, both words are named, and the file keeps its
+    bytes."""
 
     def refused(self, *words, told):
         kept = self.read("out/s00.venue")
@@ -77,14 +105,28 @@ class SameFiles(InFolder):
         self.write("out/s00.venue", "a session of an earlier run")
 
     def test_a_slash_at_the_end_of_out(self):
-        self.refused("run", "limits.csv", "out/", "out/s00.venue", told=["out/s00.venue (word 4, session 0)", "out//s00.venue"])
+        self.refused(
+            "run",
+            "limits.csv",
+            "out/",
+            "out/s00.venue",
+            told=["out/s00.venue (word 4, session 0)", "out//s00.venue"],
+        )
 
     def test_a_whole_path(self):
         path = self.path("out/s00.venue")
-        self.refused("run", "limits.csv", "out", path, told=[f"{path} (word 4", "the output out/s00.venue"])
+        self.refused(
+            "run", "limits.csv", "out", path, told=[f"{path} (word 4", "the output out/s00.venue"]
+        )
 
     def test_a_way_round(self):
-        self.refused("run", "limits.csv", "out", "./out/../out/s00.venue", told=["./out/../out/s00.venue (word 4"])
+        self.refused(
+            "run",
+            "limits.csv",
+            "out",
+            "./out/../out/s00.venue",
+            told=["./out/../out/s00.venue (word 4"],
+        )
 
     def test_a_link_to_the_file(self):
         os.symlink("out/s00.venue", self.path("linked.fix"))
@@ -96,13 +138,28 @@ class SameFiles(InFolder):
 
     def test_a_link_to_the_folder(self):
         os.symlink("out", self.path("there"))
-        self.refused("run", "limits.csv", "there", "out/s00.venue", told=["the output there/s00.venue"])
+        self.refused(
+            "run", "limits.csv", "there", "out/s00.venue", told=["the output there/s00.venue"]
+        )
 
     def test_limits_that_are_written(self):
-        self.refused("run", "./out/s00.venue", "out", "a.fix", told=["./out/s00.venue (word 2, the limit file)"])
+        self.refused(
+            "run",
+            "./out/s00.venue",
+            "out",
+            "a.fix",
+            told=["./out/s00.venue (word 2, the limit file)"],
+        )
 
     def test_a_session_twice_under_two_names(self):
-        self.refused("run", "limits.csv", "out", "a.fix", "./a.fix", told=["a.fix (word 4", "./a.fix (word 5"])
+        self.refused(
+            "run",
+            "limits.csv",
+            "out",
+            "a.fix",
+            "./a.fix",
+            told=["a.fix (word 4", "./a.fix (word 5"],
+        )
 
     def test_an_output_that_leads_to_a_session(self):
         os.symlink("../a.fix", self.path("out/journal.csv"))

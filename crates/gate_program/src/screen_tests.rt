@@ -283,13 +283,16 @@ fn each_session_takes_its_own_screens_and_all_are_dropped(rt: HostRuntime) -> Re
     let alloc = rt.alloc();
     let drops = Arc::new(alloc, AtomicU64::new(0))?;
     let mut screens = no_screens(alloc)?;
-    for set in [0, 31] {
-        let screen = FirstTwo {
-            passed: 9,
-            drops: Arc::try_clone(&drops)?,
-        };
-        screens[set].push(Box::new(alloc, screen)?)?;
-    }
+    let taken = FirstTwo {
+        passed: 9,
+        drops: Arc::try_clone(&drops)?,
+    };
+    let left = FirstTwo {
+        passed: 9,
+        drops: Arc::try_clone(&drops)?,
+    };
+    screens[0].push(Box::new(alloc, taken)?)?;
+    screens[31].push(Box::new(alloc, left)?)?;
     let mut stage = stage_of(alloc, &FIRMS, 65_536)?;
     let status = gate(
         &rt,

@@ -5,8 +5,7 @@ use crate::command::gate;
 use crate::rows::{
     Piece, Row, SMALL, Session, Stage, bytes_of, compare_streams, no_screens, stage_of,
 };
-use crate::test_gates::Meeting;
-use gate_ports::OpenGate;
+use crate::test_gates::{Meeting, TURNS};
 use risk_journal::{Act, read_journal};
 use std::alloc::Global;
 use std::process::Abort;
@@ -52,8 +51,11 @@ const RACERS: Row = Row {
     told: b"",
 };
 
-/// How often the two race. Each race takes a tenth of a millisecond or two.
+/// How often the two race.
 const RACES: u32 = 10_000;
+
+/// How many turns one that is ready waits for the other, so that both start at once.
+const START: u32 = 10_000;
 
 /// The names of the two sessions' streams.
 const STREAMS: [(&str, &str); 2] = [
@@ -110,7 +112,7 @@ fn two_that_race_never_both_get_what_one_may_have(rt: HostRuntime) -> Result<(),
             &mut stage.folder,
             &mut stage.out,
             no_screens(alloc)?,
-            &OpenGate,
+            &Meeting::of(START),
         );
         assert_eq!(rt; status, 0);
         assert!(rt; sent_in(&rt, &stage, &answers) < 2, "both were sent");
@@ -192,7 +194,7 @@ fn second_root(acts: &[Act]) -> Option<u64> {
 #[test]
 fn two_that_meet_see_each_others_orders(rt: HostRuntime) -> Result<(), Fail> {
     let alloc = rt.alloc();
-    let meeting = Meeting::new();
+    let meeting = Meeting::of(TURNS);
     let mut stage = stage_of(alloc, &MEETING, 65_536)?;
     let status = gate(
         &rt,

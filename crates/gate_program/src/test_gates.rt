@@ -1,10 +1,11 @@
 //! Gates by which tests hold sessions: one after another, or two at each of their orders.
 
 use gate_ports::Gate;
+use std::hint;
 use std::sync::atomic::{AtomicBool, AtomicU32, Ordering};
 
-/// How many turns a session makes before it gives up.
-const TURNS: u32 = 100_000_000;
+/// How many turns a session makes before it gives up: some seconds.
+pub(crate) const TURNS: u32 = 100_000_000;
 
 /// Holds each session's first order until the session before it has taken up its last one.
 #[derive(Drop)]
@@ -38,6 +39,7 @@ impl Gate for InTurn {
             if self.ended.load(Ordering::SeqCst) >= session {
                 return;
             }
+            hint::spin_loop();
         }
     }
 }
@@ -45,6 +47,8 @@ impl Gate for InTurn {
 /// Holds two sessions at their orders 0 and 1 until both have taken up the order.
 #[derive(Drop)]
 pub(crate) struct Meeting {
+    /// How many turns a session makes before it gives up.
+    pub turns: u32,
     /// What session 0 has taken up, and what session 1: their orders 0 and 1.
     pub taken: [[AtomicBool; 2]; 2],
     /// Whether a session gave up.
@@ -53,8 +57,9 @@ pub(crate) struct Meeting {
 
 impl Meeting {
     /// Two sessions that have taken up nothing.
-    pub(crate) fn new() -> Meeting {
+    pub(crate) fn of(turns: u32) -> Meeting {
         Meeting {
+            turns,
             taken: [
                 [AtomicBool::new(false), AtomicBool::new(false)],
                 [AtomicBool::new(false), AtomicBool::new(false)],
@@ -72,10 +77,11 @@ impl Gate for Meeting {
         let own = session as usize;
         let place = order as usize;
         self.taken[own][place].store(true, Ordering::SeqCst);
-        for _ in 0..TURNS {
+        for _ in 0..self.turns {
             if self.taken[1 - own][place].load(Ordering::SeqCst) {
                 return;
             }
+            hint::spin_loop();
         }
         self.is_missed.store(true, Ordering::SeqCst);
     }

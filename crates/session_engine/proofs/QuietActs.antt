@@ -11,7 +11,7 @@ use Rattle.order_desk.specs.declared.refusal.Refusal.{Refusal}
 use Rattle.risk_journal.specs.declared.acts.Act.{Act}
 use Rattle.risk_journal.specs.ActLists.{reads_of}
 use Rattle.session_engine.specs.declared.note.Note.{Note}
-use Rattle.session_engine.specs.Answers.{code_of, note_code}
+use Rattle.session_engine.specs.Answers.{code_of, screen_code_of, note_code}
 use Rattle.session_engine.specs.Taken.{answer_act, note_acts}
 use Rattle.session_engine.specs.Trips.{is_trip, acts_tripped}
 
@@ -43,7 +43,8 @@ notes_unread frame (Some what) = refl
 pub answer_stays : (frame : ℕ) (refusal : Option Refusal) (acts : List Act) (lasts : List ℕ)
     → StayInStep acts (acts ++ answer_act frame refusal ∷ []) lasts lasts
 answer_stays frame None acts lasts = stay_after_sent frame acts lasts
-answer_stays frame (Some why) acts lasts = stay_after_refused frame (code_of why) 0 0 acts lasts
+answer_stays frame (Some why) acts lasts =
+    stay_after_refused frame (code_of why) (screen_code_of why) 0 acts lasts
 
 pub notes_stay : (frame : ℕ) (note : Option Note) (acts : List Act) (lasts : List ℕ)
     → StayInStep acts (acts ++ note_acts frame note) lasts lasts

@@ -8,14 +8,6 @@ use fix_fields::Frame;
 use fix_orders::{Kind, kind_of, type_text};
 use gate_ports::Gate;
 
-/// What a session calls before each of its orders, and its own number.
-#[derive(Drop)]
-pub(crate) struct OrderGate<'a, G: Gate> {
-    pub gate: &'a G,
-    /// From 0.
-    pub session: u32,
-}
-
 /// Whether a message of this kind is an order.
 fn is_order(kind: Kind) -> bool
     ensures { result ≡ is_order kind }
@@ -30,10 +22,11 @@ fn is_order(kind: Kind) -> bool
     }
 }
 
-/// Takes up a sound frame: before an order its gate is called with the order's number, from 0, and
-/// the order is counted. None of its fields is read but its type.
+/// Takes up a sound frame: before an order the gate is called with the session's number and the
+/// order's, both from 0, and the order is counted. None of its fields is read but its type.
 pub(crate) fn take_up<G: Gate>(
-    before: &OrderGate<'_, G>,
+    gate: &G,
+    session: u32,
     orders: &mut u32,
     bytes: &[u8],
     frame: &Frame,
@@ -44,7 +37,7 @@ pub(crate) fn take_up<G: Gate>(
         → orders.new ≡ orders_with fields orders.old }
 {
     if is_order(kind_of(type_text(bytes, frame))) {
-        before.gate.before(before.session, *orders);
+        gate.before(session, *orders);
         *orders += 1;
     }
 }

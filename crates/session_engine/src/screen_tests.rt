@@ -35,7 +35,7 @@ const REPEATS: Row = Row {
     ],
     journal: b"kind,session,a,b,c,d\npost,0,0,1,50,\npost,0,1,1,50,\npost,0,2,1,50,\n\
         read,0,3,0,0,0\nread,0,0,1,0,50\nread,0,1,1,0,50\nread,0,2,1,0,50\nsent,0,0,,,\n\
-        refused,0,1,10,0,0\nrefused,0,2,10,0,0\nrefused,0,3,10,0,0\nended,0,0,,,\n",
+        refused,0,1,10,3,0\nrefused,0,2,10,3,0\nrefused,0,3,10,2,0\nended,0,0,,,\n",
     venue: &[Piece::Whole(
         b"35=D|49=GATE|56=VENUE|34=1|52=20240102-10:00:00|11=a1|1=ACC|55=XYZ|54=1|38=5|40=2|\
             44=10.00|60=20240102-10:00:00|",
@@ -80,7 +80,7 @@ const FROM_THE_THIRD: Row = Row {
     ],
     journal: b"kind,session,a,b,c,d\npost,0,0,1,1000,\npost,0,1,1,1000,\npost,0,2,1,1000,\n\
         read,0,3,0,0,0\nread,0,0,1,0,1000\nread,0,1,1,0,1000\nread,0,2,1,0,1000\nsent,0,0,,,\n\
-        sent,0,1,,,\nrefused,0,2,10,0,0\nrefused,0,4,10,0,0\nended,0,0,,,\n",
+        sent,0,1,,,\nrefused,0,2,10,100,0\nrefused,0,4,10,100,0\nended,0,0,,,\n",
     venue: &[
         Piece::Whole(BUY_SENT),
         Piece::Whole(

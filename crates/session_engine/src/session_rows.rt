@@ -237,15 +237,7 @@ fn run_row(
         client,
     } = ports;
     let done = run_session(
-        alloc,
-        0,
-        limits,
-        hands,
-        screens,
-        source,
-        venue,
-        client,
-        &OpenGate,
+        alloc, 0, limits, hands, screens, source, venue, client, &OpenGate,
     );
     Ok(Run {
         acts: done.acts,

@@ -15,7 +15,7 @@ ghost use Rattle.session_engine.specs.VenueReports.{report_message};
 use crate::answer::{Sinks, Step, answer_request, forward};
 use crate::decide::decide;
 use crate::note::Note;
-use crate::order_gate::{OrderGate, take_up};
+use crate::order_gate::take_up;
 use crate::reject::reject_message;
 use crate::request::Request;
 use crate::settle::settle;
@@ -222,7 +222,7 @@ fn take_sound<H: Hand, M: Hand, K: Screen, V: Sink, C: Sink>(
 /// Takes a frame.
 pub(crate) fn take_frame<H: Hand, M: Hand, K: Screen, V: Sink, C: Sink, G: Gate>(
     limits: &Limits,
-    before: &OrderGate<'_, G>,
+    gate: &G,
     hands: &mut Hands<H, M>,
     screens: &mut Vec<K>,
     state: &mut State,
@@ -267,7 +267,8 @@ pub(crate) fn take_frame<H: Hand, M: Hand, K: Screen, V: Sink, C: Sink, G: Gate>
         return Step::Fault(End::Memory);
     }
     if frame.sound {
-        take_up(before, &mut state.counts.orders, bytes, frame);
+        let session = state.session;
+        take_up(gate, session, &mut state.counts.orders, bytes, frame);
         return take_sound(limits, hands, screens, state, sinks, bytes, frame);
     }
     note_frame(&mut state.told.acts, &mut state.counts, Note::NotSound);

@@ -1,0 +1,84 @@
+"""The limit file: the trees of a run, each with its limit."""
+
+import csv
+import io
+import re
+from typing import NamedTuple
+
+from report.faults import Unreadable
+from report.text import readable
+
+FIRM, ACCOUNT, SYMBOL, HALT = "firm", "account", "symbol", "halt"
+SETTINGS = frozenset({"trip", "quota", "repeat", "off"})
+LIMIT = re.compile(r"[0-9]{1,12}")
+BYTES_MOST = 1_048_576
+
+
+class Tree(NamedTuple):
+    """A tree of the run: its number from 0, what it is of, that one's name, and its limit in whole
+    currency units; the halt tree has none."""
+
+    number: int
+    kind: str
+    name: str
+    limit: int | None
+
+    def title(self) -> str:
+        """What the tree is called: `firm`, `account ALPHA`, `symbol XYZ`, `halt`."""
+        return f"{self.kind} {self.name}" if self.name else self.kind
+
+    def join(self, values: list[int]) -> int:
+        """The root over what the sessions posted: the sum, in the halt tree the largest."""
+        return max(values, default=0) if self.kind == HALT else sum(values)
+
+
+class Limits(NamedTuple):
+    """The trees in order, the halt tree last, and the number of the tree of each account and
+    symbol."""
+
+    trees: list[Tree]
+    accounts: dict[bytes, int]
+    symbols: dict[bytes, int]
+
+
+def read_limits(data: bytes) -> Limits:
+    """The trees of a limit file: the firm's, the accounts', the symbols', the halt tree."""
+    if len(data) > BYTES_MOST:
+        raise Unreadable(f"the limit file has more than {BYTES_MOST:,} bytes")
+    rows = {FIRM: [], ACCOUNT: [], SYMBOL: []}
+    for number, row in rows_of(data):
+        kind, name, limit = row[0], row[1], row[2]
+        if kind in SETTINGS:
+            continue
+        if kind not in rows or not LIMIT.fullmatch(limit) or (kind == FIRM) != (name == ""):
+            raise Unreadable(f"row {number} isn't one of a limit file")
+        if name in (other for other, _ in rows[kind]):
+            raise Unreadable(f"row {number} of the limit file repeats a row")
+        rows[kind].append((name, int(limit)))
+    if not rows[FIRM]:
+        raise Unreadable("the limit file has no row of the firm")
+    return numbered(rows)
+
+
+def rows_of(data: bytes) -> list[tuple[int, list[str]]]:
+    """The rows that aren't empty, counted from 1, each of six columns."""
+    text = io.StringIO(data.decode("latin-1"), newline="")
+    try:
+        rows = [row for row in csv.reader(text) if row]
+    except csv.Error as fault:
+        raise Unreadable(f"the limit file isn't comma-separated values: {fault}") from fault
+    for number, row in enumerate(rows, 1):
+        if len(row) != 6:
+            raise Unreadable(f"row {number} isn't one of a limit file")
+    return list(enumerate(rows, 1))
+
+
+def numbered(rows: dict[str, list[tuple[str, int]]]) -> Limits:
+    """The trees of these rows with their numbers."""
+    trees, places = [], {FIRM: {}, ACCOUNT: {}, SYMBOL: {}}
+    for kind, of_kind in rows.items():
+        for name, limit in of_kind:
+            places[kind][name.encode("latin-1")] = len(trees)
+            trees.append(Tree(len(trees), kind, readable(name.encode("latin-1")), limit))
+    trees.append(Tree(len(trees), HALT, "", None))
+    return Limits(trees, places[ACCOUNT], places[SYMBOL])
