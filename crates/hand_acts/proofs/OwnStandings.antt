@@ -12,7 +12,7 @@ use Rattle.risk_board.specs.History.{Event, IsLegal}
 use Rattle.risk_board.specs.History.Event.{Posted, Saw}
 use Rattle.hand_acts.specs.Admitted.{Standing, Moment, nothing, after_post, after_read, standing_at}
 use Rattle.hand_acts.specs.Admitted.{after_moment, moments, standings_after, after_event}
-use Rattle.hand_acts.specs.Admitted.{own_admitted, session_of, steps_of, step_of, AdmitsOwn}
+use Rattle.hand_acts.specs.Admitted.{own_admitted, session_of, steps_of, step_of, made_in, AdmitsOwn}
 use Rattle.hand_acts.specs.Admitted.Moment.{Posts, Reads}
 use Rattle.hand_acts.proofs.OwnSteps.{steps_are_own}
 
@@ -173,29 +173,26 @@ module _ (whole : List ℕ → ℕ) (unit limit components : ℕ) (lines : List 
       ∙ ap (fold (after_step limit) nothing) (steps session own at)
       ∙ fold-step_of limit session nothing own
 
-  -- and after so many steps, of which so many are the session's
-  abbrev made_by : ℕ → ℕ → ℕ
-  made_by session count = length (steps_of session (take count (moments lines events)))
-
+  -- and after so many steps
   stands_after : (session : ℕ) (own : List Event) (count : ℕ)
       → slice_get events session ≡ Some own
       → standing_at session
       (standings_after limit (length events) (take count (moments lines events)))
-      ≡ fold (after_event limit) nothing (take (made_by session count) own)
+      ≡ fold (after_event limit) nothing (take (made_in session count (moments lines events)) own)
   stands_after session own count at =
       stands_at limit session (length events) (take count (moments lines events))
       (slice_get_within events session own at)
       ∙ ap (fold (after_step limit) nothing)
       (steps_of-take session count (moments lines events)
-      ∙ ap (take (made_by session count)) (steps session own at)
-      ∙ take-map (step_of session) (made_by session count) own)
-      ∙ fold-step_of limit session nothing (take (made_by session count) own)
+      ∙ ap (take (made_in session count (moments lines events))) (steps session own at)
+      ∙ take-map (step_of session) (made_in session count (moments lines events)) own)
+      ∙ fold-step_of limit session nothing (take (made_in session count (moments lines events)) own)
 
   -- In a legal history what is admitted is what the sessions' own events admit.
   pub admits_own : AdmitsOwn limit lines events
   admits_own = record {
     steps = steps;
-    front = λ session own count at. (made_by session count, stands_after session own count at);
+    front = stands_after;
     whole = ends;
     total = admitted_by_own limit (standings_after limit (length events) (moments lines events))
         events (length-standings_after limit (replicate (length events) nothing)

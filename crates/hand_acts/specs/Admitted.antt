@@ -109,18 +109,23 @@ abbrev pub step_of : ℕ → Event → Moment
 step_of session (Posted value) = Posts session value
 step_of session (Saw stamp place value) = Reads session value
 
+-- how many of the first so many steps are a session's
+abbrev pub made_in : ℕ → ℕ → List Moment → ℕ
+made_in session count passed = length (steps_of session (take count passed))
+
 -- What a tree's history admits of each session is what the session's own posts and reads admit.
 pub record AdmitsOwn (limit : ℕ) (lines : List Line) (events : List (List Event)) : Type 0 where
   -- a session's steps are its own posts and reads, each once and in its order
   pub steps : (session : ℕ) (own : List Event) → slice_get events session ≡ Some own
       → steps_of session (moments lines events) ≡ map (step_of session) own
-  -- after each step a session stands as a front of its own posts and reads leaves it
+  -- after so many steps a session stands as those of its own posts and reads that are among them
+  -- leave it
   pub front : (session : ℕ) (own : List Event) (count : ℕ)
       → slice_get events session ≡ Some own
-      → (made : ℕ)
-      × (standing_at session
+      → standing_at session
       (standings_after limit (length events) (take count (moments lines events)))
-      ≡ fold (after_event limit) nothing (take made own))
+      ≡ fold (after_event limit) nothing
+      (take (made_in session count (moments lines events)) own)
   -- and at the end as all of them do
   pub whole : (session : ℕ) (own : List Event) → slice_get events session ≡ Some own
       → standing_at session (standings_after limit (length events) (moments lines events))
