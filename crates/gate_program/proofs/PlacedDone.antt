@@ -184,3 +184,11 @@ ended law limits sets others run before after objects objects_after acts ends te
       legal = own.legal;
       finished = own.finished;
     })
+
+-- what was done with these objects was done with those that they are
+pub done_before : (limits : Limits) (sets : List (List ScreenValue))
+    (before others after : List ObjectsValue) (acts : List (List Act)) (ends : List End)
+    → others ≡ before → HaveDone limits sets others after acts ends
+    → HaveDone limits sets before after acts ends
+done_before limits sets before others after acts ends same done =
+    subst (λ (all : List ObjectsValue). HaveDone limits sets all after acts ends) same done

@@ -151,8 +151,7 @@ fn run_opened<R: Threads + Sync, D: Folder, G: Gate>(
 {
     places_are_free();
     let Ready { names, room } = ready;
-    let count = run.sessions.len() as u32;
-    let Ok(opening) = open_forests(alloc, limits, count) else {
+    let Ok(opening) = open_forests(alloc, limits, run.sessions.len() as u32) else {
         close_sessions(run, &names.sessions, opened, folder);
         return Answer::Stopped(Status::Memory);
     };
