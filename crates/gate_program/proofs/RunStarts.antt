@@ -5,7 +5,7 @@ use Rattle.std.proofs.lemmas.Bool.Decides.{nat_tests}
 use Rattle.std.proofs.lemmas.List.{length-map}
 use Rattle.std.specs.Prelude.{IsTrue, nat_le}
 use Rattle.screen_kit.specs.Screens.{ScreenValue}
-use Rattle.gate_program.specs.Words.{RunWords, is_run}
+use Rattle.gate_program.specs.Words.{RunWords, is_run, session_most}
 use Rattle.gate_program.specs.Run.{set_of}
 use Rattle.gate_program.proofs.TasksBack.{first_sets, mapped_twice}
 
@@ -14,12 +14,22 @@ second_holds true true c d e holds = refl
 second_holds true false c d e holds = absurd cc
 second_holds false b c d e holds = absurd cc
 
-at_least_one : (n : ℕ) → IsTrue (nat_le 1 n) → 1 ≤ n
-at_least_one n test = grind (arith, nat_tests)
+third_holds : (a b c d e : Bool) → IsTrue (a && b && c && d && e) → IsTrue c
+third_holds true true true d e holds = refl
+third_holds true true false d e holds = absurd cc
+third_holds true false c d e holds = absurd cc
+third_holds false b c d e holds = absurd cc
+
+le_of_test : (m n : ℕ) → IsTrue (nat_le m n) → m ≤ n
+le_of_test m n test = grind (arith, nat_tests)
 
 -- a run has a session
 pub some_session : (run : RunWords) → IsTrue (is_run run) → 1 ≤ length run.sessions
-some_session run holds = at_least_one (length run.sessions) (second_holds _ _ _ _ _ holds)
+some_session run holds = le_of_test 1 (length run.sessions) (second_holds _ _ _ _ _ holds)
+
+-- and no more than the most
+pub few_sessions : (run : RunWords) → IsTrue (is_run run) → length run.sessions ≤ session_most
+few_sessions run holds = le_of_test (length run.sessions) session_most (third_holds _ _ _ _ _ holds)
 
 -- each task has the set of screens of its session
 pub task_sets : {A B : Type 0} (f : B → List ScreenValue) (own : A → B) (tasks : List A)

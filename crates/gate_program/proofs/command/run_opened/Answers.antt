@@ -6,7 +6,7 @@ use Rattle.gate_program.specs.Forests.{AreOpened}
 use Rattle.gate_program.specs.Objects.{objects_of, EachOwn}
 use Rattle.gate_program.proofs.Owned.{own_after}
 use Rattle.gate_program.proofs.PlacedDone.{PlacesLaw, done_before, ended}
-use Rattle.gate_program.proofs.RunStarts.{some_session, task_sets}
+use Rattle.gate_program.proofs.RunStarts.{few_sessions, some_session, task_sets}
 use Rattle.gate_program.proofs.TasksBack.{mapped_twice}
 use Rattle.gate_program.proofs.command.run_opened.Goals as goal
 
@@ -75,5 +75,11 @@ returns-in-Ok-run_sessions g c =
     (λ session below. task_sets _ (λ t. t.screens) tasks c.args.screens.items
     (length c.args.opened.items) session c.tasks_of-tasks.ensures.screens
     (omega (arith, below, length-map c.args.opened.items f))
-    (omega (arith, c.requires.many, c.requires.sets)))
+    (omega (
+      arith,
+      c.requires.many,
+      c.requires.sets,
+      length-map c.args.run.now.sessions.now string_bytes,
+      few_sessions (run_value c.args.run.now) c.requires.run,
+    )))
     c.finish_run.ensures

@@ -21,7 +21,8 @@ run_tasks-requires-clause-ready g c κs within =
     (length c.args.tasks.items)
     c.requires.held (quota_in_range c.args.limits.now c.requires.held).0
     c.requires.forests.sums c.requires.forests.halts
-    (λ t. t.sum) (λ t. t.halt) c.args.tasks.items _ c.requires.sums c.requires.halts
+    (λ t. t.sum) (λ t. t.halt) c.args.tasks.items (length c.args.tasks.items) c.requires.sums
+    c.requires.halts
 
 pub taken_apart-requires-clause-room : goal.taken_apart-requires-clause-room
 taken_apart-requires-clause-room g c =
@@ -45,11 +46,11 @@ returns-in-Ok-clause-ran g c =
       back = record {
         sums = subst (AreAllOf c.args.forests.now.sums) (sym apart.sums)
             (all_back _ (λ t. t.sum) (λ d. d.sum) (λ t d ran. ran.0.sum_same) tasks done zipped
-            c.args.forests.now.sums _ c.requires.sums
+            c.args.forests.now.sums (length tasks) c.requires.sums
             (ap (λ (p : Plan). p.sessions) c.requires.forests.sums.plan));
         halts = subst (AreAllOf c.args.forests.now.halts) (sym apart.halts)
             (all_back _ (λ t. t.halt) (λ d. d.halt) (λ t d ran. ran.0.halt_same) tasks done zipped
-            c.args.forests.now.halts _ c.requires.halts
+            c.args.forests.now.halts (length tasks) c.requires.halts
             (ap (λ (p : Plan). p.sessions) c.requires.forests.halts.plan));
       };
       called = record {
