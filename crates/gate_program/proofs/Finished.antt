@@ -1,6 +1,6 @@
 -- The journal behind sessions that were closed.
-use Rattle.std.proofs.Common.{◌≡◌, ℕ, List, sym, ap, subst, ◌∙◌, Bool}
-use Rattle.std.proofs.Common.{length}
+use Rattle.std.proofs.Common.{◌≡◌, ℕ, List, refl, sym, ap, subst, ◌∙◌, Bool}
+use Rattle.std.proofs.Common.{length, map}
 use Rattle.std.proofs.Common.{true, false, inl, inr}
 use Rattle.std.specs.Prelude.{Option, Some, None, IfSome, ◌⊎◌}
 use Rattle.gate_ports.specs.Names.{Texts}
@@ -9,17 +9,17 @@ use Rattle.risk_board.specs.declared.hand.Line.{Line}
 use Rattle.risk_journal.specs.declared.acts.Act.{Act}
 use Rattle.risk_journal.specs.declared.acts.End.{End}
 use Rattle.risk_journal.specs.JournalText.{journal_text}
-use Rattle.gate_program.specs.declared.boards.Boards.{Boards}
 use Rattle.gate_program.specs.Words.{RunWords, venue_name, client_name, journal_name, is_among}
 use Rattle.gate_program.specs.Words.{output_names}
 use Rattle.gate_program.specs.Run.{PortsValue, Holds, WriteRose}
 use Rattle.gate_program.specs.Gate.{HasJournal}
 use Rattle.gate_program.specs.Stages.{Went, ChangesOnly}
-use Rattle.gate_program.specs.Boards.{HasLines}
 use Rattle.gate_program.specs.Objects.{ObjectsValue, EachHolds, ChangesOutputs, HasClosed}
 use Rattle.gate_program.specs.Objects.{AreWritten}
 use Rattle.gate_program.specs.Objects.{HoldsOutputs}
-use Rattle.gate_program.specs.Finish.{HasAnswer, HasStood, HasFinished, IsKept}
+use Rattle.gate_program.specs.Finish.{HasAnswer, HasStood, HasFinished, HasKept, IsKept}
+use Rattle.gate_program.specs.Histories.{AreLegalLines}
+use Rattle.risk_journal.specs.ActLists.{unplaced}
 use Rattle.gate_program.proofs.Chains.{rose_from}
 use Rattle.gate_program.proofs.Outputs.{apart_from_all, venue_isnt_journal, client_isnt_journal}
 use Rattle.gate_program.proofs.Folder.{causes_later}
@@ -62,42 +62,43 @@ are_written : (run : RunWords) (objects : List ObjectsValue) (t0 t1 t2 : Option 
     → IfSome t0 (λ old. IfSome t1 (λ new. EachHolds run new objects))
     → ChangesOnly t1 t2 (journal_name run.out) → AreWritten run t0 t2 objects
 are_written run objects None None t2 many changes holds others =
-    record { tells = λ none. others; holds = tt; others = tt }
+    record { tells = λ none. others; goes_on = λ some. absurd cc; holds = tt; others = tt }
 are_written run objects None (Some mid) t2 many changes holds others = absurd cc
 are_written run objects (Some old) None t2 many (now, there, same) holds others = absurd cc
-are_written run objects (Some old) (Some mid) None many changes holds others =
-    record { tells = λ none. absurd cc; holds = tt; others = tt }
-are_written run objects (Some old) (Some mid) (Some new) many (now, there, same) holds others =
+are_written run objects (Some old) (Some mid) None many changes holds (new, is, others) = absurd cc
+are_written run objects (Some old) (Some mid) (Some new) many (now, there, same) holds
+    (after, is, others) =
     let mid_is : mid ≡ now = cc in
+    let new_is : new ≡ after = cc in
     record {
       tells = λ none. absurd cc;
-      holds = λ session own is. holds_behind run mid new session own
-          (others (venue_name run.out session) (venue_isnt_journal run.out session))
-          (others (client_name run.out session) (client_isnt_journal run.out session))
-          (holds session own is);
+      goes_on = λ some. refl;
+      holds = λ session own at. holds_behind run mid new session own
+          (ap (λ (t : Texts). t (venue_name run.out session)) new_is
+          ∙ others (venue_name run.out session) (venue_isnt_journal run.out session))
+          (ap (λ (t : Texts). t (client_name run.out session)) new_is
+          ∙ others (client_name run.out session) (client_isnt_journal run.out session))
+          (holds session own at);
       others = λ name among.
           let apart = apart_from_all run.out name (length objects)
           (subst (λ (n : ℕ). is_among name (output_names run.out n) ≡ false) (sym many) among) in
-          others name apart.1 ∙ ap (λ (t : Texts). t name) mid_is ∙ same name apart.0;
+          ap (λ (t : Texts). t name) new_is ∙ others name apart.1
+          ∙ ap (λ (t : Texts). t name) mid_is ∙ same name apart.0;
     }
 
 -- the objects were closed, and then the journal stood
 pub finished : (limits : Limits) (run : RunWords) (before closed after : PortsValue)
-    (boards : Boards)
-    (acts : List (List Act)) (ends : List End) (objects : List ObjectsValue)
-    (lines : List (List Line)) (name text : List ℕ) (n : ℕ) (said : List End) → said ≡ ends
-    → name ≡ journal_name run.out → length objects ≡ length run.sessions → HasClosed run before
-    closed objects
-    → HasLines boards lines → Went closed after
+    (acts : List (List Act)) (lines : List (List Line)) (ends : List End)
+    (objects : List ObjectsValue) (name text : List ℕ) (n : ℕ) (said : List End) → said ≡ ends
+    → name ≡ journal_name run.out → length objects ≡ length run.sessions
+    → HasClosed run before closed objects → Went closed after
     → (n ≡ 8) ⊎ HasStood limits name closed after acts said lines text n
-    → (n ≡ 8) ⊎ HasFinished limits run before after boards acts ends objects text n
-finished limits run before closed after boards acts ends objects lines name text n said same is many
-    closes has went (inl memory) = inl memory
-finished limits run before closed after boards acts ends objects lines name text n said same is many
-    closes has went (inr stands) = inr (record {
-      lines = lines;
+    → (n ≡ 8) ⊎ HasFinished limits run before after acts lines ends objects text n
+finished limits run before closed after acts lines ends objects name text n said same is many closes
+    went (inl memory) = inl memory
+finished limits run before closed after acts lines ends objects name text n said same is many closes
+    went (inr stands) = inr (record {
       refused = stands.refused;
-      has_lines = has;
       journal = journal_of run before closed after acts lines name stands.refused is closes.went
           stands.kept;
       written = are_written run objects before.texts closed.texts after.texts many closes.texts
@@ -108,3 +109,15 @@ finished limits run before closed after boards acts ends objects lines name text
       answer = subst (λ (e : List End). HasAnswer limits acts e lines stands.refused text n) same
           stands.answer;
     })
+
+-- a journal that was kept was kept for these acts
+pub kept : (limits : Limits) (run : RunWords) (before after : PortsValue)
+    (placed acts : List (List Act)) (lines : List (List Line)) (ends : List End)
+    (objects : List ObjectsValue) (text : List ℕ) (n : ℕ)
+    → map (map unplaced) placed ≡ map (map unplaced) acts → AreLegalLines limits placed lines
+    → (n ≡ 8) ⊎ HasFinished limits run before after placed lines ends objects text n
+    → (n ≡ 8) ⊎ HasKept limits run before after acts ends objects text n
+kept limits run before after placed acts lines ends objects text n alike legal (inl memory) =
+    inl memory
+kept limits run before after placed acts lines ends objects text n alike legal (inr own) =
+    inr (record { placed = placed; lines = lines; alike = alike; legal = legal; finished = own })

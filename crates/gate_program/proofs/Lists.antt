@@ -1,11 +1,11 @@
 -- Lists: what stands at a place, one more at the end, and a search from the front.
 use Rattle.std.proofs.Common.{◌≡◌, ℕ, zero, suc, ◌+◌, ◌<◌, List, [], ◌∷◌, ◌++◌, length, map}
-use Rattle.std.proofs.Common.{take}
-use Rattle.std.proofs.Common.{refl, ap, ◌∙◌, arith, inl, inr, Bool, ◌||◌}
+use Rattle.std.proofs.Common.{take, drop, get_or, add-one, drop-cons}
+use Rattle.std.proofs.Common.{refl, sym, ap, ◌∙◌, arith, inl, inr, Bool, ◌||◌}
 use Rattle.std.proofs.lemmas.List.{take_more}
 use Rattle.std.proofs.lemmas.Option.{slice_get_within}
 use Rattle.std.proofs.lemmas.Option.{slice_get-map}
-use Rattle.std.proofs.lemmas.Option.{get_or_from_slice_get}
+use Rattle.std.proofs.lemmas.Option.{get_or_from_slice_get, slice_get_read}
 use Rattle.std.specs.Prelude.{Some, slice_get, ◌⊎◌}
 use Rattle.std.specs.Option.{option_map}
 use Rattle.std.specs.List.{list_any}
@@ -83,3 +83,15 @@ pub list_any-map : {X Y : Type 0} (p : Y → Bool) (f : X → Y) (xs : List X)
     → list_any p (map f xs) ≡ list_any (λ x. p (f x)) xs
 list_any-map p f [] = refl
 list_any-map p f (x ∷ xs) = ap (λ (b : Bool). p (f x) || b) (list_any-map p f xs)
+
+-- the first of those that are left stands at the place of a session, and the others are left
+pub first_left : {X : Type 0} (xs old new : List X) (session : ℕ) (x : X) → old ≡ drop session xs
+    → session < length xs → x ≡ get_or old 0 x → new ≡ drop 1 old
+    → (slice_get xs session ≡ Some x) × (new ≡ drop (session + 1) xs)
+first_left {X} xs old new session x left below first rest =
+    let parts : old ≡ get_or xs session x ∷ drop (suc session) xs = left ∙ drop-cons xs session x
+    below in
+    let is : x ≡ get_or xs session x = first ∙ ap (λ (l : List X). get_or l 0 x) parts in (
+      slice_get_read xs (length xs) session x refl below is,
+      rest ∙ ap (drop 1) parts ∙ ap (λ (n : ℕ). drop n xs) (sym (add-one session)),
+    )

@@ -15,13 +15,13 @@ use Rattle.risk_journal.specs.declared.acts.End.{End}
 use Rattle.risk_journal.specs.declared.acts.End.TheVariants as ending
 use Rattle.limit_table.specs.declared.limits.Limits.{Limits}
 use Rattle.screen_kit.specs.Screens.{ScreenValue}
-use Rattle.session_engine.specs.Follows.{IsByInput, FollowsSource, FollowsInput}
+use Rattle.session_engine.specs.Follows.{IsByInput, FollowsSource, FollowsInput, EndsAs}
 use Rattle.session_engine.specs.Session.{armed_for}
 use Rattle.gate_program.specs.Words.{RunWords, venue_name, client_name, journal_name, is_among}
 use Rattle.gate_program.specs.Words.{output_names}
 use Rattle.gate_program.specs.Run.{PortsValue, ReadRose, OutputRose, EndHolds, is_memory}
 use Rattle.gate_program.specs.Run.{standing_of}
-use Rattle.gate_program.specs.Run.{FollowsText, session_name, set_of}
+use Rattle.gate_program.specs.Run.{EndsWith, FollowsText, session_name, set_of}
 use Rattle.gate_program.specs.Gate.{HasRun, HasJournal, AreInputs, HasLimits}
 use Rattle.gate_program.specs.Totals.{totals_of}
 use Rattle.gate_program.specs.Objects.{ObjectsValue, AreNew, ChangesOutputs, HasOpened, HasDone}
@@ -57,26 +57,33 @@ abbrev pub told_bytes : Option (List ℕ) → List ℕ
 told_bytes None = []
 told_bytes (Some bytes) = bytes
 
+-- the last act is there where memory wasn't wanting
+ends_with : (acts : List Act) (end : End) → EndsAs acts end → (end ≡ ending.Memory → ⊥)
+    → EndsWith acts end
+ends_with acts end (inl last) remembers = last
+ends_with acts end (inr (none, memory)) remembers = absurd (remembers memory)
+
 -- by each end
 end_holds : (limits : Limits) (screens : List ScreenValue) (before after : PortsValue)
     (run : RunWords) (session : ℕ) (bytes : List ℕ) (acts : List Act) (end : End)
     → (end ≡ ending.ReadFault → ReadRose before after (session_name run session))
     → (end ≡ ending.WriteFault → OutputRose before after run session)
+    → EndsAs acts end
     → (IsByInput end → FollowsText limits screens after run session bytes acts end)
     → EndHolds limits screens before after run session bytes acts end
-end_holds limits screens before after run n bytes acts ending.ReadFault read write follows = read
-    refl
-end_holds limits screens before after run n bytes acts ending.WriteFault read write follows = write
-    refl
-end_holds limits screens before after run n bytes acts ending.Memory read write follows = tt
-end_holds limits screens before after run n bytes acts ending.Whole read write follows = follows tt
-end_holds limits screens before after run n bytes acts (ending.Cut place) read write follows =
+end_holds limits screens before after run n bytes acts ending.ReadFault read write ends follows =
+    (read refl, ends_with acts ending.ReadFault ends (λ is. cc))
+end_holds limits screens before after run n bytes acts ending.WriteFault read write ends follows =
+    (write refl, ends_with acts ending.WriteFault ends (λ is. cc))
+end_holds limits screens before after run n bytes acts ending.Memory read write ends follows = tt
+end_holds limits screens before after run n bytes acts ending.Whole read write ends follows =
     follows tt
-end_holds limits screens before after run n bytes acts (ending.Broken place) read write follows =
+end_holds limits screens before after run n bytes acts (ending.Cut place) read write ends follows =
     follows tt
-end_holds limits screens before after run n bytes acts (ending.TooLong place) read write follows =
-    follows
-    tt
+end_holds limits screens before after run n bytes acts (ending.Broken place) read write ends follows =
+    follows tt
+end_holds limits screens before after run n bytes acts (ending.TooLong place) read write ends
+    follows = follows tt
 
 -- the sink was empty and got these bytes: it holds them
 holds_appended : (held held_after : Option (List ℕ)) (text own : List ℕ) → held ≡ Some []
@@ -187,6 +194,13 @@ keeps_others run count (Some old) (Some middle) (Some new) many (mid, there, sam
     ∙ same name (apart_from_all run.out name count
     (subst (λ (n : ℕ). is_among name (output_names run.out n) ≡ false) (sym many) among)).0
 
+-- a folder that told its texts tells them still
+goes_on : (run : RunWords) (count : ℕ) (t0 t1 t2 : Option Texts)
+    → ChangesOutputs run.out count t0 t1 → (IsSome t1 → IsSome t2) → IsSome t0 → IsSome t2
+goes_on run count None t1 t2 changes later some = absurd cc
+goes_on run count (Some old) t1 t2 (mid, there, same) later some =
+    later (subst (λ (t : Option Texts). IsSome t) (sym there) refl)
+
 -- the journal's own write count rose from the start
 pub journal_from : (run : RunWords) (t0 t1 t2 : Option Texts) (r0 w0 r1 w1 r2 w2 : List ℕ → ℕ)
     (text : List ℕ) (acts : List (List Act)) (lines : List (List Line)) (refused : Bool)
@@ -227,6 +241,7 @@ module _ (run : RunWords) (limits : Limits) (sets : List (List ScreenValue)) (t0
       (causes.venue some))
       (λ some. rose_from _ _ _ (opened.went.written (client_name run.out session))
       (causes.client some)))
+      done.ends
       (λ by_input. follows_text limits (armed_for limits (set_of sets session)) run session
       (length objects) t0 t1 t2 own now did end opened.texts
       new ended.finished.written.tells (holds_one t1 t2 ended.finished.written.holds)
@@ -248,7 +263,7 @@ module _ (run : RunWords) (limits : Limits) (sets : List (List ScreenValue)) (t0
     inputs = map (λ (own : ObjectsValue). told_bytes own.left) objects;
     acts = ended.acts;
     ends = ended.ends;
-    lines = ended.finished.lines;
+    lines = ended.lines;
     refused = ended.finished.refused;
     limits_are = limits_are;
     remembered = remembered;
@@ -265,19 +280,19 @@ module _ (run : RunWords) (limits : Limits) (sets : List (List ScreenValue)) (t0
         (shown t0 r0 w0 []) (shown t2 r2 w2 text) run session b did end) own.2
         (session_holds session own.0 now.0 did end own.1 now.1
         (ended.done.each session own.0 now.0 did end own.1 now.1 is_did is_end));
-    history = is_history limits ended.boards ended.acts ended.finished.lines ended.played
-        ended.finished.has_lines laws;
-    journal = journal_from run t0 t1 t2 r0 w0 r1 w1 r2 w2 text ended.acts ended.finished.lines
+    history = is_history limits ended.acts ended.lines ended.legal laws;
+    journal = journal_from run t0 t1 t2 r0 w0 r1 w1 r2 w2 text ended.acts ended.lines
         ended.finished.refused opened.went.written ended.finished.journal;
     others = keeps_others run (length objects) t0 t1 t2 many opened.texts
         ended.finished.written.others;
+    tells = goes_on run (length objects) t0 t1 t2 opened.texts ended.finished.written.goes_on;
     told = inl (
       ended.finished.answer.stands,
       ended.finished.answer.told ∙ told_at ended.finished.answer.stands,
     );
   } where
     told_at : status ≡ standing_of ended.ends ended.finished.refused
-        → totals_of limits ended.acts ended.ends ended.finished.lines status
-        ≡ totals_of limits ended.acts ended.ends ended.finished.lines
+        → totals_of limits ended.acts ended.ends ended.lines status
+        ≡ totals_of limits ended.acts ended.ends ended.lines
         (standing_of ended.ends ended.finished.refused)
-    told_at is = ap (totals_of limits ended.acts ended.ends ended.finished.lines) is
+    told_at is = ap (totals_of limits ended.acts ended.ends ended.lines) is

@@ -17,8 +17,7 @@ use Rattle.gate_program.specs.declared.open.Opened.{Opened}
 use Rattle.gate_program.specs.Objects.{ObjectsValue, IsApart, AreOwn, EachOwn}
 use Rattle.gate_program.proofs.Closings.{named}
 use Rattle.gate_program.proofs.Folder.{are_own_later}
-use Rattle.gate_program.proofs.Lists.{map_at}
-use Rattle.gate_program.proofs.PlayedTo.{first_left}
+use Rattle.gate_program.proofs.Lists.{first_left, map_at}
 use Rattle.gate_program.proofs.Outputs.{apart_from_all}
 
 -- the name of a session that was looked up

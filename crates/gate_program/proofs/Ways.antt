@@ -54,11 +54,12 @@ module _ (run : RunWords) (sets : List (List ScreenValue)) (t : Option Texts)
       (own : List Act) (end : End)
       → EndHolds limits screens (shown t r1 w1 []) (shown t2 r2 w2 text) run n bytes own end
       → EndHolds limits screens (shown t r0 w0 []) (shown t2 r2 w2 text) run n bytes own end
-  end_earlier limits screens n bytes own ending.ReadFault holds = rose_from _ _ _ (reads _) holds
-  end_earlier limits screens n bytes own ending.WriteFault (inl holds) =
-      inl (rose_from _ _ _ (writes _) holds)
-  end_earlier limits screens n bytes own ending.WriteFault (inr holds) =
-      inr (rose_from _ _ _ (writes _) holds)
+  end_earlier limits screens n bytes own ending.ReadFault (rose, ends) =
+      (rose_from _ _ _ (reads _) rose, ends)
+  end_earlier limits screens n bytes own ending.WriteFault (inl rose, ends) =
+      (inl (rose_from _ _ _ (writes _) rose), ends)
+  end_earlier limits screens n bytes own ending.WriteFault (inr rose, ends) =
+      (inr (rose_from _ _ _ (writes _) rose), ends)
   end_earlier limits screens n bytes own ending.Memory holds = holds
   end_earlier limits screens n bytes own ending.Whole holds = holds
   end_earlier limits screens n bytes own (ending.Cut place) holds = holds
@@ -113,6 +114,7 @@ module _ (run : RunWords) (sets : List (List ScreenValue)) (t : Option Texts)
     history = h.history;
     journal = journal_earlier h.acts h.lines h.refused h.journal;
     others = h.others;
+    tells = h.tells;
     told = h.told;
   }))
 
@@ -283,6 +285,7 @@ module _ (run : RunWords) (sets : List (List ScreenValue)) (t0 : Option Texts)
     history = h.history;
     journal = journal_beside h.acts h.lines h.refused h.journal;
     others = h.others;
+    tells = h.tells;
     told = told_so _ _ h.told;
   }))
 

@@ -135,9 +135,9 @@ module _ (before after : PortsValue) (run : RunWords) (texts : Texts)
       → IsWholeInput bytes → EndHolds limits screens before after run session bytes own end
       → is_memory end ≡ false → end ≡ ending.Whole
   end_is_whole limits screens session bytes own ending.ReadFault input holds remembers =
-      absurd (no_fault.read _ holds)
+      absurd (no_fault.read _ holds.0)
   end_is_whole limits screens session bytes own ending.WriteFault input holds remembers =
-      absurd (no_output_rose session holds)
+      absurd (no_output_rose session holds.0)
   end_is_whole limits screens session bytes own ending.Memory input holds remembers = absurd cc
   end_is_whole limits screens session bytes own ending.Whole input holds remembers = refl
   end_is_whole limits screens session bytes own (ending.Cut place) input holds remembers =
@@ -197,7 +197,7 @@ stands_done ends each =
     ) refl
 
 module _ (before after : PortsValue) (run : RunWords) (texts : Texts)
-    (told : before.texts ≡ Some texts) (told_after : IsSome after.texts)
+    (told : before.texts ≡ Some texts)
     (whole : AreWholeTexts texts run) (no_fault : HasNoFault before after) (status : ℕ)
     (sets : List (List ScreenValue)) where
   -- the journal was written
@@ -218,6 +218,9 @@ module _ (before after : PortsValue) (run : RunWords) (texts : Texts)
       is_told _ _ h.told
       ∙ ap (standing_of h.ends) (is_kept h.acts h.lines h.refused h.journal)
       ∙ stands_done h.ends each_whole where
+        told_after : IsSome after.texts
+        told_after = h.tells (subst (λ (t : Option Texts). IsSome t) (sym told) refl)
+
         each_whole : (place : ℕ) (end : End) → slice_get h.ends place ≡ Some end
             → end ≡ ending.Whole
         each_whole place end is =
@@ -263,7 +266,7 @@ module _ (before after : PortsValue) (run : RunWords) (texts : Texts)
   went_is_done (inr (inr (inl other))) = absurd (not_unserved other.other)
   went_is_done (inr (inr (inr (inl unopened)))) = absurd (no_fault.read _ unopened.rose)
   went_is_done (inr (inr (inr (inr (inl refused))))) =
-      absurd (no_output_rose before after run texts told told_after whole no_fault refused.session
+      absurd (no_output_rose before after run no_fault refused.session
       refused.rose)
   went_is_done (inr (inr (inr (inr (inr ran))))) = run_is_done ran
 
@@ -274,7 +277,7 @@ pub whole_is_done : (words : List (List ℕ)) (sets : List (List ScreenValue))
     → (status ≡ 0) ⊎ (status ≡ 8)
 whole_is_done words sets before after status has (inl memory) = inr memory
 whole_is_done words sets before after status has (inr went) =
-    inl (went_is_done before after has.run has.texts has.told has.told_after has.whole has.no_fault
+    inl (went_is_done before after has.run has.texts has.told has.whole has.no_fault
     status sets
     (subst (λ (command : Option Command). CommandWent words command sets before after status)
     has.is_run went))

@@ -1,9 +1,10 @@
 -- What stands when the sessions of a run have ended.
-use Rattle.std.specs.Prelude.{◌≡◌, ℕ, List, Bool, true, false}
+use Rattle.std.specs.Prelude.{◌≡◌, ℕ, List, map, Bool, true, false}
 use Rattle.limit_table.specs.declared.limits.Limits.{Limits}
 use Rattle.risk_board.specs.declared.hand.Line.{Line}
 use Rattle.risk_journal.specs.declared.acts.Act.{Act}
 use Rattle.risk_journal.specs.declared.acts.End.{End}
+use Rattle.risk_journal.specs.ActLists.{unplaced}
 use Rattle.risk_journal.specs.JournalText.{journal_text}
 use Rattle.screen_kit.specs.Screens.{ScreenValue}
 use Rattle.gate_program.specs.Words.{RunWords}
@@ -43,6 +44,17 @@ pub record HasFinished (limits : Limits) (run : RunWords) (before after : PortsV
   pub written : AreWritten run before.texts after.texts objects
   pub causes : EachHasCauses run before after objects
   pub answer : HasAnswer limits acts ends lines refused text status
+
+-- The acts of sessions that ended got the places of their reads, and stand in the journal with the
+-- lines of each tree.
+pub record HasKept (limits : Limits) (run : RunWords) (before after : PortsValue)
+    (acts : List (List Act)) (ends : List End) (objects : List ObjectsValue) (text : List ℕ)
+    (status : ℕ) : Type 0 where
+  pub placed : List (List Act)
+  pub lines : List (List Line)
+  pub alike : map (map unplaced) placed ≡ map (map unplaced) acts
+  pub legal : AreLegalLines limits placed lines
+  pub finished : HasFinished limits run before after placed lines ends objects text status
 
 -- The sessions that were opened ran with their screens over forests of their own, were closed, and
 -- stand in the journal, with the lines of each tree.

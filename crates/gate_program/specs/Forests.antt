@@ -69,6 +69,14 @@ pub record HaveCalled (limits : Limits) (passes : Passes) (acts : List (List Act
   pub halts : map (λ pass. pass.track.calls) passes.halts.items
       ≡ map (calls_at (halt_tree limits)) acts
 
+-- Sessions that ran over these forests, one or more: all passes are back, with the calls of the acts.
+pub record HaveRun (limits : Limits) (forests : Forests) (passes : Passes) (acts : List (List Act))
+    : Type 0 where
+  pub some : 1 ≤ length acts
+  pub opened : AreOpened limits (length acts) forests
+  pub back : AreBack forests passes
+  pub called : HaveCalled limits passes acts
+
 -- the lawful record of a forest of this plan, of what these passes did
 pub record HasClosed (unit cap : ℕ) (join : ℕ → ℕ → ℕ) (plan : Plan) (passes : List PassValue)
     (taken : Record) : Type 0 where

@@ -1,7 +1,7 @@
 -- What a call of the gate did, by how far it came.
 use Rattle.std.specs.Prelude.{◌≡◌, ℕ, ◌<◌, List, [], ◌∷◌, ◌++◌, length, map, slice_get}
 use Rattle.std.specs.Prelude.{Option}
-use Rattle.std.specs.Prelude.{Some, None, IfSome, Bool, true, false, codes, ◌⊎◌}
+use Rattle.std.specs.Prelude.{Some, None, IfSome, IsSome, Bool, true, false, codes, ◌⊎◌}
 use Rattle.std.specs.List.{list_any}
 use Rattle.std.specs.Io.KnownBytes.{Appends}
 use Rattle.gate_ports.specs.Faults.{Rose}
@@ -163,6 +163,8 @@ pub record HasRun (run : RunWords) (sets : List (List ScreenValue)) (before afte
   pub history : IsHistory limits acts lines
   pub journal : HasJournal before after run acts lines refused
   pub others : KeepsOthers before after run
+  -- a folder that told its texts before goes on telling them
+  pub tells : IsSome before.texts → IsSome after.texts
   pub told : let standing = standing_of ends refused in
       Tells before after (totals_of limits acts ends lines standing) standing status
 

@@ -1,6 +1,6 @@
 -- The inputs and outputs of sessions: what is told of them, and what a run does with them.
 use Rattle.std.specs.Prelude.{◌≡◌, ◌≢◌, ℕ, ◌<◌, List, length, Option, Some, None, IfSome}
-use Rattle.std.specs.Prelude.{MatchOption}
+use Rattle.std.specs.Prelude.{MatchOption, IsSome}
 use Rattle.std.specs.Prelude.{slice_get, ◌⊎◌, false}
 use Rattle.std.specs.Str.{bytes_eq}
 use Rattle.gate_ports.specs.Faults.{Rose}
@@ -10,7 +10,7 @@ use Rattle.risk_journal.specs.declared.acts.Act.{Act}
 use Rattle.risk_journal.specs.declared.acts.End.{End}
 use Rattle.risk_journal.specs.declared.acts.End.TheVariants as ending
 use Rattle.screen_kit.specs.Screens.{ScreenValue}
-use Rattle.session_engine.specs.Follows.{IsByInput, FollowsSource}
+use Rattle.session_engine.specs.Follows.{IsByInput, FollowsSource, EndsAs}
 use Rattle.session_engine.specs.Session.{armed_for}
 use Rattle.gate_program.specs.declared.open.Opened.{Opened}
 use Rattle.gate_program.specs.Words.{RunWords, venue_name, client_name, output_names, is_among}
@@ -101,6 +101,8 @@ pub record HasDone (limits : Limits) (screens : List ScreenValue) (before after 
   pub read : end ≡ ending.ReadFault → Rose before.input_faults after.input_faults
   pub write : end ≡ ending.WriteFault
       → Rose before.venue_faults after.venue_faults ⊎ Rose before.client_faults after.client_faults
+  -- the last act says how it ended
+  pub ends : EndsAs acts end
   -- the objects are those that were opened
   pub input_name : after.input_name ≡ before.input_name
   pub venue_name : after.venue_name ≡ before.venue_name
@@ -160,6 +162,7 @@ pub record HasClosed (run : RunWords) (before after : PortsValue) (objects : Lis
 pub record AreWritten (run : RunWords) (before after : Option Texts) (objects : List ObjectsValue)
     : Type 0 where
   pub tells : before ≡ None → after ≡ None
+  pub goes_on : IsSome before → IsSome after
   pub holds : IfSome before (λ old. IfSome after (λ new. EachHolds run new objects))
   pub others : IfSome before (λ old. IfSome after (λ new. (name : List ℕ)
       → is_among name (output_names run.out (length run.sessions)) ≡ false → new name ≡ old name))

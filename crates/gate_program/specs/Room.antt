@@ -1,7 +1,6 @@
--- Room for the tasks of sessions, and for what they leave.
+-- Room for what sessions leave.
 use Rattle.std.specs.Prelude.{◌≡◌, ℕ, ◌+◌, ◌≤◌, [], vec_len, vec_capacity}
 use Rattle.gate_program.specs.declared.ended.Ended.{Ended}
-use Rattle.gate_program.specs.declared.ended.Room.{Room}
 
 -- no session has ended yet
 pub record HasNone {S K : Type 0} (ended : Ended S K) : Type 0 where
@@ -18,13 +17,3 @@ pub record HasSpare {S K : Type 0} (count : ℕ) (ended : Ended S K) : Type 0 wh
   pub acts : vec_len ended.acts + count ≤ vec_capacity ended.acts
   pub ends : vec_len ended.ends + count ≤ vec_capacity ended.ends
   pub opened : vec_len ended.opened + count ≤ vec_capacity ended.opened
-
--- there is no task yet, and none has ended
-pub record IsEmpty {S K : Type 0} (room : Room S K) : Type 0 where
-  pub tasks : room.tasks.items ≡ []
-  pub ended : HasNone room.ended
-
--- there is room for the tasks of so many sessions, and for what they leave
-pub record HasRoom {S K : Type 0} (count : ℕ) (room : Room S K) : Type 0 where
-  pub tasks : vec_len room.tasks + count ≤ vec_capacity room.tasks
-  pub ended : HasSpare count room.ended

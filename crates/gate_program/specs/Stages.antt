@@ -129,12 +129,13 @@ AreClosed before after venue client held_venue held_client =
     × (after ≡ Some (with_two venue to_venue client to_client texts))
     × IfSome held_venue (λ own. own ≡ to_venue) × IfSome held_client (λ own. own ≡ to_client))
 
--- each other name has its text, where the folder tells it
+-- each other name has its text, where the folder tells it, and a folder that tells its texts goes on
+-- telling them
 abbrev pub ChangesOnly : Option Texts → Option Texts → List ℕ → Type 0
 ChangesOnly before after name =
     MatchOption before (after ≡ None)
-    (λ old. IfSome after (λ new. (other : List ℕ) → bytes_eq other name ≡ false
-    → new other ≡ old other))
+    (λ old. (new : Texts) × (after ≡ Some new)
+    × ((other : List ℕ) → bytes_eq other name ≡ false → new other ≡ old other))
 
 -- why a session of the run was not opened
 abbrev pub HasUnopened : RunWords → PortsValue → PortsValue → Status → Type 0

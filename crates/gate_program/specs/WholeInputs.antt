@@ -1,5 +1,5 @@
 -- What a run is owed: of whole inputs, read and written without a fault, the status 0.
-use Rattle.std.specs.Prelude.{◌≡◌, ℕ, ◌<◌, ◌≤◌, List, length, Some, IsSome}
+use Rattle.std.specs.Prelude.{◌≡◌, ℕ, ◌<◌, ◌≤◌, List, length, Some}
 use Rattle.fix_fields.specs.Frames.{FrameValue}
 use Rattle.fix_fields.specs.Found.{Splits}
 use Rattle.fix_fields.specs.declared.frame.Found.TheVariants as found
@@ -37,13 +37,11 @@ pub record HasNoFault (before after : PortsValue) : Type 0 where
   pub written : NoneRose before.write_faults after.write_faults
   pub out : Rose before.out_faults after.out_faults → ⊥
 
--- The words are a run's, the folder tells its texts before and after, those before are whole, and
--- nothing failed.
+-- The words are a run's, the folder tells its texts, they are whole, and nothing failed.
 pub record HasWholeInputs (words : List (List ℕ)) (before after : PortsValue) : Type 0 where
   pub run : RunWords
   pub is_run : command_of words ≡ Some (Run run)
   pub texts : Texts
   pub told : before.texts ≡ Some texts
-  pub told_after : IsSome after.texts
   pub whole : AreWholeTexts texts run
   pub no_fault : HasNoFault before after

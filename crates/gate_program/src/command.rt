@@ -1,33 +1,35 @@
 //! The top call.
-ghost use Rattle.std.specs.Prelude.{◌≡◌, ◌⊎◌, ◌≤◌, IsTrue, IfOk, [], length, map, string_bytes};
+ghost use Rattle.std.specs.Prelude.{◌≡◌, ◌⊎◌, ◌^◌, ◌<◌, ◌≤◌, IsTrue, IfOk, [], length, map};
+ghost use Rattle.std.specs.Prelude.{string_bytes, vec_capacity};
+ghost use Rattle.std.specs.List.{AllByRecursion};
 ghost use Rattle.gate_program.specs.CommandOf.{run_value};
-ghost use Rattle.gate_program.specs.Finish.{HasEnded};
+ghost use Rattle.gate_program.specs.Finish.{HasEnded, HasKept};
+ghost use Rattle.gate_program.specs.Forests.{HaveRun};
 ghost use Rattle.gate_program.specs.Gate.{HasLimits, GateRun, RunWent, SessionsWent, ports_of};
 ghost use Rattle.gate_program.specs.Names.{AreNames};
 ghost use Rattle.gate_program.specs.Objects.{objects_of, EachOwn};
-ghost use Rattle.gate_program.specs.Room.{HasRoom, IsEmpty};
+ghost use Rattle.gate_program.specs.Room.{HasNone, HasSpare};
 ghost use Rattle.limit_table.specs.Files.{IsHeldByFile};
 ghost use Rattle.gate_program.specs.Stages.{folder_of, folder_with};
 ghost use Rattle.gate_program.specs.Statuses.{answer_number, answer_text};
 ghost use Rattle.gate_program.specs.Words.{is_run, journal_name, session_most};
 
 use crate::close::close_sessions;
-use crate::ended::{Ended, Room, room_for, taken_apart};
+use crate::ended::{Ended, Room, room_for, run_sessions};
 use crate::finish::{Finished, finish};
-use crate::forests::{Forests, Opening, Passes, close_forests, open_forests};
+use crate::forests::{Forests, Opening, open_forests};
 use crate::names::{Names, names_in};
 use crate::open::{Opened, open_sessions, read_limits};
-use crate::replay::journal_of;
+use crate::replay::journal_after;
 use crate::status::{Answer, Status};
-use crate::tasks::{opened_of, run_tasks, tasks_of};
+use crate::tasks::tasks_of;
 use crate::tell::{tell, tell_answer};
 use crate::words::{Run, command_from};
 use fold_law::Memory;
 use gate_ports::{Folder, Gate, Sink};
 use limit_table::Limits;
-use risk_journal::{Act, Journal};
 use screen_kit::Screen;
-use session_engine::{a_history_admits_what_sessions_do, admitted_stays_within};
+use session_engine::{a_history_admits_what_sessions_do, admitted_stays_within, places_are_free};
 use std::alloc::Global;
 use std::thread::Threads;
 
@@ -48,76 +50,117 @@ fn ready_for<S: Drop, K: Drop>(
     ensures names { IfOk result (λ ready. AreNames out.now count ready.names.sessions.items) }
     ensures journal { IfOk result (λ ready.
         string_bytes ready.names.journal ≡ journal_name out.now) }
-    ensures empty { IfOk result (λ ready. IsEmpty ready.room) }
-    ensures room { IfOk result (λ ready. HasRoom count ready.room) }
+    ensures no_task { IfOk result (λ ready. ready.room.tasks.items ≡ []) }
+    ensures task_room { IfOk result (λ ready. count ≤ vec_capacity ready.room.tasks) }
+    ensures empty { IfOk result (λ ready. HasNone ready.room.ended) }
+    ensures room { IfOk result (λ ready. HasSpare count ready.room.ended) }
 {
     let names = names_in(alloc, out, count as u32)?;
     let room = room_for(alloc, count)?;
     Ok(Ready { names, room })
 }
 
-/// The journal of sessions that have ended over these forests.
-fn journal_after<R: Threads + Sync>(
+/// Closes sessions that ran over these forests, and writes their journal.
+fn finish_run<R: Threads + Sync, D: Folder>(
     rt: &R,
     alloc: Global,
+    run: &Run,
+    limits: &Limits,
+    names: &Names,
     forests: Forests,
-    passes: Passes,
-    acts: Vec<Vec<Act>>,
-) -> Result<Journal, Memory> {
-    let records = close_forests(forests, passes)?;
-    journal_of(rt, alloc, &records, acts)
+    ended: Ended<D::In, D::Out>,
+    folder: &mut D,
+) -> Answer
+    requires held { IsHeldByFile limits.now }
+    requires most { length run.now.sessions.now ≤ session_most }
+    requires names { AreNames run.now.out.now (length run.now.sessions.now)
+        names.now.sessions.items }
+    requires journal { string_bytes names.now.journal ≡ journal_name run.now.out.now }
+    requires ran { HaveRun limits.now forests ended.passes (map (λ own. own.items) ended.acts.items) }
+    requires few { AllByRecursion (λ own. length own < 2 ^ 32)
+        (map (λ own. own.items) ended.acts.items) }
+    requires act_count { length ended.acts.items ≡ length run.now.sessions.now }
+    requires end_count { length ended.ends.items ≡ length run.now.sessions.now }
+    requires object_count { length ended.opened.items ≡ length run.now.sessions.now }
+    requires own { EachOwn (run_value run.now) (D.texts folder.old)
+        (map (objects_of D.In.left D.In.name D.In.faults D.Out.held D.Out.name D.Out.faults)
+        ended.opened.items) }
+    ensures { (answer_number result ≡ 8) ⊎ HasKept limits.now (run_value run.now)
+        (folder_of D.texts D.read_faults D.write_faults folder.old)
+        (folder_of D.texts D.read_faults D.write_faults folder.new)
+        (map (λ own. own.items) ended.acts.items) ended.ends.items
+        (map (objects_of D.In.left D.In.name D.In.faults D.Out.held D.Out.name D.Out.faults)
+        ended.opened.items) (answer_text result) (answer_number result) }
+{
+    let Ended {
+        passes,
+        acts,
+        ends,
+        opened,
+    } = ended;
+    match journal_after(rt, alloc, forests, passes, acts) {
+        Ok(journal) => {
+            let finished = Finished {
+                journal,
+                ends,
+                opened,
+            };
+            finish(alloc, run, limits, names, finished, folder)
+        }
+        Err(Memory) => {
+            close_sessions(run, &names.sessions, opened, folder);
+            Answer::Stopped(Status::Memory)
+        }
+    }
 }
 
-/// Runs sessions that were opened as tasks over forests of their own, with their screens, closes them
-/// and writes the journal.
+/// Runs sessions that were opened over forests of their own, each with its screens, all side by side,
+/// closes them and writes the journal.
 fn run_opened<R: Threads + Sync, D: Folder, G: Gate>(
     rt: &R,
     alloc: Global,
     run: &Run,
     limits: &Limits,
+    gate: &G,
     ready: Ready<D::In, D::Out>,
     screens: Vec<Vec<Box<dyn Screen + Send>>>,
     opened: Vec<Opened<D::In, D::Out>>,
     folder: &mut D,
-    gate: &G,
-) -> Answer {
+) -> Answer
+    requires held { IsHeldByFile limits.now }
+    requires run { IsTrue (is_run (run_value run.now)) }
+    requires names { AreNames run.now.out.now (length run.now.sessions.now)
+        ready.names.sessions.items }
+    requires journal { string_bytes ready.names.journal ≡ journal_name run.now.out.now }
+    requires no_task { ready.room.tasks.items ≡ [] }
+    requires task_room { length run.now.sessions.now ≤ vec_capacity ready.room.tasks }
+    requires empty { HasNone ready.room.ended }
+    requires room { HasSpare (length run.now.sessions.now) ready.room.ended }
+    requires sets { length screens.items ≡ session_most }
+    requires many { length opened.items ≡ length run.now.sessions.now }
+    requires own { EachOwn (run_value run.now) (D.texts folder.old)
+        (map (objects_of D.In.left D.In.name D.In.faults D.Out.held D.Out.name D.Out.faults)
+        opened.items) }
+    ensures { (answer_number result ≡ 8) ⊎ HasEnded limits.now
+        (map (λ set. map (λ b. (Screen-box b).meaning b.value) set.items) screens.items)
+        (run_value run.now)
+        (folder_of D.texts D.read_faults D.write_faults folder.old)
+        (folder_of D.texts D.read_faults D.write_faults folder.new)
+        (map (objects_of D.In.left D.In.name D.In.faults D.Out.held D.Out.name D.Out.faults)
+        opened.items) (answer_text result) (answer_number result) }
+{
+    places_are_free();
     let Ready { names, room } = ready;
     let Ok(opening) = open_forests(alloc, limits, run.sessions.len() as u32) else {
         close_sessions(run, &names.sessions, opened, folder);
         return Answer::Stopped(Status::Memory);
     };
     let Opening { forests, passes } = opening;
-    let Room { tasks, ended } = room;
-    let tasks = tasks_of(passes, screens, opened, tasks);
-    match run_tasks::<R, D, G>(rt, alloc, limits, gate, &forests, tasks) {
-        Ok(done) => {
-            let Ended {
-                passes,
-                acts,
-                ends,
-                opened,
-            } = taken_apart(done, ended);
-            match journal_after(rt, alloc, forests, passes, acts) {
-                Ok(journal) => finish(
-                    alloc,
-                    run,
-                    limits,
-                    &names,
-                    Finished {
-                        journal,
-                        ends,
-                        opened,
-                    },
-                    folder,
-                ),
-                Err(Memory) => {
-                    close_sessions(run, &names.sessions, opened, folder);
-                    Answer::Stopped(Status::Memory)
-                }
-            }
-        }
-        Err(tasks) => {
-            close_sessions(run, &names.sessions, opened_of(tasks, ended.opened), folder);
+    let tasks = tasks_of(passes, screens, opened, room.tasks);
+    match run_sessions::<R, D, G>(rt, alloc, limits, gate, &forests, tasks, room.ended) {
+        Ok(ended) => finish_run(rt, alloc, run, limits, &names, forests, ended, folder),
+        Err(opened) => {
+            close_sessions(run, &names.sessions, opened, folder);
             Answer::Stopped(Status::Memory)
         }
     }
@@ -129,9 +172,9 @@ fn run_limited<R: Threads + Sync, D: Folder, G: Gate>(
     alloc: Global,
     run: &Run,
     limits: &Limits,
+    gate: &G,
     screens: Vec<Vec<Box<dyn Screen + Send>>>,
     folder: &mut D,
-    gate: &G,
 ) -> Answer
     requires run { IsTrue (is_run (run_value run.now)) }
     requires limits { HasLimits (D.texts folder.old) run.now.limits.now limits.now }
@@ -150,7 +193,7 @@ fn run_limited<R: Threads + Sync, D: Folder, G: Gate>(
         Err(Memory) => return Answer::Stopped(Status::Memory),
     };
     match open_sessions(alloc, run, &ready.names.sessions, folder) {
-        Ok(opened) => run_opened(rt, alloc, run, limits, ready, screens, opened, folder, gate),
+        Ok(opened) => run_opened(rt, alloc, run, limits, gate, ready, screens, opened, folder),
         Err(status) => Answer::Stopped(status),
     }
 }
@@ -160,9 +203,9 @@ fn run_words<R: Threads + Sync, D: Folder, G: Gate>(
     rt: &R,
     alloc: Global,
     run: &Run,
+    gate: &G,
     screens: Vec<Vec<Box<dyn Screen + Send>>>,
     folder: &mut D,
-    gate: &G,
 ) -> Answer
     requires run { IsTrue (is_run (run_value run.now)) }
     requires sets { length screens.items ≡ session_most }
@@ -173,7 +216,7 @@ fn run_words<R: Threads + Sync, D: Folder, G: Gate>(
         (answer_number result) }
 {
     match read_limits(alloc, run.limits, folder) {
-        Ok(limits) => run_limited(rt, alloc, run, &limits, screens, folder, gate),
+        Ok(limits) => run_limited(rt, alloc, run, &limits, gate, screens, folder),
         Err(status) => Answer::Stopped(status),
     }
 }
@@ -195,7 +238,7 @@ fn run_and_tell<R: Threads + Sync, D: Folder, O: Sink, G: Gate>(
         (ports_of D.texts D.read_faults D.write_faults O.held O.faults folder.old out.old)
         (ports_of D.texts D.read_faults D.write_faults O.held O.faults folder.new out.new) result }
 {
-    let answer = run_words(rt, alloc, run, screens, folder, gate);
+    let answer = run_words(rt, alloc, run, gate, screens, folder);
     if answer.number() == Status::Memory.number() {
         return Status::Memory.number();
     }

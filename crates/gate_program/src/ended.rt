@@ -1,13 +1,21 @@
-//! What the sessions of a run leave, by kind.
-ghost use Rattle.std.specs.Prelude.{◌≡◌, ◌≤◌, [], length, map, IfOk, vec_capacity};
-ghost use Rattle.gate_program.specs.Room.{HasNone, HasRoom, HasSpare, IsEmpty};
+//! The sessions of a run, and what they leave, by kind.
+ghost use Rattle.std.specs.Prelude.{◌≡◌, ◌^◌, ◌≤◌, ◌<◌, [], length, map, IfErr, IfOk, vec_capacity};
+ghost use Rattle.std.specs.List.{AllByRecursion};
+ghost use Rattle.f_array.specs.Passes.{new_passes};
+ghost use Rattle.limit_table.specs.Files.{IsHeldByFile};
+ghost use Rattle.gate_program.specs.Forests.{AreOpened, HaveRun};
+ghost use Rattle.gate_program.specs.Objects.{objects_of, HaveDone};
+ghost use Rattle.gate_program.specs.Room.{HasNone, HasSpare};
 
-use crate::forests::Passes;
+use crate::forests::{Forests, Passes};
 use crate::open::Opened;
-use crate::tasks::{Task, TaskDone};
+use crate::tasks::{Task, TaskDone, opened_of, run_tasks};
 use fold_law::Memory;
+use gate_ports::{Folder, Gate};
+use limit_table::Limits;
 use risk_journal::{Act, End};
 use std::alloc::Global;
+use std::thread::Threads;
 
 /// What sessions did, how each ended, their passes and their objects, all in the order of the
 /// sessions.
@@ -39,8 +47,10 @@ fn room_of<T: Drop>(alloc: Global, count: usize) -> Result<Vec<T>, Memory>
 
 /// Room for so many sessions.
 pub(crate) fn room_for<S: Drop, K: Drop>(alloc: Global, count: usize) -> Result<Room<S, K>, Memory>
-    ensures empty { IfOk result (λ room. IsEmpty room) }
-    ensures room { IfOk result (λ room. HasRoom count room) }
+    ensures no_task { IfOk result (λ room. room.tasks.items ≡ []) }
+    ensures task_room { IfOk result (λ room. count ≤ vec_capacity room.tasks) }
+    ensures empty { IfOk result (λ room. HasNone room.ended) }
+    ensures room { IfOk result (λ room. HasSpare count room.ended) }
 {
     Ok(Room {
         tasks: room_of(alloc, count)?,
@@ -85,4 +95,43 @@ pub(crate) fn taken_apart<S: Drop, K: Drop>(
         ended.opened.push_reserved(opened);
     }
     ended
+}
+
+/// Runs each task over these forests, all side by side, and takes apart what they left. There is room
+/// for it. Where memory is wanting none is run, and the objects are given back.
+pub(crate) fn run_sessions<R: Threads + Sync, D: Folder, G: Gate>(
+    rt: &R,
+    alloc: Global,
+    limits: &Limits,
+    gate: &G,
+    forests: &Forests,
+    tasks: Vec<Task<D::In, D::Out>>,
+    room: Ended<D::In, D::Out>,
+) -> Result<Ended<D::In, D::Out>, Vec<Opened<D::In, D::Out>>>
+    requires held { IsHeldByFile limits.now }
+    requires some { 1 ≤ length tasks.items }
+    requires forests { AreOpened limits.now (length tasks.items) forests.now }
+    requires sums { map (λ t. t.sum) tasks.items
+        ≡ new_passes forests.now.sums (length tasks.items) }
+    requires halts { map (λ t. t.halt) tasks.items
+        ≡ new_passes forests.now.halts (length tasks.items) }
+    requires empty { HasNone room }
+    requires room { HasSpare (length tasks.items) room }
+    ensures ran { IfOk result (λ ended.
+        HaveRun limits.now forests.now ended.passes (map (λ own. own.items) ended.acts.items)) }
+    ensures few { IfOk result (λ ended.
+        AllByRecursion (λ own. length own < 2 ^ 32) (map (λ own. own.items) ended.acts.items)) }
+    ensures done { IfOk result (λ ended. HaveDone limits.now
+        (map (λ t. map (λ b. (Screen-box b).meaning b.value) t.screens.items) tasks.items)
+        (map (λ t. objects_of D.In.left D.In.name D.In.faults D.Out.held D.Out.name D.Out.faults
+        t.opened) tasks.items)
+        (map (objects_of D.In.left D.In.name D.In.faults D.Out.held D.Out.name D.Out.faults)
+        ended.opened.items)
+        (map (λ own. own.items) ended.acts.items) ended.ends.items) }
+    ensures err { IfErr result (λ back. back.items ≡ map (λ t. t.opened) tasks.items) }
+{
+    match run_tasks::<R, D, G>(rt, alloc, limits, gate, forests, tasks) {
+        Ok(done) => Ok(taken_apart(done, room)),
+        Err(tasks) => Err(opened_of(tasks, room.opened)),
+    }
 }

@@ -1,10 +1,12 @@
 //! The journal of sessions that have ended, from the records of their forests.
-ghost use Rattle.std.specs.Prelude.{◌≡◌, ℕ, IfOk, map};
+ghost use Rattle.std.specs.Prelude.{◌≡◌, ℕ, IfOk, length, map};
 ghost use Rattle.risk_journal.specs.ActLists.{placed_by, place_in, unplaced};
-ghost use Rattle.gate_program.specs.Forests.{HaveLeft};
-ghost use Rattle.gate_program.specs.Histories.{AreHistories};
+ghost use Rattle.session_engine.specs.Trees.{LimitsValue};
+ghost use Rattle.gate_program.specs.Forests.{HaveLeft, HaveRun};
+ghost use Rattle.gate_program.specs.Histories.{AreHistories, AreLegalLines};
+ghost use Rattle.gate_program.specs.Totals.{HaveTotals};
 
-use crate::forests::Records;
+use crate::forests::{Forests, Passes, Records, close_forests};
 use fold_law::{Max, Memory, Sum};
 use risk_journal::{Act, Journal, set_places};
 use std::alloc::Global;
@@ -45,13 +47,13 @@ fn all_placed(
 
 /// Replays each tree of both forests, side by side, and sets the place of each read to that of its
 /// stamp in its tree. The halt tree's lines are the last.
-pub(crate) fn journal_of<R: Threads + Sync>(
+fn journal_of<R: Threads + Sync>(
     rt: &R,
     alloc: Global,
     records: &Records,
     acts: Vec<Vec<Act>>,
 ) -> Result<Journal, Memory>
-    requires { (trees : ℕ) × HaveLeft trees records.now (map (λ own. own.items) acts.items) }
+    requires left { (trees : ℕ) × HaveLeft trees records.now (map (λ own. own.items) acts.items) }
     ensures histories { IfOk result (λ journal. (trees : ℕ)
         → HaveLeft trees records.now (map (λ own. own.items) acts.items)
         → AreHistories trees (map (λ own. own.items) journal.acts.items)
@@ -76,4 +78,28 @@ pub(crate) fn journal_of<R: Threads + Sync>(
         acts,
         lines: all.lines,
     })
+}
+
+/// The journal of sessions that ran over these forests, which are closed.
+pub(crate) fn journal_after<R: Threads + Sync>(
+    rt: &R,
+    alloc: Global,
+    forests: Forests,
+    passes: Passes,
+    acts: Vec<Vec<Act>>,
+) -> Result<Journal, Memory>
+    requires ran { (limits : LimitsValue)
+        × HaveRun limits forests passes (map (λ own. own.items) acts.items) }
+    ensures legal { IfOk result (λ journal. (limits : LimitsValue)
+        → HaveRun limits forests passes (map (λ own. own.items) acts.items)
+        → AreLegalLines limits (map (λ own. own.items) journal.acts.items)
+        (map (λ own. own.items) journal.lines.items)) }
+    ensures totals { IfOk result (λ journal. HaveTotals (length journal.acts.items)
+        (map (λ own. own.items) journal.lines.items)) }
+    ensures acts { IfOk result (λ journal.
+        map (map unplaced) (map (λ own. own.items) journal.acts.items)
+        ≡ map (map unplaced) (map (λ own. own.items) acts.items)) }
+{
+    let records = close_forests(forests, passes)?;
+    journal_of(rt, alloc, &records, acts)
 }

@@ -1,8 +1,9 @@
 -- Trees that were replayed, each where memory was at hand.
-use Rattle.std.specs.Prelude.{◌≡◌, ℕ, List, [], Result, Ok, Err}
+use Rattle.std.specs.Prelude.{◌≡◌, ℕ, ◌<◌, List, [], Result, Ok, Err}
 use Rattle.risk_board.specs.declared.hand.Line.{Line}
 use Rattle.f_array.specs.declared.record.Record.{Record}
 use Rattle.trail_replay.specs.declared.history.History.{History}
+use Rattle.trail_replay.specs.Fronts.{IsLawful}
 use Rattle.trail_replay.specs.Histories.{history_of, places_of}
 
 -- the tree was replayed
@@ -25,3 +26,9 @@ abbrev pub HasReplayed : {E : Type 0} → Record → ℕ → Result History E �
 HasReplayed taken tree (Ok own) =
     (own.lines.items ≡ history_of taken tree) × (own.places.items ≡ places_of taken tree)
 HasReplayed taken tree (Err why) = Unit {0}
+
+-- the tree is one of a lawful record
+pub record IsLawfulTree (unit cap : ℕ) (join : ℕ → ℕ → ℕ) (taken : Record) (tree : ℕ) : Type 0
+  where
+    pub lawful : IsLawful unit cap join taken
+    pub below : tree < taken.shape.trees

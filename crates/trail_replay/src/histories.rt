@@ -1,10 +1,11 @@
 //! The histories of all trees of a record.
-ghost use Rattle.std.specs.Prelude.{◌≡◌, ◌<◌, ◌++◌, map, IfOk, OnOk};
+ghost use Rattle.std.specs.Prelude.{◌≡◌, ◌++◌, map, IfOk, OnOk};
 ghost use Rattle.std.specs.List.{AllZip, AllByRecursion};
 ghost use Rattle.trail_replay.specs.Fronts.{IsLawful};
 ghost use Rattle.trail_replay.specs.Histories.{history_of, places_of};
 ghost use Rattle.trail_replay.specs.Reads.{list_below};
-ghost use Rattle.trail_replay.specs.Replayed.{HasReplayed, IsReplayed, lines_in, places_in};
+ghost use Rattle.trail_replay.specs.Replayed.{HasReplayed, IsLawfulTree, IsReplayed, lines_in};
+ghost use Rattle.trail_replay.specs.Replayed.{places_in};
 
 use crate::history::History;
 use crate::prepared::{Prepared, replay_of};
@@ -36,7 +37,7 @@ fn numbers(alloc: Global, trees: u32) -> Result<Vec<u32>, Memory>
 }
 
 /// Replays each tree of a prepared record, side by side.
-fn replay_all<R: Threads + Sync, F: Fold>(
+fn replay_all<R: Threads + Sync, F: Fold + Sync>(
     rt: &R,
     alloc: Global,
     taken: &Record,
@@ -48,8 +49,8 @@ fn replay_all<R: Threads + Sync, F: Fold>(
     let prepared = Prepared::of(alloc, taken)?;
     let trees = numbers(alloc, taken.shape.trees)?;
     let replay = |tree: u32| -> Result<History, Memory>
-        requires { IsLawful F.UNIT F.CAP F.join prepared.now × (tree < prepared.now.shape.trees) }
-        ensures { HasReplayed prepared.entry.now tree result }
+        requires { IsLawfulTree F.UNIT F.CAP F.join prepared tree }
+        ensures { HasReplayed prepared.entry tree result }
     { replay_of::<F>(alloc, &prepared, tree) };
     match map_all(rt, alloc, trees, &replay) {
         Ok(all) => Ok(all),
@@ -79,7 +80,7 @@ fn add_all(done: Vec<Result<History, Memory>>, all: &mut Histories) -> Result<()
 
 /// Adds the history of each tree of a lawful record. The record is prepared once, and its trees are
 /// replayed side by side.
-pub fn add_histories<R: Threads + Sync, F: Fold>(
+pub fn add_histories<R: Threads + Sync, F: Fold + Sync>(
     rt: &R,
     alloc: Global,
     taken: &Record,

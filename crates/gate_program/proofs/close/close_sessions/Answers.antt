@@ -3,7 +3,7 @@ use Rattle.std.proofs.lemmas.List.{length-map}
 use Rattle.gate_program.specs.CommandOf.{run_value}
 use Rattle.gate_program.specs.Objects.{objects_of}
 use Rattle.gate_program.proofs.Lists.{map_at}
-use Rattle.gate_program.proofs.PlayedTo.{first_left}
+use Rattle.gate_program.proofs.Lists.{first_left}
 use Rattle.gate_program.proofs.Folder.{none_closed}
 use Rattle.gate_program.proofs.Closings.{own_as, closes_named, next_closed}
 use Rattle.gate_program.proofs.Sessions.{name_at, outputs_at, next_owned}

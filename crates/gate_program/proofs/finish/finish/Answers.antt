@@ -1,26 +1,18 @@
 use Rattle.std.proofs.Common.{ℕ, ◌∙◌, map, sym, subst, string_bytes}
 use Rattle.std.proofs.lemmas.List.{length-map}
 use Rattle.gate_program.specs.CommandOf.{run_value}
-use Rattle.gate_program.specs.Finish.{HaveTotals}
 use Rattle.gate_program.specs.Objects.{objects_of}
 use Rattle.gate_program.proofs.Finished.{finished}
-use Rattle.gate_program.proofs.Histories.{have_totals}
 use Rattle.gate_program.proofs.finish.finish.Goals as goal
-
-pub keep_journal-requires-clause-lines : goal.keep_journal-requires-clause-lines
-keep_journal-requires-clause-lines g c κs within =
-    subst (λ (n : ℕ). HaveTotals n (map (λ own. own.items) c.in-Ok.lines.items))
-    (length-map c.args.finished.ended.acts.items (λ own. own.items))
-    (have_totals c.args.limits.now c.args.finished.boards _ _ c.requires.played c.in-Ok.ensures)
 
 pub returns : goal.returns
 returns g c =
-    finished c.args.limits.now (run_value c.args.run.now) _ _ _ c.args.finished.boards _
-    c.args.finished.ended.ends.items _ _ c.as_str.result.now _ _ _ c.deref-2.ensures.value
+    finished c.args.limits.now (run_value c.args.run.now) _ _ _ _ _
+    c.args.finished.ends.items _ c.as_str.result.now _ _ _ c.deref-2.ensures.value
     (c.as_str.ensures.value ∙ c.requires.journal)
-    (length-map c.args.finished.ended.opened.items
+    (length-map c.args.finished.opened.items
     (objects_of g.D.In.Source.left g.D.In.Source.name g.D.In.Source.faults g.D.Out.Sink.held
     g.D.Out.Sink.name g.D.Out.Sink.faults)
     ∙ c.requires.object_count ∙ sym (length-map c.args.run.now.sessions.now string_bytes))
-    c.close_sessions.ensures c.in-Ok.ensures c.keep_journal.ensures.went
+    c.close_sessions.ensures c.keep_journal.ensures.went
     c.keep_journal.ensures.stood

@@ -1,0 +1,144 @@
+-- What sessions did they did with the places of their reads too.
+use Rattle.std.proofs.Common.{◌≡◌, ℕ, ◌^◌, ◌<◌, List, [], ◌∷◌, ◌++◌, length, map, refl, sym, ap}
+use Rattle.std.proofs.Common.{◌∙◌, subst, inl, inr, arith, Vec, Global}
+use Rattle.std.proofs.lemmas.List.{length-map}
+use Rattle.std.proofs.lemmas.Option.{slice_get_within}
+use Rattle.std.specs.Prelude.{Option, Some, None, slice_get, ◌⊎◌, All}
+use Rattle.std.specs.List.{AllByRecursion}
+use Rattle.std.proofs.lemmas.List.Elements.{All-from_recursion}
+use Rattle.limit_table.specs.declared.limits.Limits.{Limits}
+use Rattle.risk_journal.specs.declared.acts.Act.{Act}
+use Rattle.risk_journal.specs.declared.acts.Act.TheVariants.{Post, Read, Sent, Refused, Noted}
+use Rattle.risk_journal.specs.declared.acts.Act.TheVariants.{Ended}
+use Rattle.risk_journal.specs.declared.acts.End.{End}
+use Rattle.risk_journal.specs.ActLists.{unplaced}
+use Rattle.screen_kit.specs.Screens.{ScreenValue}
+use Rattle.session_engine.specs.Follows.{FollowsSource, FollowsInput, EndsAs}
+use Rattle.gate_program.specs.Objects.{ObjectsValue, HasDone, HaveDone}
+use Rattle.gate_program.specs.Run.{EndsWith, set_of}
+use Rattle.gate_program.proofs.Lists.{map_at, mapped_at}
+
+-- what follows from an input doesn't know the places of reads
+pub record PlacesLaw : Type 0 where
+  pub free : (limits : Limits) (screens : List ScreenValue) (bytes : List ℕ)
+      (acts others : List Act) (end : End) (venue client : List ℕ)
+      → map unplaced others ≡ map unplaced acts
+      → FollowsInput limits screens bytes acts end venue client
+      → FollowsInput limits screens bytes others end venue client
+
+-- an act that differs from the last one in a place alone is it
+ended_itself : (act : Act) (end : End) → unplaced act ≡ Ended end → act ≡ Ended end
+ended_itself (Post tree index value) end same = absurd cc
+ended_itself (Read tree stamp place value) end same = absurd cc
+ended_itself (Sent frame) end same = absurd cc
+ended_itself (Refused frame code first second) end same = absurd cc
+ended_itself (Noted frame code first second) end same = absurd cc
+ended_itself (Ended own) end same = same
+
+none_alike : (acts : List Act) → map unplaced acts ≡ [] → acts ≡ []
+none_alike [] same = refl
+none_alike (act ∷ acts) same = absurd cc
+
+-- acts alike end alike
+ends_alike : (acts front : List Act) (end : End)
+    → map unplaced acts ≡ map unplaced (front ++ Ended end ∷ []) → EndsWith acts end
+ends_alike [] [] end same = absurd cc
+ends_alike [] (first ∷ front) end same = absurd cc
+ends_alike (act ∷ acts) [] end same =
+    let one : unplaced act ≡ Ended end = cc in
+    let none : map unplaced acts ≡ [] = cc in
+    ([], ap (λ (a : Act). a ∷ acts) (ended_itself act end one)
+    ∙ ap (λ (l : List Act). Ended end ∷ l) (none_alike acts none))
+ends_alike (act ∷ acts) (first ∷ front) end same =
+    let rest : map unplaced acts ≡ map unplaced (front ++ Ended end ∷ []) = cc in
+    let later = ends_alike acts front end rest in
+    (act ∷ later.0, ap (λ (l : List Act). act ∷ l) later.1)
+
+end_alike : (placed acts : List Act) (end : End) → map unplaced placed ≡ map unplaced acts
+    → EndsAs acts end → EndsAs placed end
+end_alike placed acts end same (inl (front, is)) =
+    inl (ends_alike placed front end (same ∙ ap (map unplaced) is))
+end_alike placed acts end same (inr (none, memory)) =
+    inr (none_alike placed (same ∙ ap (map unplaced) none), memory)
+
+source_alike : PlacesLaw → (limits : Limits) (screens : List ScreenValue) (left : Option (List ℕ))
+    (placed acts : List Act) (end : End) (hv va hc ca : Option (List ℕ))
+    → map unplaced placed ≡ map unplaced acts
+    → FollowsSource limits screens left acts end hv va hc ca
+    → FollowsSource limits screens left placed end hv va hc ca
+source_alike law limits screens None placed acts end hv va hc ca same follows = tt
+source_alike law limits screens (Some bytes) placed acts end hv va hc ca same
+    (to_venue, to_client, venue, client, follows) = (
+      to_venue,
+      to_client,
+      venue,
+      client,
+      law.free limits screens bytes acts placed end to_venue to_client same follows,
+    )
+
+one_alike : PlacesLaw → (limits : Limits) (screens : List ScreenValue) (before after : ObjectsValue)
+    (placed acts : List Act) (end : End) → map unplaced placed ≡ map unplaced acts
+    → HasDone limits screens before after acts end → HasDone limits screens before after placed end
+one_alike law limits screens before after placed acts end same done = record {
+  follows = λ by_input.
+      source_alike law limits _ before.left placed acts end before.venue_held after.venue_held
+      before.client_held after.client_held same (done.follows by_input);
+  read = done.read;
+  write = done.write;
+  ends = end_alike placed acts end same done.ends;
+  input_name = done.input_name;
+  venue_name = done.venue_name;
+  client_name = done.client_name;
+}
+
+-- what all sessions did, with their sets of screens, they did with places too, with these sets
+pub done_alike : PlacesLaw → (limits : Limits) (sets others : List (List ScreenValue))
+    (before after : List ObjectsValue) (placed acts : List (List Act)) (ends : List End)
+    → map (map unplaced) placed ≡ map (map unplaced) acts
+    → ((session : ℕ) → session < length before → set_of others session ≡ set_of sets session)
+    → HaveDone limits others before after acts ends → HaveDone limits sets before after placed ends
+done_alike law limits sets others before after placed acts ends same sets_are done = record {
+  act_count = sym (length-map placed (map unplaced)) ∙ ap length same
+      ∙ length-map acts (map unplaced) ∙ done.act_count;
+  end_count = done.end_count;
+  object_count = done.object_count;
+  each = λ session own now did end is_own is_now is_did is_end.
+      let raw = mapped_at (map unplaced) acts session (map unplaced did)
+      (ap (λ l. slice_get l session) (sym same) ∙ map_at (map unplaced) placed session did is_did)
+      in
+      subst (λ (s : List ScreenValue). HasDone limits s own now did end)
+      (sets_are session (slice_get_within before session own is_own))
+      (one_alike law limits (set_of others session) own now did raw.0 end (sym raw.2)
+      (done.each session own now raw.0 end is_own is_now raw.1 is_end));
+}
+
+-- as many acts with places as without
+few_one : (placed acts : List Act) → map unplaced placed ≡ map unplaced acts
+    → length acts < 2 ^ 32 → length placed < 2 ^ 32
+few_one placed acts same few =
+    omega (arith, length-map placed unplaced, ap length same, length-map acts unplaced, few)
+
+few_alike : (placed acts : List (List Act)) → map (map unplaced) placed ≡ map (map unplaced) acts
+    → AllByRecursion (λ own. length own < 2 ^ 32) acts
+    → AllByRecursion (λ own. length own < 2 ^ 32) placed
+few_alike [] acts same few = tt
+few_alike (own ∷ placed) [] same few = absurd cc
+few_alike (own ∷ placed) (other ∷ acts) same few =
+    let one : map unplaced own ≡ map unplaced other = cc in
+    let rest : map (map unplaced) placed ≡ map (map unplaced) acts = cc in
+    (few_one own other one few.0, few_alike placed acts rest few.1)
+
+of_items : (acts : List (Vec Act Global))
+    → AllByRecursion (λ own. length own < 2 ^ 32) (map (λ own. own.items) acts)
+    → AllByRecursion (λ own. length own.items < 2 ^ 32) acts
+of_items [] few = tt
+of_items (own ∷ acts) few = (few.0, of_items acts few.1)
+
+-- a `u32` counts the acts of each session, with places as without
+pub all_few : (placed : List (Vec Act Global)) (acts : List (List Act))
+    → map (map unplaced) (map (λ own. own.items) placed) ≡ map (map unplaced) acts
+    → AllByRecursion (λ own. length own < 2 ^ 32) acts
+    → All (λ own. length own.items < 2 ^ 32) placed
+all_few placed acts same few =
+    All-from_recursion (λ own. length own.items < 2 ^ 32) placed
+    (of_items placed (few_alike (map (λ own. own.items) placed) acts same few))
