@@ -13,6 +13,8 @@ pub mod NewTasks
 pub mod TasksBack
 pub mod PlacedDone
 pub mod Replays
+pub mod Results
+pub mod RunStarts
 pub mod Histories
 pub mod Finished
 pub mod Ran

@@ -13,9 +13,11 @@ use Rattle.risk_journal.specs.declared.acts.Act.TheVariants.{Ended}
 use Rattle.risk_journal.specs.declared.acts.End.{End}
 use Rattle.risk_journal.specs.ActLists.{unplaced}
 use Rattle.screen_kit.specs.Screens.{ScreenValue}
-use Rattle.session_engine.specs.Follows.{FollowsSource, FollowsInput, EndsAs}
+use Rattle.session_engine.specs.Follows.{FollowsSource, FollowsInput, EndsAs, EndsWith}
 use Rattle.gate_program.specs.Objects.{ObjectsValue, HasDone, HaveDone}
-use Rattle.gate_program.specs.Run.{EndsWith, set_of}
+use Rattle.gate_program.specs.Words.{RunWords}
+use Rattle.gate_program.specs.Run.{PortsValue, set_of}
+use Rattle.gate_program.specs.Finish.{HasEnded, HasKept}
 use Rattle.gate_program.proofs.Lists.{map_at, mapped_at}
 
 -- what follows from an input doesn't know the places of reads
@@ -46,9 +48,11 @@ ends_alike [] [] end same = absurd cc
 ends_alike [] (first ∷ front) end same = absurd cc
 ends_alike (act ∷ acts) [] end same =
     let one : unplaced act ≡ Ended end = cc in
-    let none : map unplaced acts ≡ [] = cc in
-    ([], ap (λ (a : Act). a ∷ acts) (ended_itself act end one)
-    ∙ ap (λ (l : List Act). Ended end ∷ l) (none_alike acts none))
+    let none : map unplaced acts ≡ [] = cc in (
+      [],
+      ap (λ (a : Act). a ∷ acts) (ended_itself act end one)
+          ∙ ap (λ (l : List Act). Ended end ∷ l) (none_alike acts none),
+    )
 ends_alike (act ∷ acts) (first ∷ front) end same =
     let rest : map unplaced acts ≡ map unplaced (front ++ Ended end ∷ []) = cc in
     let later = ends_alike acts front end rest in
@@ -142,3 +146,49 @@ pub all_few : (placed : List (Vec Act Global)) (acts : List (List Act))
 all_few placed acts same few =
     All-from_recursion (λ own. length own.items < 2 ^ 32) placed
     (of_items placed (few_alike (map (λ own. own.items) placed) acts same few))
+
+-- there are acts with places of as many sessions as there are without
+pub as_many : (placed acts : List (Vec Act Global))
+    → map (map unplaced) (map (λ own. own.items) placed)
+    ≡ map (map unplaced) (map (λ own. own.items) acts) → length placed ≡ length acts
+as_many placed acts same =
+    let first = length-map (map (λ own. own.items) placed) (map unplaced) in
+    let second = length-map (map (λ own. own.items) acts) (map unplaced) in
+    omega (
+      arith,
+      length-map placed (λ own. own.items),
+      length-map acts (λ own. own.items),
+      first,
+      second,
+      ap length same,
+    )
+
+-- sessions that did so and whose journal was kept have ended
+pub ended : PlacesLaw → (limits : Limits) (sets others : List (List ScreenValue)) (run : RunWords)
+    (before after : PortsValue) (objects objects_after : List ObjectsValue) (acts : List (List Act))
+    (ends : List End) (text : List ℕ) (n : ℕ)
+    → HaveDone limits others objects objects_after acts ends
+    → ((session : ℕ) → session < length objects → set_of others session ≡ set_of sets session)
+    → (n ≡ 8) ⊎ HasKept limits run before after acts ends objects_after text n
+    → (n ≡ 8) ⊎ HasEnded limits sets run before after objects text n
+ended law limits sets others run before after objects objects_after acts ends text n done sets_are
+    (inl memory) = inl memory
+ended law limits sets others run before after objects objects_after acts ends text n done sets_are
+    (inr own) = inr (record {
+      acts = own.placed;
+      lines = own.lines;
+      ends = ends;
+      objects_after = objects_after;
+      done = done_alike law limits sets others objects objects_after own.placed acts ends own.alike
+          sets_are done;
+      legal = own.legal;
+      finished = own.finished;
+    })
+
+-- what was done with these objects was done with those that they are
+pub done_before : (limits : Limits) (sets : List (List ScreenValue))
+    (before others after : List ObjectsValue) (acts : List (List Act)) (ends : List End)
+    → others ≡ before → HaveDone limits sets others after acts ends
+    → HaveDone limits sets before after acts ends
+done_before limits sets before others after acts ends same done =
+    subst (λ (all : List ObjectsValue). HaveDone limits sets all after acts ends) same done

@@ -15,13 +15,13 @@ use Rattle.risk_journal.specs.declared.acts.End.{End}
 use Rattle.risk_journal.specs.declared.acts.End.TheVariants as ending
 use Rattle.limit_table.specs.declared.limits.Limits.{Limits}
 use Rattle.screen_kit.specs.Screens.{ScreenValue}
-use Rattle.session_engine.specs.Follows.{IsByInput, FollowsSource, FollowsInput, EndsAs}
+use Rattle.session_engine.specs.Follows.{IsByInput, FollowsSource, FollowsInput, EndsAs, EndsWith}
 use Rattle.session_engine.specs.Session.{armed_for}
 use Rattle.gate_program.specs.Words.{RunWords, venue_name, client_name, journal_name, is_among}
 use Rattle.gate_program.specs.Words.{output_names}
 use Rattle.gate_program.specs.Run.{PortsValue, ReadRose, OutputRose, EndHolds, is_memory}
 use Rattle.gate_program.specs.Run.{standing_of}
-use Rattle.gate_program.specs.Run.{EndsWith, FollowsText, session_name, set_of}
+use Rattle.gate_program.specs.Run.{FollowsText, session_name, set_of}
 use Rattle.gate_program.specs.Gate.{HasRun, HasJournal, AreInputs, HasLimits}
 use Rattle.gate_program.specs.Totals.{totals_of}
 use Rattle.gate_program.specs.Objects.{ObjectsValue, AreNew, ChangesOutputs, HasOpened, HasDone}

@@ -6,7 +6,6 @@ use Rattle.std.proofs.lemmas.List.{length-map, get_or_append_left, get_or-append
 use Rattle.std.proofs.lemmas.Bool.{cases_lt}
 use Rattle.std.proofs.lemmas.Option.{unwrap_or-slice_get, slice_get_within}
 use Rattle.std.specs.Prelude.{Some, slice_get, slice_index, unwrap_or, All}
-use Rattle.std.specs.Prelude.{Result, Ok, Err, IfOk}
 use Rattle.std.specs.List.{AllByRecursion}
 use Rattle.fold_law.specs.Sum.{sum_of}
 use Rattle.fold_law.specs.Whole.{whole_of}
@@ -280,12 +279,6 @@ histories_told trees acts_placed acts lines told places own same are_placed are_
     (sym (are_placed ∙ ap (λ p. map (map (placed_by (place_in p))) acts) same))
     (subst (AreHistories trees (map (map (placed_by (place_in places))) acts)) (sym are_lines)
     histories)
-
--- what holds where a result is Ok, by what is known of its value
-pub ok_more : {A E : Type 0} (r : Result A E) (P Q : A → Type 0) → IfOk r P → ((x : A) → P x → Q x)
-    → IfOk r Q
-ok_more (Ok x) P Q p f = f x p
-ok_more (Err e) P Q p f = tt
 
 -- placed acts of all sessions differ in the places of their reads alone
 all_alike : (place : ℕ → ℕ → ℕ) (acts : List (List Act))

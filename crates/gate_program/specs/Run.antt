@@ -1,7 +1,6 @@
 -- What the sessions of a run did together, and what is left of it in a folder and on standard
 -- output.
-use Rattle.std.specs.Prelude.{◌≡◌, ℕ, List, [], ◌∷◌, ◌++◌, length, map, Option, Some, IfSome}
-use Rattle.std.specs.Prelude.{slice_get}
+use Rattle.std.specs.Prelude.{◌≡◌, ℕ, List, [], length, map, Option, Some, IfSome, slice_get}
 use Rattle.std.specs.Prelude.{Bool, true, false, ◌⊎◌, ◌||◌, if◌then◌else◌}
 use Rattle.std.specs.List.{list_any, slice_index_or}
 use Rattle.gate_ports.specs.Faults.{Rose}
@@ -9,7 +8,6 @@ use Rattle.gate_ports.specs.Names.{Texts}
 use Rattle.risk_board.specs.declared.hand.Line.{Line}
 use Rattle.risk_board.specs.History.{IsLegal, components_of}
 use Rattle.risk_journal.specs.declared.acts.Act.{Act}
-use Rattle.risk_journal.specs.declared.acts.Act.TheVariants.{Ended}
 use Rattle.risk_journal.specs.declared.acts.End.{End}
 use Rattle.risk_journal.specs.declared.acts.End.TheVariants as ending
 use Rattle.limit_table.specs.declared.limits.Limits.{Limits}
@@ -18,7 +16,7 @@ use Rattle.risk_journal.specs.ActLists.{events_of}
 use Rattle.session_engine.specs.Admitted.{AdmitsOwn, StaysWithin}
 use Rattle.gate_program.specs.Words.{RunWords, venue_name, client_name}
 use Rattle.screen_kit.specs.Screens.{ScreenValue}
-use Rattle.session_engine.specs.Follows.{FollowsInput}
+use Rattle.session_engine.specs.Follows.{EndsWith, FollowsInput}
 
 -- a folder and standard output at a moment: texts and counts of faults by name, where they are told
 pub record PortsValue : Type 0 where
@@ -63,10 +61,6 @@ FollowsText limits screens after run session bytes acts end =
     × (texts (venue_name run.out session) ≡ Some venue)
     × (texts (client_name run.out session) ≡ Some client)
     × FollowsInput limits screens bytes acts end venue client)
-
--- the last act says that the session ended so
-abbrev pub EndsWith : List Act → End → Type 0
-EndsWith acts end = (front : List Act) × (acts ≡ front ++ Ended end ∷ [])
 
 -- what is known of a session of these bytes, with these screens, armed, by its end
 abbrev pub EndHolds : Limits → List ScreenValue → PortsValue → PortsValue → RunWords → ℕ → List ℕ

@@ -78,10 +78,11 @@ fn run_task<S: Source, K: Sink, G: Gate>(
     alloc: Global,
     limits: &Limits,
     gate: &G,
-    forests: &Forests,
+    sums: &Forest<Sum>,
+    halts: &Forest<Max>,
     task: Task<S, K>,
 ) -> TaskDone<S, K>
-    requires { AreReady limits.now forests.now.sums forests.now.halts task.sum task.halt }
+    requires { AreReady limits.now sums.now halts.now task.sum task.halt }
     ensures made { HaveMade limits.now task.sum task.halt result.sum result.halt result.acts.items }
     ensures few { length result.acts.items < 2 ^ 32 }
     ensures done { HasDone limits.now (map (λ b. (Screen-box b).meaning b.value) task.screens.items)
@@ -99,8 +100,8 @@ fn run_task<S: Source, K: Sink, G: Gate>(
     let Sinks { venue, client } = sinks;
     let session = sum.number();
     let hands = Hands {
-        sum: TreeHand::new(&forests.sums, sum),
-        halt: TreeHand::new(&forests.halts, halt),
+        sum: TreeHand::new(sums, sum),
+        halt: TreeHand::new(halts, halt),
     };
     let done = run_session(
         alloc, session, limits, hands, screens, input, venue, client, gate,
@@ -148,8 +149,10 @@ pub(crate) fn run_tasks<R: Threads + Sync, D: Folder, G: Gate>(
         tasks.items done.items) }
     ensures err { IfErr result (λ back. back.items ≡ tasks.items) }
 {
+    let sums = &forests.sums;
+    let halts = &forests.halts;
     let run = |task: Task<D::In, D::Out>| -> TaskDone<D::In, D::Out>
-        requires { AreReady limits.now forests.now.sums forests.now.halts task.sum task.halt }
+        requires { AreReady limits.now sums.now halts.now task.sum task.halt }
         ensures { HaveMade limits.entry.now task.sum task.halt result.sum result.halt
             result.acts.items
             × (length result.acts.items < 2 ^ 32)
@@ -160,7 +163,7 @@ pub(crate) fn run_tasks<R: Threads + Sync, D: Folder, G: Gate>(
             (objects_of D.In.left D.In.name D.In.faults D.Out.held D.Out.name D.Out.faults
             result.opened)
             result.acts.items result.end }
-    { run_task(alloc, limits, gate, forests, task) };
+    { run_task(alloc, limits, gate, sums, halts, task) };
     map_all(rt, alloc, tasks, &run)
 }
 

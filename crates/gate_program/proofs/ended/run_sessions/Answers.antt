@@ -8,6 +8,7 @@ use Rattle.node_rule.specs.declared.view.Plan.{Plan}
 use Rattle.f_array.specs.Records.{AreAllOf}
 use Rattle.gate_program.specs.Forests.{AreOpened}
 use Rattle.gate_program.specs.Objects.{objects_of}
+use Rattle.gate_program.specs.Room.{HasSpare}
 use Rattle.gate_program.proofs.LimitQuota.{quota_in_range}
 use Rattle.gate_program.proofs.NewTasks.{all_ready}
 use Rattle.gate_program.proofs.TasksBack.{zip_long, all_back, calls_back, each_back, have_done}
@@ -16,10 +17,16 @@ use Rattle.gate_program.proofs.ended.run_sessions.Goals as goal
 
 pub run_tasks-requires-clause-ready : goal.run_tasks-requires-clause-ready
 run_tasks-requires-clause-ready g c κs within =
-    all_ready c.args.limits.now c.args.forests.now.sums c.args.forests.now.halts _
+    all_ready c.args.limits.now c.args.forests.now.sums c.args.forests.now.halts
+    (length c.args.tasks.items)
     c.requires.held (quota_in_range c.args.limits.now c.requires.held).0
     c.requires.forests.sums c.requires.forests.halts
     (λ t. t.sum) (λ t. t.halt) c.args.tasks.items _ c.requires.sums c.requires.halts
+
+pub taken_apart-requires-clause-room : goal.taken_apart-requires-clause-room
+taken_apart-requires-clause-room g c =
+    subst (λ (n : ℕ). HasSpare n c.args.room)
+    (sym (zip_long _ c.args.tasks.items c.in-Ok.done.items c.in-Ok.ensures.ok)) c.requires.room
 
 pub returns-in-Ok-clause-ran : goal.returns-in-Ok-clause-ran
 returns-in-Ok-clause-ran g c =

@@ -1,7 +1,14 @@
 use Rattle.std.proofs.Common.{arith, ap, ◌∙◌}
+use Rattle.limit_table.proofs.Held.{held_accounts, held_symbols}
 use Rattle.node_rule.specs.Standing.{plan_of}
 use Rattle.gate_program.proofs.LimitQuota.{quota_in_range}
 use Rattle.gate_program.proofs.forests.open_forests.Goals as goal
+
+pub of-shape-requires-clause-trees : goal.of-shape-requires-clause-trees
+of-shape-requires-clause-trees c =
+    let accounts = held_accounts c.args.limits.now c.requires.held in
+    let symbols = held_symbols c.args.limits.now c.requires.held in
+    (omega (arith, c.halt_tree.ensures), omega (arith, c.halt_tree.ensures, accounts, symbols))
 
 pub open-requires-clause-quota : goal.open-requires-clause-quota
 open-requires-clause-quota c =

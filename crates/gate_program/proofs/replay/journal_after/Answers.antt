@@ -3,13 +3,16 @@ use Rattle.std.proofs.lemmas.List.{length-map}
 use Rattle.session_engine.specs.Trees.{halt_tree}
 use Rattle.gate_program.specs.Totals.{HaveTotals}
 use Rattle.gate_program.proofs.Histories.{are_legal_lines}
-use Rattle.gate_program.proofs.Replays.{have_left, ok_more}
+use Rattle.gate_program.proofs.Replays.{have_left}
+use Rattle.gate_program.proofs.Results.{ok_more}
 use Rattle.gate_program.proofs.replay.journal_after.Goals as goal
 
 pub journal_of-requires-clause-left : goal.journal_of-requires-clause-left
-journal_of-requires-clause-left g c κs within =
-    (halt_tree c.requires.ran.0, have_left c.requires.ran.0 _ _ _ _ c.requires.ran.1
-    c.in_ok-records.ensures)
+journal_of-requires-clause-left g c κs within = (
+  halt_tree c.requires.ran.0,
+  have_left c.requires.ran.0 _ _ _ _ c.requires.ran.1
+      c.in_ok-records.ensures,
+)
 
 pub returns-clause-legal : goal.returns-clause-legal
 returns-clause-legal g c =

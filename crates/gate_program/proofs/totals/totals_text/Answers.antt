@@ -1,7 +1,7 @@
 -- The lines are the journal's, of as many sessions as have acts.
 use Rattle.std.proofs.Common.{◌≡◌, ℕ, List, length, map, arith, sym, subst, Vec, Global}
 use Rattle.risk_board.specs.declared.hand.Line.{Line}
-use Rattle.gate_program.specs.Finish.{HaveTotals}
+use Rattle.gate_program.specs.Totals.{HaveTotals}
 use Rattle.gate_program.proofs.totals.totals_text.Goals as goal
 
 pub tree_totals-requires-clause-lines : goal.tree_totals-requires-clause-lines
