@@ -112,13 +112,15 @@ if_this : {A : Type 0} (P : A → Type 0) (told : Option A) (x : A) → told ≡
     → P x
 if_this P told x is holds = subst (λ (t : Option _). IfSome t P) is holds
 
+-- no output of a session had a fault
+no_output_rose : (before after : PortsValue) (run : RunWords) → HasNoFault before after
+    → (session : ℕ) → OutputRose before after run session → ⊥
+no_output_rose before after run no_fault session (inl venue) = no_fault.written _ venue
+no_output_rose before after run no_fault session (inr client) = no_fault.written _ client
+
 module _ (before after : PortsValue) (run : RunWords) (texts : Texts)
     (told : before.texts ≡ Some texts) (told_after : IsSome after.texts)
     (whole : AreWholeTexts texts run) (no_fault : HasNoFault before after) where
-  no_output_rose : (session : ℕ) → OutputRose before after run session → ⊥
-  no_output_rose session (inl venue) = no_fault.written _ venue
-  no_output_rose session (inr client) = no_fault.written _ client
-
   -- a session that followed a whole input ended whole
   follows_whole : (limits : Limits) (screens : List ScreenValue) (session : ℕ) (bytes : List ℕ)
       (own : List Act) (end : End)
@@ -137,7 +139,7 @@ module _ (before after : PortsValue) (run : RunWords) (texts : Texts)
   end_is_whole limits screens session bytes own ending.ReadFault input holds remembers =
       absurd (no_fault.read _ holds.0)
   end_is_whole limits screens session bytes own ending.WriteFault input holds remembers =
-      absurd (no_output_rose session holds.0)
+      absurd (no_output_rose before after run no_fault session holds.0)
   end_is_whole limits screens session bytes own ending.Memory input holds remembers = absurd cc
   end_is_whole limits screens session bytes own ending.Whole input holds remembers = refl
   end_is_whole limits screens session bytes own (ending.Cut place) input holds remembers =
