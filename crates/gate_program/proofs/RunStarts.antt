@@ -1,11 +1,13 @@
 -- What sessions that are to be run as tasks need: how many there are, and whose screens they take.
-use Rattle.std.proofs.Common.{◌≡◌, ℕ, ◌<◌, ◌≤◌, List, length, map, take, refl, sym, ap, ◌∙◌, subst}
+use Rattle.std.proofs.Common.{◌≡◌, ℕ, ◌<◌, ◌≤◌, List, ◌∷◌, length, map, take, refl, sym, ap, ◌∙◌, subst}
 use Rattle.std.proofs.Common.{arith, Bool, true, false, ◌&&◌}
 use Rattle.std.proofs.lemmas.Bool.Decides.{nat_tests}
 use Rattle.std.proofs.lemmas.List.{length-map}
-use Rattle.std.specs.Prelude.{IsTrue, nat_le}
+use Rattle.std.specs.Prelude.{IsTrue, nat_le, not}
+use Rattle.std.specs.List.{list_all, list_any}
 use Rattle.screen_kit.specs.Screens.{ScreenValue}
-use Rattle.gate_program.specs.Words.{RunWords, is_run, session_most}
+use Rattle.gate_program.specs.Words.{RunWords, are_distinct, is_among, is_run, is_word}
+use Rattle.gate_program.specs.Words.{output_names, session_most}
 use Rattle.gate_program.specs.Run.{set_of}
 use Rattle.gate_program.proofs.TasksBack.{first_sets, mapped_twice}
 
@@ -23,13 +25,25 @@ third_holds false b c d e holds = absurd cc
 le_of_test : (m n : ℕ) → IsTrue (nat_le m n) → m ≤ n
 le_of_test m n test = grind (arith, nat_tests)
 
--- a run has a session
-pub some_session : (run : RunWords) → IsTrue (is_run run) → 1 ≤ length run.sessions
-some_session run holds = le_of_test 1 (length run.sessions) (second_holds _ _ _ _ _ holds)
+module _ (run : RunWords) (holds : IsTrue (is_run run)) where
+  abbrev count : ℕ
+  count = length run.sessions
 
--- and no more than the most
-pub few_sessions : (run : RunWords) → IsTrue (is_run run) → length run.sessions ≤ session_most
-few_sessions run holds = le_of_test (length run.sessions) session_most (third_holds _ _ _ _ _ holds)
+  abbrev takes_output : Bool
+  takes_output =
+      list_any (λ name. is_among name (output_names run.out count)) (run.limits ∷ run.sessions)
+
+  -- a run has a session
+  pub some_session : 1 ≤ count
+  some_session = le_of_test 1 count
+      (second_holds (list_all is_word (run.limits ∷ run.out ∷ run.sessions)) (nat_le 1 count)
+      (nat_le count session_most) (are_distinct run.sessions) (not takes_output) holds)
+
+  -- and no more than the most
+  pub few_sessions : count ≤ session_most
+  few_sessions = le_of_test count session_most
+      (third_holds (list_all is_word (run.limits ∷ run.out ∷ run.sessions)) (nat_le 1 count)
+      (nat_le count session_most) (are_distinct run.sessions) (not takes_output) holds)
 
 -- each task has the set of screens of its session
 pub task_sets : {A B : Type 0} (f : B → List ScreenValue) (own : A → B) (tasks : List A)
