@@ -235,7 +235,7 @@ asks fields = is_request (kind_of (value_of 35 fields))
 abbrev pub is_order : Kind → Bool
 is_order kind.NewOrderSingle = true
 is_order kind.OrderCancelReplaceRequest = true
-is_order other = false
+is_order _ = false
 
 -- how many orders were taken up, with a message that is an order or isn't one
 abbrev pub orders_after : Bool → ℕ → ℕ
