@@ -1,8 +1,8 @@
 //! Runs of one session: orders (D), and what their limits and the book make of them.
 use crate::rows::{BUY, BUY_SENT, LARGE, Piece, Row, SMALL, Session};
 
-/// Orders that are sent, changed by reports, and refused for each cause once.
-pub(crate) const ORDERS: [Row; 16] = [
+/// Orders that are sent, changed by reports, or refused for the firm's limit or as duplicates.
+pub(crate) static ORDERS: [Row; 8] = [
     Row {
         name: "nothing",
         limits: SMALL,
@@ -301,6 +301,10 @@ pub(crate) const ORDERS: [Row; 16] = [
             tree 3 halt - posts 0 root 0 limit 0\n\
             status 0\n",
     },
+];
+
+/// Refusals, each cause of the limits, the quota, the trip and the names once.
+pub(crate) static REFUSALS: [Row; 8] = [
     Row {
         name: "a quota of two posts, used up",
         limits: b"firm,,5000,,,\n\

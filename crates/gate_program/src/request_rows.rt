@@ -3,7 +3,7 @@
 use crate::rows::{BUY, BUY_SENT, LARGE, Piece, Row, SMALL, Session};
 
 /// Requests that are refused for each cause once, and reports of no order.
-pub(crate) const REQUESTS: [Row; 4] = [
+pub(crate) static REQUESTS: [Row; 4] = [
     Row {
         name: "a replace of no order, and a cancel",
         limits: LARGE,
@@ -235,7 +235,7 @@ pub(crate) const REQUESTS: [Row; 4] = [
 ];
 
 /// Frames that are sound, garbled, cut, too long and none; Rejects.
-pub(crate) const FRAMES: [Row; 9] = [
+pub(crate) static FRAMES: [Row; 6] = [
     Row {
         name: "a garbled order between two",
         limits: LARGE,
@@ -419,6 +419,10 @@ pub(crate) const FRAMES: [Row; 9] = [
             tree 3 halt - posts 0 root 0 limit 0\n\
             status 0\n",
     },
+];
+
+/// Messages with a field fault, and one of another type.
+pub(crate) static FAULTS: [Row; 3] = [
     Row {
         name: "orders with a field fault",
         limits: LARGE,

@@ -3,8 +3,8 @@
 ghost use Rattle.std.specs.Prelude.{◌<◌};
 
 use crate::command::gate;
-use crate::order_rows::ORDERS;
-use crate::request_rows::{FRAMES, REQUESTS};
+use crate::order_rows::{ORDERS, REFUSALS};
+use crate::request_rows::{FAULTS, FRAMES, REQUESTS};
 use crate::rows::{Row, compare, no_screens, stage_of};
 use crate::test_gates::InTurn;
 use crate::turn_rows::TURNS;
@@ -39,14 +39,66 @@ fn compare_all<R: Threads + Sync + Abort>(
     Ok(())
 }
 
+/// Compares orders.
+fn compare_orders<R: Threads + Sync + Abort>(rt: &R, alloc: Global, most: usize) -> Result<(), Fail>
+    requires { 0 < most }
+{
+    compare_all(rt, alloc, &ORDERS, most)
+}
+
+/// Compares refusals.
+fn compare_refusals<R: Threads + Sync + Abort>(
+    rt: &R,
+    alloc: Global,
+    most: usize,
+) -> Result<(), Fail>
+    requires { 0 < most }
+{
+    compare_all(rt, alloc, &REFUSALS, most)
+}
+
+/// Compares cancels and replaces.
+fn compare_requests<R: Threads + Sync + Abort>(
+    rt: &R,
+    alloc: Global,
+    most: usize,
+) -> Result<(), Fail>
+    requires { 0 < most }
+{
+    compare_all(rt, alloc, &REQUESTS, most)
+}
+
+/// Compares frames.
+fn compare_frames<R: Threads + Sync + Abort>(rt: &R, alloc: Global, most: usize) -> Result<(), Fail>
+    requires { 0 < most }
+{
+    compare_all(rt, alloc, &FRAMES, most)
+}
+
+/// Compares field faults.
+fn compare_faults<R: Threads + Sync + Abort>(rt: &R, alloc: Global, most: usize) -> Result<(), Fail>
+    requires { 0 < most }
+{
+    compare_all(rt, alloc, &FAULTS, most)
+}
+
+/// Compares sessions in turn.
+fn compare_turns<R: Threads + Sync + Abort>(rt: &R, alloc: Global, most: usize) -> Result<(), Fail>
+    requires { 0 < most }
+{
+    compare_all(rt, alloc, &TURNS, most)
+}
+
 /// Runs each row so, and compares.
 fn compare_tables<R: Threads + Sync + Abort>(rt: &R, alloc: Global, most: usize) -> Result<(), Fail>
     requires { 0 < most }
 {
-    compare_all(rt, alloc, &ORDERS, most)?;
-    compare_all(rt, alloc, &REQUESTS, most)?;
-    compare_all(rt, alloc, &FRAMES, most)?;
-    compare_all(rt, alloc, &TURNS, most)
+    compare_orders(rt, alloc, most)?;
+    compare_refusals(rt, alloc, most)?;
+    compare_requests(rt, alloc, most)?;
+    compare_frames(rt, alloc, most)?;
+    compare_faults(rt, alloc, most)?;
+    compare_turns(rt, alloc, most)
 }
 
 #[test]

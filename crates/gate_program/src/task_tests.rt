@@ -2,50 +2,52 @@
 //! held until both have come, each reads what the other has posted. No clause says that sessions
 //! run at once.
 use crate::command::gate;
-use crate::rows::{
-    Piece, Row, SMALL, Session, Stage, bytes_of, compare_streams, no_screens, stage_of,
-};
+use crate::rows::{Piece, Row, SMALL, Session, bytes_of, compare_streams, no_screens, stage_of};
 use crate::test_gates::{Meeting, TURNS};
+use gate_ports::MemFolder;
 use risk_journal::{Act, read_journal};
 use std::alloc::Global;
 use std::process::Abort;
 use std::sync::atomic::Ordering;
 use std::test::*;
 
-/// An order of 60 at 10.00, which is 600, of each of two clients.
+/// An order of 60 at 10.00, which is 600.
+const FIRST: Session = Session {
+    input: &[Piece::Whole(
+        b"35=D|49=C1|56=GATE|34=1|52=20240102-10:00:00|11=a1|1=ACC|55=XYZ|54=1|38=60|\
+            40=2|44=10.00|60=20240102-10:00:00|",
+    )],
+    venue: &[Piece::Whole(
+        b"35=D|49=GATE|56=VENUE|34=1|52=20240102-10:00:00|11=a1|1=ACC|55=XYZ|54=1|38=60|\
+            40=2|44=10.00|60=20240102-10:00:00|",
+    )],
+    client: &[Piece::Whole(
+        b"35=8|49=GATE|56=C1|34=1|52=20240102-10:00:00|37=NONE|11=a1|17=G1|150=8|39=8|\
+            103=3|1=ACC|55=XYZ|54=1|38=60|151=0|14=0|6=0|58=FIRM|",
+    )],
+};
+
+/// Another client's.
+const SECOND: Session = Session {
+    input: &[Piece::Whole(
+        b"35=D|49=C2|56=GATE|34=1|52=20240102-10:00:00|11=b1|1=ACC|55=XYZ|54=1|38=60|\
+            40=2|44=10.00|60=20240102-10:00:00|",
+    )],
+    venue: &[Piece::Whole(
+        b"35=D|49=GATE|56=VENUE|34=1|52=20240102-10:00:00|11=b1|1=ACC|55=XYZ|54=1|38=60|\
+            40=2|44=10.00|60=20240102-10:00:00|",
+    )],
+    client: &[Piece::Whole(
+        b"35=8|49=GATE|56=C2|34=1|52=20240102-10:00:00|37=NONE|11=b1|17=G1|150=8|39=8|\
+            103=3|1=ACC|55=XYZ|54=1|38=60|151=0|14=0|6=0|58=FIRM|",
+    )],
+};
+
+/// The firm's limit admits one of the two.
 const RACERS: Row = Row {
     name: "two orders of which the firm's limit admits one",
     limits: SMALL,
-    sessions: &[
-        Session {
-            input: &[Piece::Whole(
-                b"35=D|49=C1|56=GATE|34=1|52=20240102-10:00:00|11=a1|1=ACC|55=XYZ|54=1|38=60|\
-                    40=2|44=10.00|60=20240102-10:00:00|",
-            )],
-            venue: &[Piece::Whole(
-                b"35=D|49=GATE|56=VENUE|34=1|52=20240102-10:00:00|11=a1|1=ACC|55=XYZ|54=1|38=60|\
-                    40=2|44=10.00|60=20240102-10:00:00|",
-            )],
-            client: &[Piece::Whole(
-                b"35=8|49=GATE|56=C1|34=1|52=20240102-10:00:00|37=NONE|11=a1|17=G1|150=8|39=8|\
-                    103=3|1=ACC|55=XYZ|54=1|38=60|151=0|14=0|6=0|58=FIRM|",
-            )],
-        },
-        Session {
-            input: &[Piece::Whole(
-                b"35=D|49=C2|56=GATE|34=1|52=20240102-10:00:00|11=b1|1=ACC|55=XYZ|54=1|38=60|\
-                    40=2|44=10.00|60=20240102-10:00:00|",
-            )],
-            venue: &[Piece::Whole(
-                b"35=D|49=GATE|56=VENUE|34=1|52=20240102-10:00:00|11=b1|1=ACC|55=XYZ|54=1|38=60|\
-                    40=2|44=10.00|60=20240102-10:00:00|",
-            )],
-            client: &[Piece::Whole(
-                b"35=8|49=GATE|56=C2|34=1|52=20240102-10:00:00|37=NONE|11=b1|17=G1|150=8|39=8|\
-                    103=3|1=ACC|55=XYZ|54=1|38=60|151=0|14=0|6=0|58=FIRM|",
-            )],
-        },
-    ],
+    sessions: &[FIRST, SECOND],
     journal: b"",
     status: 0,
     told: b"",
@@ -57,12 +59,6 @@ const RACES: u32 = 10_000;
 /// How many turns one that is ready waits for the other, so that both start at once.
 const START: u32 = 10_000;
 
-/// The names of the two sessions' streams.
-const STREAMS: [(&str, &str); 2] = [
-    ("out/s00.venue", "out/s00.client"),
-    ("out/s01.venue", "out/s01.client"),
-];
-
 /// What the venue gets of an order that is sent, and what the client gets of one that is refused.
 #[derive(Drop)]
 struct Answers {
@@ -70,39 +66,40 @@ struct Answers {
     refused: Vec<u8>,
 }
 
-/// The answers of each session of a row.
-fn answers_of(alloc: Global, row: &Row) -> Result<Vec<Answers>, Fail> {
-    let mut answers = Vec::new(alloc);
-    for session in row.sessions {
-        answers.push(Answers {
-            sent: bytes_of(alloc, session.venue)?,
-            refused: bytes_of(alloc, session.client)?,
-        })?;
-    }
-    Ok(answers)
+/// The answers of a session.
+fn answers_of(alloc: Global, session: &Session) -> Result<Answers, Fail> {
+    Ok(Answers {
+        sent: bytes_of(alloc, session.venue)?,
+        refused: bytes_of(alloc, session.client)?,
+    })
 }
 
-/// How many sessions sent their order. Each other one refused it.
-fn sent_in(rt: &impl Abort, stage: &Stage, answers: &[Answers]) -> usize {
-    let mut sent = 0usize;
-    for (own, (venue, client)) in answers.iter().zip(STREAMS) {
-        let to_venue = stage.folder.get(venue);
-        let to_client = stage.folder.get(client);
-        if to_venue == Some(own.sent.as_slice()) {
-            assert_eq!(rt; to_client, Some(b"".as_slice()));
-            sent = sent.saturating_add(1);
-        } else {
-            assert_eq!(rt; to_venue, Some(b"".as_slice()));
-            assert_eq!(rt; to_client, Some(own.refused.as_slice()));
-        }
+/// Whether a session with these streams sent its order. Else it refused it.
+fn has_sent(
+    rt: &impl Abort,
+    folder: &MemFolder,
+    venue: &str,
+    client: &str,
+    answers: &Answers,
+) -> bool {
+    let (Some(to_venue), Some(to_client)) = (folder.get(venue), folder.get(client)) else {
+        panic!(rt; "a stream is missing");
+    };
+    let has_sent = to_venue == answers.sent.as_slice();
+    if has_sent {
+        assert!(rt; to_client.is_empty(), "sent and refused");
+    } else {
+        assert!(rt; to_venue.is_empty(), "neither sent nor refused");
+        assert_eq!(rt; to_client, answers.refused.as_slice());
     }
-    sent
+    has_sent
 }
 
 #[test]
 fn two_that_race_never_both_get_what_one_may_have(rt: HostRuntime) -> Result<(), Fail> {
     let alloc = rt.alloc();
-    let answers = answers_of(alloc, &RACERS)?;
+    let first = answers_of(alloc, &FIRST)?;
+    let second = answers_of(alloc, &SECOND)?;
     for _ in 0..RACES {
         let mut stage = stage_of(alloc, &RACERS, 65_536)?;
         let status = gate(
@@ -115,7 +112,10 @@ fn two_that_race_never_both_get_what_one_may_have(rt: HostRuntime) -> Result<(),
             &Meeting::of(START),
         );
         assert_eq!(rt; status, 0);
-        assert!(rt; sent_in(&rt, &stage, &answers) < 2, "both were sent");
+        let folder = &stage.folder;
+        let is_first = has_sent(&rt, folder, "out/s00.venue", "out/s00.client", &first);
+        let is_second = has_sent(&rt, folder, "out/s01.venue", "out/s01.client", &second);
+        assert!(rt; !(is_first && is_second), "both were sent");
     }
     Ok(())
 }
@@ -206,8 +206,9 @@ fn two_that_meet_see_each_others_orders(rt: HostRuntime) -> Result<(), Fail> {
         &meeting,
     );
     assert_eq!(rt; status, 0);
-    assert!(rt;
-        !meeting.is_missed.load(Ordering::SeqCst),
+    assert_eq!(rt;
+        meeting.missed.load(Ordering::SeqCst),
+        0,
         "a session gave up"
     );
     compare_streams(&rt, alloc, &MEETING, &stage.folder)?;

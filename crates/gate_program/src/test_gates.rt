@@ -2,7 +2,7 @@
 
 use gate_ports::Gate;
 use std::hint;
-use std::sync::atomic::{AtomicBool, AtomicU32, Ordering};
+use std::sync::atomic::{AtomicU32, Ordering};
 
 /// How many turns a session makes before it gives up: some seconds.
 pub(crate) const TURNS: u32 = 100_000_000;
@@ -44,15 +44,17 @@ impl Gate for InTurn {
     }
 }
 
-/// Holds two sessions at their orders 0 and 1 until both have taken up the order.
+/// Holds two sessions at each of their orders until both have taken it up.
 #[derive(Drop)]
 pub(crate) struct Meeting {
     /// How many turns a session makes before it gives up.
     pub turns: u32,
-    /// What session 0 has taken up, and what session 1: their orders 0 and 1.
-    pub taken: [[AtomicBool; 2]; 2],
-    /// Whether a session gave up.
-    pub is_missed: AtomicBool,
+    /// How many orders session 0 has taken up.
+    pub first: AtomicU32,
+    /// How many orders session 1 has taken up.
+    pub second: AtomicU32,
+    /// How often a session gave up.
+    pub missed: AtomicU32,
 }
 
 impl Meeting {
@@ -60,29 +62,32 @@ impl Meeting {
     pub(crate) fn of(turns: u32) -> Meeting {
         Meeting {
             turns,
-            taken: [
-                [AtomicBool::new(false), AtomicBool::new(false)],
-                [AtomicBool::new(false), AtomicBool::new(false)],
-            ],
-            is_missed: AtomicBool::new(false),
+            first: AtomicU32::new(0),
+            second: AtomicU32::new(0),
+            missed: AtomicU32::new(0),
         }
+    }
+
+    /// Turns until a session has taken up more than so many orders, or gives up.
+    fn wait_for(&self, other: &AtomicU32, order: u32) {
+        for _ in 0..self.turns {
+            if other.load(Ordering::SeqCst) > order {
+                return;
+            }
+            hint::spin_loop();
+        }
+        self.missed.fetch_add(1, Ordering::SeqCst);
     }
 }
 
 impl Gate for Meeting {
     fn before(&self, session: u32, order: u32) {
-        if session > 1 || order > 1 {
-            return;
+        if session == 0 {
+            self.first.store(order.saturating_add(1), Ordering::SeqCst);
+            self.wait_for(&self.second, order);
+        } else {
+            self.second.store(order.saturating_add(1), Ordering::SeqCst);
+            self.wait_for(&self.first, order);
         }
-        let own = session as usize;
-        let place = order as usize;
-        self.taken[own][place].store(true, Ordering::SeqCst);
-        for _ in 0..self.turns {
-            if self.taken[1 - own][place].load(Ordering::SeqCst) {
-                return;
-            }
-            hint::spin_loop();
-        }
-        self.is_missed.store(true, Ordering::SeqCst);
     }
 }

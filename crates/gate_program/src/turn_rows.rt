@@ -3,7 +3,7 @@
 use crate::rows::{LARGE, Piece, Row, SMALL, Session};
 
 /// One session goes on where the one before it has ended.
-pub(crate) const TURNS: [Row; 4] = [
+pub(crate) static TURNS: [Row; 4] = [
     Row {
         name: "the second session meets the first's exposure",
         limits: SMALL,
