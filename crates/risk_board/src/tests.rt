@@ -112,7 +112,7 @@ fn posts_and_reads<H: Hand>(rt: &impl Abort, hand: &mut H, times: u32)
 }
 
 #[test]
-fn fifty_thousand_posts_take_little_time(rt: HostRuntime) -> Result<(), Fail> {
+fn a_hand_takes_a_whole_quota_of_posts(rt: HostRuntime) -> Result<(), Fail> {
     let board = PlainBoard::<Sum>::open(rt.alloc(), 1, SESSIONS, 50_000)?;
     let mut hand = board.hand(7);
     for _ in 0..100 {
