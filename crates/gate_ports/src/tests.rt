@@ -3,13 +3,13 @@ ghost use Rattle.std.specs.Prelude.{◌≡◌};
 
 use crate::{
     Failed, Folder, MemFolder, MemSink, MemSource, PortFault, RealFolder, RealOut, Sink, Source,
-    give_all,
+    SureSource, give_all,
 };
 use std::alloc::Global;
 use std::test::*;
 
 /// Reads in small pieces up to the end, or up to a hundred pieces.
-fn read_in_pieces<S: Source>(alloc: Global, source: &mut S) -> Result<Vec<u8>, Fail>
+fn read_in_pieces<S: Source + Send>(alloc: Global, source: &mut S) -> Result<Vec<u8>, Fail>
     ensures name { S.name source.new ≡ S.name source.old }
 {
     let mut bytes = Vec::new(alloc);
@@ -62,6 +62,18 @@ fn listed_calls_of_a_source_fail(rt: HostRuntime) -> Result<(), Fail> {
         assert_eq!(rt; source.fetch(&mut piece), want, "{name}");
         assert_eq!(rt; piece.as_slice(), held, "{name}");
     }
+    Ok(())
+}
+
+#[test]
+fn a_sure_source_gives_all_its_bytes(rt: HostRuntime) -> Result<(), Fail> {
+    let alloc = rt.alloc();
+    let mut source = SureSource::new(Vec::from_slice(alloc, b"abcde")?, 2);
+    assert_eq!(rt;
+        read_in_pieces(alloc, &mut source)?.as_slice(),
+        b"abcde".as_slice()
+    );
+    assert_eq!(rt; source.fetch(&mut [0; 3]), Ok(0));
     Ok(())
 }
 
