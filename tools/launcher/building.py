@@ -8,6 +8,7 @@ import sys
 import tempfile
 import time
 
+from launcher.processes import hand_on
 from launcher.say import say
 from launcher.usage import KIT
 
@@ -145,8 +146,14 @@ def build_once(top, crate, program):
             stdout=subprocess.DEVNULL,
             stderr=subprocess.PIPE,
         )
-        tell_progress(proving.stderr, log, len(crates(top)))
-        proving.wait()
+        hand_on(proving)
+        try:
+            tell_progress(proving.stderr, log, len(crates(top)))
+        except KeyboardInterrupt:
+            os.remove(kept.name)
+            raise
+        finally:
+            proving.wait()
     if is_program(program):
         os.remove(kept.name)
         return True

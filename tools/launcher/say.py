@@ -1,10 +1,28 @@
 """Lines for the person who called, on standard error."""
+import os
 import sys
+
+UNWRITTEN = 6
 
 
 def say(text):
     """Writes one line, marked as the launcher's."""
     print(f"gate: {text}", file=sys.stderr, flush=True)
+
+
+def put(text, status):
+    """Writes a line to standard output; the status, or 6 where it couldn't be written."""
+    if sys.stdout is None:
+        say("standard output couldn't be written: it is closed")
+        return UNWRITTEN
+    try:
+        print(text, flush=True)
+        return status
+    except OSError as error:
+        say(f"standard output couldn't be written: {error.strerror.lower()}")
+        # What is left in its buffer would fail once more as this call ends.
+        os.dup2(os.open(os.devnull, os.O_WRONLY), sys.stdout.fileno())
+        return UNWRITTEN
 
 
 def shown(data, most=60):

@@ -28,6 +28,13 @@ status of a run
   6  a file, or standard output, couldn't be written
   8  out of memory
   9  the limit file has a row that isn't served yet
+  128 and the number of a signal, where one ended the program
+
+status of a report
+  0  both files were written
+  2  the command line is malformed
+  3  a file can't be read or written, or isn't a limit file or a journal
+  4  the files don't belong to one run
 
 To try it: ./gate run examples/first/limits.csv out/first examples/first/session.fix
 A log with `|` for SOH or with time prefixes: tools/session_from_log.py makes a session file of it,
@@ -37,8 +44,7 @@ GATE_PROGRAM=PATH runs the program at PATH and builds nothing.
 documents, in {top}
   README.md          what it is, and where to begin
   docs/FORMATS.md    limit files, messages, the journal, statuses
-  docs/CLAIMS.md     what is proved
-"""
+  docs/CLAIMS.md     what is proved"""
 
 
 def version(top):

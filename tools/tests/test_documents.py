@@ -1,8 +1,11 @@
-"""The documents: links lead somewhere, the files and edits that they name are there."""
+"""The documents: links lead somewhere, the files, edits and calls that they name are there, and the
+tables of docs/FORMATS.md are those of the sources."""
 import os
 import re
 import unittest
 
+from launcher.building import MINUTES
+from launcher.usage import HELP, KIT
 from tests.places import TOP
 
 LINK = re.compile(r"\]\(([^)\s]+)\)")
@@ -61,6 +64,27 @@ class Documents(unittest.TestCase):
                 with self.subTest(word):
                     self.assertTrue(word in edits or word in crates)
 
+    def test_each_edit_stands_in_its_crates_table(self):
+        for crate in sorted(os.listdir(os.path.join(TOP, "crates"))):
+            edits = os.path.join(TOP, "crates", crate, "must-fail")
+            named = claims(text(os.path.join("crates", crate, "README.md")))
+            for edit in os.listdir(edits) if os.path.isdir(edits) else ():
+                with self.subTest(crate, edit=edit):
+                    self.assertIn(f"`{edit.removesuffix('.edit')}`", named)
+
+    def test_each_law_is_a_call_of_its_crate(self):
+        laws = text("docs/CLAIMS.md").split("## The laws that carry it")[1].split("\n## ")[0]
+        crates = os.listdir(os.path.join(TOP, "crates"))
+        for row in re.findall(r"^\|.*\|(.*)\|$", laws, re.M)[2:]:
+            named = re.findall(r"`(?:\w+::)?(\w+)`", row)
+            calls = "".join(sources(crate) for crate in named if crate in crates)
+            edits = [name for crate in named if crate in crates for name in edits_of(crate)]
+            for word in named:
+                with self.subTest(word):
+                    self.assertTrue(
+                        word in crates or word in edits or re.search(rf"\b{word}\b", calls)
+                    )
+
     def test_the_files_that_the_architecture_names_are_there(self):
         table = text("docs/ARCHITECTURE.md").split("| To change | Files, in order |")[1]
         crate = None
@@ -70,6 +94,115 @@ class Documents(unittest.TestCase):
             elif re.fullmatch(r"(?:src|specs)/\w+\.(?:rt|antt)", word):
                 with self.subTest(crate, file=word):
                     self.assertTrue(os.path.exists(os.path.join(TOP, "crates", crate, word)))
+
+    def test_the_scripts_that_documents_name_are_there(self):
+        for document in documents():
+            for path in re.findall(r"\b(?:tools|bench|report)/[\w/]+\.py\b", text(document)):
+                with self.subTest(document, path=path):
+                    self.assertTrue(os.path.exists(os.path.join(TOP, path)))
+
+    def test_each_row_of_a_table_has_as_many_cells_as_its_head(self):
+        for document in documents():
+            width = None
+            for line in re.sub(r"^```.*?^```", "", text(document), flags=re.M | re.S).splitlines():
+                cells = len(re.findall(r"(?<!\\)\|", line)) if line.startswith("|") else None
+                with self.subTest(document, row=line):
+                    self.assertIn(width, (None, cells or width))
+                width = cells
+
+    def test_the_kit_and_the_minutes_are_those_of_the_launcher(self):
+        self.assertIn(f"`{KIT}`", text("README.md"))
+        self.assertIn(f"about {MINUTES} minutes", text("README.md"))
+
+
+class Formats(unittest.TestCase):
+    """The tables of docs/FORMATS.md beside the sources that they tell of."""
+
+    def test_the_refusals_have_the_codes_reasons_and_texts_of_the_program(self):
+        code, of_order = matched("code_of", r"\d+"), matched("order_reason_of", r"\d+")
+        of_request, texts = matched("request_reason_of", r"\d+"), matched("text_of", r'b"(.*?)"')
+        seen = set()
+        for row in table("| Refusal | D | F | G |")[1:]:
+            found = variant(row[0])
+            if not found:
+                continue
+            seen.add(found)
+            with self.subTest(row[0], told=row[4]):
+                self.assertEqual(row[5], code[found])
+                self.assertEqual(row[6].split(",")[0], of_order[found] if row[1] else "")
+                self.assertEqual(
+                    row[7].split(",")[0], of_request[found] if row[2] or row[3] else ""
+                )
+                if found != "Screen":
+                    self.assertEqual(row[8], texts[found])
+        self.assertEqual(seen, set(code))
+
+    def test_the_fields_are_those_of_the_table_that_is_proved(self):
+        need = {
+            "Unread": "", "Required": "required", "Optional": "optional",
+            "WithLimit": "with 40=2", "WithTrade": "with 150=F",
+        }
+        read_as = {
+            "Sequence": "sequence number", "Identifier": "id", "AnyText": "the kind",
+            "SideCode": "1, 2, 5 or 6", "Quantity": "quantity", "OrdType": "1 or 2",
+            "Price": "price",
+        }
+        rows = re.findall(r"^ +(?:∷ )?row (\d+) ((?:\w+ ?){6})$", text(
+            "crates/fix_orders/specs/Table.antt"
+        ), re.M)
+        proved = []
+        for tag, words in rows:
+            read, *needs = words.split()
+            proved.append([tag, *("once" if tag == "35" else need[one] for one in needs), read_as[read]])
+        told = [[row[0], *row[2:]] for row in table("| Tag | Name | D | F | G | 8 | 9 |")]
+        self.assertEqual(told, proved)
+
+    def test_the_statuses_are_those_of_the_help(self):
+        of_run = HELP.split("status of a run\n")[1].split("status of a report\n")[0]
+        helped = re.findall(r"^  (\d) ", of_run, re.M)
+        self.assertEqual([row[0] for row in table("| Status | Standard output |")],
+                         [status for status in helped if status != "1"])
+
+
+def edits_of(crate):
+    """The names of a crate's edits."""
+    folder = os.path.join(TOP, "crates", crate, "must-fail")
+    return [one.removesuffix(".edit") for one in os.listdir(folder)] if os.path.isdir(folder) else []
+
+
+def sources(crate):
+    """All of a crate's code and definitions."""
+    found = ""
+    for part in ("src", "specs"):
+        for folder, _, names in os.walk(os.path.join(TOP, "crates", crate, part)):
+            found += "".join(text(os.path.join(folder, name)) for name in names)
+    return found
+
+
+def matched(function, value):
+    """What a function of session_engine answers for each refusal, by its arms."""
+    body = re.search(
+        rf"^pub\(crate\) fn {function}\(.*?^\}}", sources("session_engine"), re.M | re.S
+    ).group()
+    found = {}
+    for refusals, answer in re.findall(r"((?:\|?\s*Refusal::\w+(?:\(\w+\))?\s*)+)=> ([^,]+),", body):
+        told = re.search(value, answer)
+        for one in re.findall(r"Refusal::(\w+)", refusals):
+            found[one] = told.group(told.lastindex or 0) if told else None
+    return found
+
+
+def variant(name):
+    """The refusal that a row of the table tells of, or None for a field fault."""
+    words = {"account unknown": "UnknownAccount", "symbol unknown": "UnknownSymbol",
+             "by a screen": "Screen", "field fault": None}
+    return words.get(name, name)
+
+
+def table(head):
+    """The rows of the table of docs/FORMATS.md whose head begins so, each a list of cells."""
+    rows = text("docs/FORMATS.md").split(head)[1].split("\n\n")[0].split("\n")[2:]
+    return [[cell.strip() for cell in row[1:-1].split("|")] for row in rows]
 
 
 def claims(readme):

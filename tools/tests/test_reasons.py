@@ -362,6 +362,16 @@ class EarlierRuns(InFolder):
         _, _, error = self.gate(*RUN, status=3)
         self.says(error, "not written by this one: out/journal.csv", "fault 6")
 
+    def test_a_folder_that_nothing_was_written_to_is_not_left(self):
+        self.gate("run", "limits.csv", "deep/out", "a.fix", status=3)
+        self.assertFalse(os.path.exists(self.path("deep")))
+        os.makedirs(self.path("there"))
+        self.gate("run", "limits.csv", "there/out", "a.fix", status=5)
+        self.assertEqual(os.listdir(self.path("there")), [])
+        os.makedirs(self.path("there/out"))
+        self.gate("run", "limits.csv", "there/out", "a.fix", status=5)
+        self.assertEqual(os.listdir(self.path("there")), ["out"])
+
     def test_out_is_made(self):
         self.gate("run", "limits.csv", "deep/out", "a.fix", files={"journal.csv": "kind\n"})
         self.assertEqual(self.read("deep/out/journal.csv"), b"kind\n")
