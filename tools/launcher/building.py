@@ -17,8 +17,9 @@ READ = ("src", "specs", "proofs")
 
 BEGINS = """\
 proving and building the program. From nothing that takes about {minutes} minutes on
-four processors; later only what was changed is proved again. Each crate is named as it is begun."""
-MINUTES = 30
+four processors at 2.7 GHz; later only what was changed is proved again. Each crate is named as it
+is begun."""
+MINUTES = 15
 
 NO_KIT = f"""\
 the program isn't built, and `rt` isn't on the PATH. It is the command of the Rattle kit, {KIT}:
@@ -37,7 +38,7 @@ def program_of(top):
     """The path of the built program, built anew where that is due. None where it can't be had,
     which was told."""
     named = os.environ.get("GATE_PROGRAM")
-    if named is not None:
+    if named:
         return named if is_program(named) else missing(named)
     crate = os.path.join(top, "crates", PROGRAM)
     program = os.path.join(crate, "out", PROGRAM)
@@ -49,7 +50,7 @@ def is_program(path):
 
 
 def missing(named):
-    say(f"GATE_PROGRAM is {named}, where no program is")
+    say(f"GATE_PROGRAM is {named}, where no program is that can be run")
     return None
 
 
@@ -60,7 +61,7 @@ def is_built(top, program):
 
 def is_due(top):
     """Whether a run would have to build first."""
-    if os.environ.get("GATE_PROGRAM") is not None:
+    if os.environ.get("GATE_PROGRAM"):
         return False
     return not is_built(top, os.path.join(top, "crates", PROGRAM, "out", PROGRAM))
 

@@ -18,7 +18,7 @@ DONE, NO_PROGRAM, MALFORMED, UNREAD = 0, 1, 2, 5
 def main(top, words):
     """Does what the words ask for; the status of the call."""
     try:
-        if words and words[0] in ("--help", "-h"):
+        if {"--help", "-h"}.intersection(words[:2]):
             return put(HELP.format(top=top), DONE)
         if words and words[0] == "--version":
             return put(version(top), DONE)

@@ -38,4 +38,10 @@ def counted(number):
 
 def name(path):
     """A path for one line, also where it isn't UTF-8."""
-    return path.encode("utf-8", "backslashreplace").decode("utf-8")
+    return os.fsencode(path).decode("utf-8", "backslashreplace")
+
+
+def listed(words):
+    """Words as a list in a sentence: a, b and c."""
+    *front, last = words
+    return f"{', '.join(front)} and {last}" if front else last

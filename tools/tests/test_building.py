@@ -155,7 +155,11 @@ class Building(InFolder):
         self.assertEqual(self.run_gate(env={"GATE_PROGRAM": self.program}), (0, "ran\n", ""))
         status, _, error = self.run_gate(env={"GATE_PROGRAM": self.path("none")})
         self.assertEqual((status, self.built()), (1, 0))
-        self.says(error, "where no program is")
+        self.says(error, "where no program is that can be run")
+
+    def test_an_empty_name_of_a_program_is_none(self):
+        self.assertEqual(self.run_gate(env={"GATE_PROGRAM": ""})[0], 0)
+        self.assertEqual(self.built(), 1)
 
     def test_a_report_is_made_by_the_script_beside_and_needs_no_program(self):
         self.write(

@@ -111,8 +111,8 @@ class Documents(unittest.TestCase):
                 width = cells
 
     def test_the_kit_and_the_minutes_are_those_of_the_launcher(self):
-        self.assertIn(f"`{KIT}`", text("README.md"))
-        self.assertIn(f"about {MINUTES} minutes", text("README.md"))
+        self.assertTrue(f"`{KIT}`" in text("README.md"))
+        self.assertTrue(f"about {MINUTES} minutes on four processors" in text("README.md"))
 
 
 class Formats(unittest.TestCase):

@@ -32,6 +32,7 @@ FAULTS = [
         4,
         ["the column low is `2`", "in a row `quota` it stays empty"],
     ),
+    ("semicolons", "firm;;1;;;\n", 1, 1, 1, ["1 column", "Between columns is a comma, and not `;`"]),
     ("a name of the firm", "firm,ACME,1,,,\n", 1, 1, 1, ["the column name is `ACME`"]),
     (
         "another kind",
@@ -196,7 +197,15 @@ ENDS = [
         ORDER + b"\r\n" + ORDER[:-10],
         "cut",
         138,
-        ["the file ends within a message", "10 bytes of the message"],
+        ["the file ends within a message", "10 bytes are missing of the message"],
+    ),
+    ("the last SOH is missing", ORDER[:-1], "cut", 0, ["SOH (byte 1) is missing behind CheckSum"]),
+    (
+        "no SOH behind a CheckSum",
+        ORDER[:-1] + b"\n" + ORDER[:-1] + b"\n",
+        "broken",
+        0,
+        ["SOH (byte 1) is missing behind CheckSum (10)", "session_from_log.py"],
     ),
     ("a head alone", ORDER + b"8=FIX", "cut", 136, ["the file ends in the head of a message"]),
     ("packed", b"\x1f\x8b\x08\x00", "broken", 0, ["the file is gzip"]),
@@ -257,6 +266,12 @@ class SessionEnds(InFolder):
         _, _, error = self.gate(*RUN, status=4)
         self.says(error, "byte 33,554,432", "only the first 33,554,432 bytes of a file are read")
 
+    def test_a_message_that_goes_on_past_the_most(self):
+        self.write("a.fix", b"\n" * 33_554_400 + ORDER)
+        _, _, error = self.gate(*RUN, status=4)
+        self.says(error, "byte 33,554,400", "only the first 33,554,432 bytes of a file are read")
+        self.assertNotIn("CheckSum", error)
+
     def test_each_session_that_ended_early_is_named(self):
         self.write("b.fix", ORDER[:-1])
         self.write("c.fix", soh("8=FIX.4.4|9=x|"))
@@ -301,6 +316,25 @@ class OtherStatuses(InFolder):
         os.makedirs(self.path("out/s00.client"))
         self.says(self.told(6), "out/s00.client can't be written: it is a folder")
 
+    def test_many_outputs_that_can_not_be_written(self):
+        sessions = [f"{number}.fix" for number in range(5)]
+        for name in sessions:
+            self.write(name, ORDER)
+        error = self.told(6, "run", "limits.csv", "a.fix/out", *sessions)
+        self.assertEqual(error.count("can't be written"), 3)
+        self.says(error, "nor can 8 more outputs")
+
+    def test_outputs_that_are_no_plain_files(self):
+        os.makedirs(self.path("out"))
+        os.symlink("/dev/full", self.path("out/journal.csv"))
+        error = self.told(6)
+        self.says(error, "out/journal.csv, or an output of a session, couldn't be written")
+        self.assertNotIn("warning", error)
+
+    def test_a_journal_that_is_not_whole(self):
+        error = self.told(6, files={"journal.csv": "kind,session,a,b,c,d\npost,0,0,1,1000,\n"})
+        self.says(error, "out/journal.csv couldn't be written whole")
+
     def test_an_out_that_is_a_file(self):
         self.says(
             self.told(6, "run", "limits.csv", "a.fix/out", "a.fix"),
@@ -322,7 +356,7 @@ class OtherStatuses(InFolder):
         error = self.told(
             6, files={"journal.csv": "kind,session,a,b,c,d\nended,0,x,,,\nended,7,1,0,,\nended,0"}
         )
-        self.says(error, "standard output couldn't be written")
+        self.says(error, "out/journal.csv couldn't be written whole")
         self.says(self.told(9, "run", "gone.csv", "out", "a.fix"), "the cause can't be found any more")
 
     def test_a_program_that_was_killed(self):

@@ -16,7 +16,7 @@ MALFORMED = [
     (
         "run alone",
         ["run"],
-        "`run` lacks a limit file and a folder for the outputs and a session file",
+        "`run` lacks a limit file, a folder for the outputs and a session file",
     ),
     (
         "33 sessions",
@@ -36,7 +36,7 @@ MALFORMED = [
         "would overwrite",
     ),
     ("limits that are the journal", ["run", "out/journal.csv", "out", "a.fix"], "would overwrite"),
-    ("no UTF-8", ["run", "limits.csv", "out", b"a\xff.fix"], "word 4 isn't UTF-8"),
+    ("no UTF-8", ["run", "limits.csv", "out", b"a\xff.fix"], "word 4 isn't UTF-8: a\\xff.fix"),
 ]
 
 
@@ -66,8 +66,8 @@ class Words(InFolder):
         self.assertEqual(found, {USAGE.rstrip()})
 
     def test_help_has_a_line_for_each_status(self):
-        for word in ("--help", "-h"):
-            status, out, error = self.gate(word, env={"GATE_PROGRAM": None, "PATH": self.bare()})
+        for words in (["--help"], ["-h"], ["run", "--help"], ["report", "-h"]):
+            status, out, error = self.gate(*words, env={"GATE_PROGRAM": None, "PATH": self.bare()})
             self.assertEqual((status, error), (0, ""))
             of_run, of_report = out.split("status of a run\n")[1].split("status of a report\n")
             self.assertEqual(re.findall(r"^  ([0-9]+) ", of_run, re.M), [*"012345689", "128"])
