@@ -4,6 +4,7 @@ what it writes.
 With one session each byte of a run is determined; with several it isn't, and then only the files
 that are read are compared here. The program is that of GATE_PROGRAM, or the one in
 crates/gate_program/out."""
+import csv
 import os
 import re
 import subprocess
@@ -148,19 +149,36 @@ class Runs(InFolder):
                     if block.startswith("8=FIX"):
                         self.assertLessEqual(set(block.splitlines()), there)
 
+    def test_the_reports_tell_what_the_totals_count(self):
+        for name in ONE_SESSION:
+            with self.subTest(name):
+                sent, refused = re.findall(r"sent (\d+) refused (\d+)", self.run_example(name))[0]
+                self.assertEqual(self.report_of(name, "session"), (int(sent), int(refused)))
+
+    def report_of(self, name, *sessions):
+        """How many requests the report of the run in `out` tells as sent and as refused. The report
+        is taken away again."""
+        words = [os.path.join(EXAMPLES, name, "limits.csv"), "out"]
+        words += [os.path.join(EXAMPLES, name, f"{one}.fix") for one in sessions]
+        status, _, error = self.gate("report", *words)
+        self.assertEqual((status, error), (0, ""))
+        self.says(self.read("out/report.html").decode(), "</html>")
+        rows = csv.DictReader(self.read("out/requests.csv").decode().splitlines())
+        outcomes = [row["outcome"] for row in rows]
+        for one in ("report.html", "requests.csv"):
+            os.remove(self.path(f"out/{one}"))
+        return outcomes.count("sent"), sum(one.startswith("refused: ") for one in outcomes)
+
     def test_the_firm_however_its_sessions_fall(self):
-        inputs = [
-            os.path.join(EXAMPLES, "firm", f"{name}.fix") for name in (
-                "alpha1", "beta1", "alpha2", "beta2"
-            )
-        ]
-        done = self.run_words(
-            "run", os.path.join(EXAMPLES, "firm", "limits.csv"), self.folder, *inputs
-        )
+        sessions = ("alpha1", "beta1", "alpha2", "beta2")
+        inputs = [os.path.join(EXAMPLES, "firm", f"{name}.fix") for name in sessions]
+        os.makedirs(self.path("out"))
+        done = self.run_words("run", os.path.join(EXAMPLES, "firm", "limits.csv"), "out", *inputs)
         self.assertEqual(done.returncode, 0)
         ended = re.findall(rb"session (\d) whole sent (\d) refused (\d) noted 0", done.stdout)
         self.assertEqual([int(sent) + int(refused) for _, sent, refused in ended], [1, 2, 3, 1])
-        roots, reads = history(self.read("journal.csv").decode(), tree=0)
+        self.assertEqual(sum(self.report_of("firm", *sessions)), 7)
+        roots, reads = history(self.read("out/journal.csv").decode(), tree=0)
         self.assertTrue(reads)
         self.assertEqual([roots[place] for place, _ in reads], [root for _, root in reads])
         self.assertLessEqual(roots[-1], 5000)
