@@ -3,7 +3,8 @@ what it writes.
 
 With one session each byte of a run is determined; with several it isn't, and then only the files
 that are read are compared here. The program is that of GATE_PROGRAM, or the one in
-crates/gate_program/out."""
+crates/gate_program/out. Where there is none, and TRY is set, the day is run by `rt try`, which
+compiles the program without a proof."""
 import csv
 import os
 import re
@@ -105,6 +106,24 @@ def history(journal, tree):
         roots.append(sum(last.values()))
     reads = [(int(row[4]), int(row[5])) for row in rows if row[0] == "read" and row[2] == str(tree)]
     return roots, reads
+
+
+@unittest.skipUnless(os.environ.get("TRY") and not built(), "TRY isn't set, or the program is built")
+class Tried(InFolder):
+    """The day, as `rt try` runs it."""
+
+    def test_the_day(self):
+        os.makedirs(self.path("out"))
+        day = os.path.join(EXAMPLES, "day")
+        words = [os.path.join(day, "limits.csv"), self.path("out"), os.path.join(day, "session.fix")]
+        done = subprocess.run(
+            ["rt", "try", "--", "run", *words], cwd=os.path.join(TOP, "crates/gate_program"),
+            capture_output=True, stdin=subprocess.DEVNULL,
+        )
+        self.assertEqual(done.returncode, 0, done.stderr.decode(errors="replace")[-2000:])
+        self.says(done.stdout.decode(), read("day", "expected", "stdout").decode())
+        for name in ("journal.csv", "s00.venue", "s00.client"):
+            self.assertEqual(self.read(f"out/{name}"), read("day", "expected", name), name)
 
 
 @unittest.skipUnless(built(), "the program isn't built")
