@@ -72,6 +72,23 @@ class Documents(unittest.TestCase):
                 with self.subTest(crate, edit=edit):
                     self.assertIn(f"`{edit.removesuffix('.edit')}`", named)
 
+    def test_each_name_in_a_table_of_claims_is_in_the_sources(self):
+        for crate, below in uses().items():
+            here = "".join(map(sources, [crate, *below]))
+            for row in re.findall(
+                r"^\|(.*\|.*)\|.*\|$", claims(text(f"crates/{crate}/README.md")), re.M
+            ):
+                for name in names_in(row):
+                    with self.subTest(crate, name=name):
+                        self.assertTrue(re.search(rf"\b{name}\b", here))
+
+    def test_each_name_in_the_clause_of_gate_is_in_the_sources(self):
+        here = "".join(map(sources, ["gate_program", *uses()["gate_program"]]))
+        for row in re.findall(r"^\| \d+ \|.*\|(.*)\|.*\|$", text("docs/CLAIMS.md"), re.M):
+            for name in names_in(row):
+                with self.subTest(name):
+                    self.assertTrue(re.search(rf"\b{name}\b", here))
+
     def test_each_law_is_a_call_of_its_crate(self):
         laws = text("docs/CLAIMS.md").split("## The laws that carry it")[1].split("\n## ")[0]
         crates = os.listdir(os.path.join(TOP, "crates"))
@@ -162,6 +179,19 @@ class Formats(unittest.TestCase):
         helped = re.findall(r"^  (\d) ", of_run, re.M)
         self.assertEqual([row[0] for row in table("| Status | Standard output |")],
                          [status for status in helped if status != "1"])
+
+
+def uses():
+    """Each crate with those of this repository that it uses."""
+    lines = re.findall(r"^(\w+):(.*)$", text("crates.txt"), re.M)
+    crates = {crate for crate, _ in lines}
+    return {crate: [one for one in below.split() if one in crates] for crate, below in lines}
+
+
+def names_in(row):
+    """The names in code type in a row of a table, without paths of files."""
+    words = [word for word in re.findall(r"`([^`]+)`", row) if "/" not in word]
+    return re.findall(r"[A-Za-z_]\w*", " ".join(words))
 
 
 def edits_of(crate):
