@@ -50,7 +50,7 @@ def is_program(path):
 
 
 def missing(named):
-    say(f"GATE_PROGRAM is {named}, where no program is that can be run")
+    say(f"GATE_PROGRAM is {named}, and there is no program there that can be run")
     return None
 
 

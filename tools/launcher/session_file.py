@@ -78,13 +78,13 @@ def told(path, end):
     line = 1 + before.count(b"\n")
     lines = [f"{path}, byte {counted(end.place)}, line {counted(line)}: {WHAT[end.kind]}"]
     if rest:
-        lines.append(f"there stands {shown(rest)}")
+        lines.append(f"from there the file has {shown(rest)}")
     return [*lines, cause(end, rest)]
 
 
 WHAT = {
     "cut": "the file ends within a message",
-    "broken": "no message of FIX 4.4 stands here",
+    "broken": "no message of FIX 4.4 begins here",
     "long": "the message, or the file, is too long",
 }
 
@@ -125,7 +125,7 @@ def separator(rest):
     found = re.match(rb"8=FIXT?\.[0-9.]*[0-9]([^\x01]{1,6}?)9=", rest)
     if not found:
         return None
-    return f"{shown(found.group(1))} stands where SOH (byte 1) has to: {RECIPE}"
+    return f"{shown(found.group(1))} is where SOH (byte 1) has to be: {RECIPE}"
 
 
 def other_version(rest):
@@ -141,7 +141,7 @@ def prefix(rest):
     if not found or found.start() == 0:
         return None
     before = shown(line[: found.start()])
-    return f"{before} stands before the message, as in a log with times: {RECIPE}"
+    return f"{before} comes before the message, as in a log with times: {RECIPE}"
 
 
 def no_length(rest):
@@ -210,7 +210,7 @@ def wrong_tail(rest):
     if tail.startswith(b"10="):
         return f"CheckSum (10) is {shown(tail[3:].split(bytes([1]))[0])}: it has to be three digits"
     return (
-        f"no CheckSum (10) stands {head[0]} bytes behind BodyLength (9), "
+        f"no CheckSum (10) comes {head[0]} bytes behind BodyLength (9), "
         "and none follows before the next message"
     )
 

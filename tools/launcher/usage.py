@@ -15,7 +15,7 @@ usage: gate run LIMITS OUT SESSION...
 Reads a limit file and 1 to 32 session files in FIX 4.4, sends each order on or refuses it, and
 writes OUT/s00.venue and OUT/s00.client for the first session, s01 for the second and so on, and
 OUT/journal.csv. OUT is made where it isn't there. The program is proved and built first, where that
-is due. `report`, with the words of a run that has ended, writes OUT/report.html and
+has to be. `report`, with the words of a run that has ended, writes OUT/report.html and
 OUT/requests.csv about it.
 
 status of a run
@@ -23,7 +23,7 @@ status of a run
   1  the program couldn't be built or started
   2  the command line is malformed, or names one file twice; nothing was read or written
   3  the limit file has a fault
-  4  a session file ends within a message, or something stands in it that is no message
+  4  a session file ends within a message, or something in it is no message
   5  a file couldn't be read
   6  a file, or standard output, couldn't be written
   8  out of memory

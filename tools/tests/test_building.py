@@ -155,7 +155,7 @@ class Building(InFolder):
         self.assertEqual(self.run_gate(env={"GATE_PROGRAM": self.program}), (0, "ran\n", ""))
         status, _, error = self.run_gate(env={"GATE_PROGRAM": self.path("none")})
         self.assertEqual((status, self.built()), (1, 0))
-        self.says(error, "where no program is that can be run")
+        self.says(error, "there is no program there that can be run")
 
     def test_an_empty_name_of_a_program_is_none(self):
         self.assertEqual(self.run_gate(env={"GATE_PROGRAM": ""})[0], 0)

@@ -126,9 +126,9 @@ ENDS = [
         ORDER + ORDER.replace(b"\x01", b"|"),
         "broken",
         136,
-        ["`|` stands where SOH (byte 1) has to", "session_from_log.py"],
+        ["`|` is where SOH (byte 1) has to be", "session_from_log.py"],
     ),
-    ("^A for SOH", ORDER.replace(b"\x01", b"^A"), "broken", 0, ["`^A` stands where SOH"]),
+    ("^A for SOH", ORDER.replace(b"\x01", b"^A"), "broken", 0, ["`^A` is where SOH"]),
     (
         "another version",
         frame(BODY, begin=b"8=FIX.4.2"),
@@ -141,7 +141,7 @@ ENDS = [
         ORDER + b"\n10:00:01 " + ORDER,
         "broken",
         137,
-        ["line 2", "`10:00:01 ` stands before the message", "session_from_log.py"],
+        ["line 2", "`10:00:01 ` comes before the message", "session_from_log.py"],
     ),
     (
         "a length too small",
@@ -210,7 +210,7 @@ ENDS = [
     ("a head alone", ORDER + b"8=FIX", "cut", 136, ["the file ends in the head of a message"]),
     ("packed", b"\x1f\x8b\x08\x00", "broken", 0, ["the file is gzip"]),
     ("a mark", b"\xef\xbb\xbf" + ORDER, "broken", 0, ["byte order mark"]),
-    ("words", b"hello\n", "broken", 0, ["there stands `hello", "a message has to begin here"]),
+    ("words", b"hello\n", "broken", 0, ["from there the file has `hello", "a message has to begin here"]),
 ]
 
 
