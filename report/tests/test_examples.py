@@ -84,7 +84,7 @@ class Examples(unittest.TestCase):
                 self.assertEqual(row, whole, f"{name}, {order_id}")
 
     def test_the_day(self):
-        """The day's table, with cancels, replaces and reports, as it was worked out by hand."""
+        """The day's table, with cancels, replaces and reports, which was checked by hand."""
         self.written("day")
         self.assertEqual((self.out / "requests.csv").read_bytes(),
                          (TOP / "examples" / "day" / "expected" / "requests.csv").read_bytes())
