@@ -210,10 +210,9 @@ def sources(crate):
 
 
 def matched(function, value):
-    """What a function of session_engine answers for each refusal, by its arms."""
-    body = re.search(
-        rf"^pub\(crate\) fn {function}\(.*?^\}}", sources("session_engine"), re.M | re.S
-    ).group()
+    """What a function answers for each refusal, by its arms, in the crate that has them."""
+    here = next(code for code in map(sources, sorted(uses())) if "fn order_reason_of(" in code)
+    body = re.search(rf"^[\w() ]*fn {function}\(.*?^\}}", here, re.M | re.S).group()
     found = {}
     for refusals, answer in re.findall(r"((?:\|?\s*Refusal::\w+(?:\(\w+\))?\s*)+)=> ([^,]+),", body):
         told = re.search(value, answer)
