@@ -60,15 +60,16 @@ def run_program(program, words, asked):
     before = marks(asked.out)
     try:
         status = status_of([program, *words])
+        if status != 0:
+            for line in reasons(asked, status, before):
+                say(line)
+        tell_left_over(asked, before, status)
+        return status if status >= 0 else 128 - status
     except OSError as error:
-        say(f"{program} can't be started: {error.strerror}")
+        say(f"{program} can't be started: {(error.strerror or str(error)).lower()}")
         return NO_PROGRAM
-    if status != 0:
-        for line in reasons(asked, status, before):
-            say(line)
-    tell_left_over(asked, before, status)
-    drop_empty(made)
-    return status if status >= 0 else 128 - status
+    finally:
+        drop_empty(made)
 
 
 def status_of(command):

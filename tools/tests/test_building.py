@@ -157,6 +157,13 @@ class Building(InFolder):
         self.assertEqual((status, self.built()), (1, 0))
         self.says(error, "there is no program there that can be run")
 
+    def test_a_program_that_can_not_be_started(self):
+        os.chmod(self.write("words", "no program\n"), 0o755)
+        status, out, error = self.run_gate(env={"GATE_PROGRAM": self.path("words")})
+        self.assertEqual((status, out), (1, ""))
+        self.says(error, "words can't be started: exec format error")
+        self.assertFalse(os.path.exists(self.path("out")))
+
     def test_an_empty_name_of_a_program_is_none(self):
         self.assertEqual(self.run_gate(env={"GATE_PROGRAM": ""})[0], 0)
         self.assertEqual(self.built(), 1)
