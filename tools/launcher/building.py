@@ -4,12 +4,11 @@ import os
 import re
 import shutil
 import subprocess
-import sys
 import tempfile
 import time
 
 from launcher.processes import hand_on
-from launcher.say import say
+from launcher.say import say, write
 from launcher.usage import KIT
 
 PROGRAM = "gate_program"
@@ -186,5 +185,5 @@ def tell_failure(path):
     lines = [line for line in read_text(path).splitlines() if not line.endswith(": proved")]
     say("the program could not be built. The last messages of `rt`:")
     for line in lines[-20:]:
-        print(f"  {line}", file=sys.stderr)
+        write(f"  {line}")
     say(f"all of them are in {path}")

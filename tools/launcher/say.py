@@ -7,7 +7,16 @@ UNWRITTEN = 6
 
 def say(text):
     """Writes one line, marked as the launcher's."""
-    print(f"gate: {text}", file=sys.stderr, flush=True)
+    write(f"gate: {text}")
+
+
+def write(text):
+    """Writes a line, where standard error is there to be written."""
+    try:
+        if sys.stderr is not None:
+            print(text, file=sys.stderr, flush=True)
+    except OSError:
+        pass  # There is no one to tell.
 
 
 def put(text, status):

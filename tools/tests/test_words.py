@@ -93,6 +93,15 @@ class Words(InFolder):
                     self.says(done.stderr.decode(), "standard output couldn't be written: ")
                     self.assertNotIn("Traceback", done.stderr.decode())
 
+    def test_standard_error_that_can_not_be_written(self):
+        for end in ("2>&-", "2>/dev/full"):
+            with self.subTest(end):
+                done = subprocess.run(
+                    ["sh", "-c", f'exec "$@" {end}', "sh", os.path.join(TOP, "gate"), "run"],
+                    capture_output=True,
+                )
+                self.assertEqual((done.returncode, done.stdout.decode()), (2, USAGE))
+
     def test_version_has_the_commit_and_the_kit(self):
         status, out, _ = self.gate("--version")
         self.assertEqual(status, 0)
