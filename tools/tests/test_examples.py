@@ -12,7 +12,7 @@ import subprocess
 import unittest
 
 from launcher.building import is_built, is_program
-from tests.places import TOP, InFolder
+from tests.places import TOP, InFolder, soh
 from tests.test_reasons import ENDS, FAULTS
 
 EXAMPLES = os.path.join(TOP, "examples")
@@ -46,7 +46,24 @@ def shown(data):
     ]
 
 
+def first_page():
+    """The limits, the order, its forward and the journal of the first page."""
+    page = read("..", "README.md").decode().split("## One order in, its forward out")[1]
+    return re.findall(r"^```\n(.*?)^```$", page, re.M | re.S)[:4]
+
+
 class Readmes(InFolder):
+    def test_the_first_page_has_the_stored_run(self):
+        limits, order, _, _ = first_page()
+        data = os.path.join(TOP, "crates/gate_program/data")
+        stored = [read(data, name) for name in sorted(os.listdir(data))]
+        self.assertIn(limits.encode(), stored)
+        self.assertIn(soh(order.strip()), stored)
+
+    def test_the_first_page_has_the_totals_of_the_first_example(self):
+        totals = next(block for block in blocks("first") if block.startswith("session 0"))
+        self.assertTrue(totals in read("..", "README.md").decode())
+
     def test_each_example_has_an_out_of_its_own(self):
         for name in sorted(os.listdir(EXAMPLES)):
             with self.subTest(name):
@@ -144,6 +161,16 @@ class Runs(InFolder):
         self.assertEqual(self.run_example("day"), read("day", "expected", "stdout").decode())
         for name in ("journal.csv", "s00.venue", "s00.client"):
             self.assertEqual(self.read(f"out/{name}"), read("day", "expected", name), name)
+
+    def test_the_order_of_the_first_page(self):
+        limits, order, forward, journal = first_page()
+        self.write("limits.csv", limits)
+        self.write("a.fix", soh(order.strip()))
+        self.assertEqual(
+            self.gate("run", "limits.csv", "out", "a.fix", env={"GATE_PROGRAM": built()})[0], 0
+        )
+        self.assertEqual(self.read("out/s00.venue"), soh(forward.strip()))
+        self.assertEqual(self.read("out/journal.csv").decode(), journal)
 
     def test_the_totals_and_journal_of_the_readmes(self):
         for name in ONE_SESSION:
