@@ -47,8 +47,8 @@ def main(words: list[str]) -> int:
     """The status: 0 written, 2 the words are no form, 3 a file can't be read or written or isn't
     what it should be, 4 the files don't belong together."""
     if not is_form(words):
-        print("gate report: the words of a run are needed, without `run`: a limit file, its OUT and its "
-              "sessions; `gate --help` tells more", USAGE, sep="\n", file=sys.stderr)
+        print("gate report: the words of a run are needed, without `run`: a limit file, its OUT "
+              "and its sessions; `gate --help` tells more", USAGE, sep="\n", file=sys.stderr)
         return NO_FORM
     limits, out, *sessions = map(Path, words)
     try:

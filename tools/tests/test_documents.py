@@ -1,12 +1,12 @@
-"""The documents: links lead somewhere, the files, edits and calls that they name are there, and the
-tables of docs/FORMATS.md are those of the sources."""
+"""The documents: links lead somewhere, and the files, edits and calls that they name are there."""
 import os
 import re
 import unittest
 
 from launcher.building import MINUTES
-from launcher.usage import HELP, KIT
+from launcher.usage import KIT
 from tests.places import TOP
+from tests.sources import edits_of, sources, text, uses
 
 LINK = re.compile(r"\]\(([^)\s]+)\)")
 
@@ -18,11 +18,6 @@ def documents():
         for name in names:
             if name.endswith(".md"):
                 yield os.path.relpath(os.path.join(folder, name), TOP)
-
-
-def text(path):
-    with open(os.path.join(TOP, path), encoding="utf-8") as file:
-        return file.read()
 
 
 def anchors(path):
@@ -132,106 +127,10 @@ class Documents(unittest.TestCase):
         self.assertTrue(f"about {MINUTES} minutes on four processors" in text("README.md"))
 
 
-class Formats(unittest.TestCase):
-    """The tables of docs/FORMATS.md beside the sources that they tell of."""
-
-    def test_the_refusals_have_the_codes_reasons_and_texts_of_the_program(self):
-        code, of_order = matched("code_of", r"\d+"), matched("order_reason_of", r"\d+")
-        of_request, texts = matched("request_reason_of", r"\d+"), matched("text_of", r'b"(.*?)"')
-        seen = set()
-        for row in table("| Refusal | D | F | G |")[1:]:
-            found = variant(row[0])
-            if not found:
-                continue
-            seen.add(found)
-            with self.subTest(row[0], told=row[4]):
-                self.assertEqual(row[5], code[found])
-                self.assertEqual(row[6].split(",")[0], of_order[found] if row[1] else "")
-                self.assertEqual(
-                    row[7].split(",")[0], of_request[found] if row[2] or row[3] else ""
-                )
-                if found != "Screen":
-                    self.assertEqual(row[8], texts[found])
-        self.assertEqual(seen, set(code))
-
-    def test_the_fields_are_those_of_the_table_that_is_proved(self):
-        need = {
-            "Unread": "", "Required": "required", "Optional": "optional",
-            "WithLimit": "with 40=2", "WithTrade": "with 150=F",
-        }
-        read_as = {
-            "Sequence": "sequence number", "Identifier": "id", "AnyText": "the kind",
-            "SideCode": "1, 2, 5 or 6", "Quantity": "quantity", "OrdType": "1 or 2",
-            "Price": "price",
-        }
-        rows = re.findall(r"^ +(?:∷ )?row (\d+) ((?:\w+ ?){6})$", text(
-            "crates/fix_orders/specs/Table.antt"
-        ), re.M)
-        proved = []
-        for tag, words in rows:
-            read, *needs = words.split()
-            proved.append([tag, *("once" if tag == "35" else need[one] for one in needs), read_as[read]])
-        told = [[row[0], *row[2:]] for row in table("| Tag | Name | D | F | G | 8 | 9 |")]
-        self.assertEqual(told, proved)
-
-    def test_the_statuses_are_those_of_the_help(self):
-        of_run = HELP.split("status of a run\n")[1].split("status of a report\n")[0]
-        helped = re.findall(r"^  (\d) ", of_run, re.M)
-        self.assertEqual([row[0] for row in table("| Status | Standard output |")],
-                         [status for status in helped if status != "1"])
-
-
-def uses():
-    """Each crate with those of this repository that it uses."""
-    lines = re.findall(r"^(\w+):(.*)$", text("crates.txt"), re.M)
-    crates = {crate for crate, _ in lines}
-    return {crate: [one for one in below.split() if one in crates] for crate, below in lines}
-
-
 def names_in(row):
     """The names in code type in a row of a table, without paths of files."""
     words = [word for word in re.findall(r"`([^`]+)`", row) if "/" not in word]
     return re.findall(r"[A-Za-z_]\w*", " ".join(words))
-
-
-def edits_of(crate):
-    """The names of a crate's edits."""
-    folder = os.path.join(TOP, "crates", crate, "must-fail")
-    return [one.removesuffix(".edit") for one in os.listdir(folder)] if os.path.isdir(folder) else []
-
-
-def sources(crate):
-    """All of a crate's code and definitions."""
-    found = ""
-    for part in ("src", "specs"):
-        for folder, _, names in os.walk(os.path.join(TOP, "crates", crate, part)):
-            found += "".join(text(os.path.join(folder, name)) for name in names)
-    return found
-
-
-def matched(function, value):
-    """What a function answers for each refusal, by its arms, in the crate that has them."""
-    here = next(code for code in map(sources, sorted(uses())) if "fn order_reason_of(" in code)
-    body = re.search(rf"^[\w() ]*fn {function}\(.*?^\}}", here, re.M | re.S).group()
-    found = {}
-    for refusals, answer in re.findall(r"((?:\|?\s*Refusal::\w+(?:\(\w+\))?\s*)+)=> ([^,]+),", body):
-        told = re.search(value, answer)
-        for one in re.findall(r"Refusal::(\w+)", refusals):
-            found[one] = told.group(told.lastindex or 0) if told else None
-    return found
-
-
-def variant(name):
-    """The refusal that a row of the table tells of, or None for a field fault."""
-    words = {"account unknown": "UnknownAccount", "symbol unknown": "UnknownSymbol",
-             "by a screen": "Screen", "field fault": None}
-    return words.get(name, name)
-
-
-def table(head):
-    """The rows of the table of docs/FORMATS.md whose head begins so, each a list of cells."""
-    rows = text("docs/FORMATS.md").split(head)[1].split("\n\n")[0].split("\n")[2:]
-    return [[cell.strip() for cell in row[1:-1].split("|")] for row in rows]
 
 
 def claims(readme):

@@ -125,14 +125,15 @@ def history(journal, tree):
     return roots, reads
 
 
-@unittest.skipUnless(os.environ.get("TRY") and not built(), "TRY isn't set, or the program is built")
+@unittest.skipUnless(os.environ.get("TRY") and not built(), "TRY isn't set, or Runs has it")
 class Tried(InFolder):
     """The day, as `rt try` runs it."""
 
     def test_the_day(self):
         os.makedirs(self.path("out"))
         day = os.path.join(EXAMPLES, "day")
-        words = [os.path.join(day, "limits.csv"), self.path("out"), os.path.join(day, "session.fix")]
+        limits, session = (os.path.join(day, name) for name in ("limits.csv", "session.fix"))
+        words = [limits, self.path("out"), session]
         done = subprocess.run(
             ["rt", "try", "--", "run", *words], cwd=os.path.join(TOP, "crates/gate_program"),
             capture_output=True, stdin=subprocess.DEVNULL,

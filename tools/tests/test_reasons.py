@@ -32,7 +32,7 @@ FAULTS = [
         4,
         ["the column low is `2`", "in a row `quota` it stays empty"],
     ),
-    ("semicolons", "firm;;1;;;\n", 1, 1, 1, ["1 column", "Between columns is a comma, and not `;`"]),
+    ("semicolons", "firm;;1;;;\n", 1, 1, 1, ["Between columns is a comma, and not `;`"]),
     ("a name of the firm", "firm,ACME,1,,,\n", 1, 1, 1, ["the column name is `ACME`"]),
     (
         "another kind",
@@ -210,7 +210,13 @@ ENDS = [
     ("a head alone", ORDER + b"8=FIX", "cut", 136, ["the file ends in the head of a message"]),
     ("packed", b"\x1f\x8b\x08\x00", "broken", 0, ["the file is gzip"]),
     ("a mark", b"\xef\xbb\xbf" + ORDER, "broken", 0, ["byte order mark"]),
-    ("words", b"hello\n", "broken", 0, ["from there the file has `hello", "a message has to begin here"]),
+    (
+        "words",
+        b"hello\n",
+        "broken",
+        0,
+        ["from there the file has `hello", "a message has to begin here"],
+    ),
 ]
 
 
@@ -357,7 +363,8 @@ class OtherStatuses(InFolder):
             6, files={"journal.csv": "kind,session,a,b,c,d\nended,0,x,,,\nended,7,1,0,,\nended,0"}
         )
         self.says(error, "out/journal.csv couldn't be written whole")
-        self.says(self.told(9, "run", "gone.csv", "out", "a.fix"), "the cause can't be found any more")
+        error = self.told(9, "run", "gone.csv", "out", "a.fix")
+        self.says(error, "the cause can't be found any more")
 
     def test_a_program_that_was_killed(self):
         status, _, error = self.gate(*RUN, signal=int(signal.SIGKILL))
