@@ -122,6 +122,19 @@ class Documents(unittest.TestCase):
                     self.assertIn(width, (None, cells or width))
                 width = cells
 
+    def test_the_screen_of_the_page_is_the_one_that_is_proved(self):
+        page = text("docs/SCREENS.md")
+        for path, begin in (
+            ("specs/FirstOrders.antt", "-- 100 exactly where"),
+            ("src/first_orders.rt", "impl Screen for FirstOrders {"),
+        ):
+            proved = text(f"crates/screen_kit/{path}")
+            with self.subTest(path):
+                self.assertTrue(proved[proved.index(begin) :] in page)
+        for line in re.findall(r"^ +set\.push\(.*$", page, re.M)[:-1]:
+            with self.subTest(line):
+                self.assertTrue(line in text("crates/gate_program/src/sets.rt"))
+
     def test_the_kit_and_the_minutes_are_those_of_the_launcher(self):
         self.assertTrue(f"`{KIT}`" in text("README.md"))
         self.assertTrue(f"about {MINUTES} minutes on four processors" in text("README.md"))
