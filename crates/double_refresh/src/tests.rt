@@ -8,7 +8,7 @@ ghost use Rattle.node_rule.specs.Standing.{IsIdle, IsFresh, HasTry};
 ghost use Rattle.double_refresh.specs.Refreshing.{Wins, Loses, Rises};
 
 use crate::refresh;
-use crate::rise::attempt;
+use crate::rise::{attempt, load_children};
 use fold_law::Sum;
 use node_rule::{Climb, KeeperSeat, Words};
 use risk_board::{Call, Seen};
@@ -80,8 +80,7 @@ fn attempt_beside<L: Ledger>(
     ensures won { OnTrue result (Wins late.old late.new) }
     ensures lost { OnFalse result (Loses late.old late.new) }
 {
-    words.load_left(late, steps);
-    words.load_right(late, steps);
+    load_children(words, late, steps);
     refresh(words, early, steps);
     words.exchange(late, steps)
 }

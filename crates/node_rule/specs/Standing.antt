@@ -165,13 +165,9 @@ GivesOne old new = new ≡ record old { given = old.given + 1; steps = new.steps
 -- the climb of the session that got it, which has done nothing and made no step
 abbrev pub IsDealt : Keeping → Standing → Type 0
 IsDealt keeper new =
-    new ≡ record {
-      table = keeper.table;
-      plan = keeper.plan;
-      view = Session keeper.plan.levels (new_track keeper.given) None;
-      spare = 0;
-      steps = 0;
-    }
+    (new.table ≡ keeper.table) × (new.plan ≡ keeper.plan)
+    × (new.view ≡ Session new.plan.levels (new_track keeper.given) None) × (new.spare ≡ 0)
+    × (new.steps ≡ 0)
 
 -- the keeper has what a session between two posts did; its steps are said apart
 abbrev pub TakesBack : Keeping → Standing → Keeping → Type 0
