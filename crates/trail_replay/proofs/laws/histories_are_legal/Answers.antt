@@ -1,5 +1,5 @@
 use Rattle.trail_replay.proofs.LegalHistories.{legal_history}
-use Rattle.trail_replay.proofs.law.histories_are_legal.Goals as goal
+use Rattle.trail_replay.proofs.laws.histories_are_legal.Goals as goal
 
 pub returns : goal.returns
 returns g c taken tree lawful tree_in =

@@ -1,5 +1,5 @@
 use Rattle.trail_replay.proofs.ClosedRecords.{closed_is_lawful}
-use Rattle.trail_replay.proofs.law.closed_records_are_lawful.Goals as goal
+use Rattle.trail_replay.proofs.laws.closed_records_are_lawful.Goals as goal
 
 pub returns : goal.returns
 returns g c forest passes taken are shape did kept =
