@@ -20,3 +20,5 @@ pub mod PreparedTables
 pub mod Leaves
 pub mod Totals
 pub mod ReplayedTrees
+pub mod GrownBlocks
+pub mod Descending

@@ -13,6 +13,7 @@
 
 mod array;
 mod blocks;
+mod descent;
 mod histories;
 mod history;
 mod law;
@@ -23,7 +24,7 @@ mod reads;
 mod tree_posts;
 mod walk;
 
-pub use histories::{Histories, add_histories};
+pub use histories::{Histories, add_histories, numbers};
 pub use history::{History, at, place};
 pub use law::{closed_records_are_lawful, histories_are_legal};
 pub use laws::{components_are_leaves, histories_are_legal_by_places, histories_have_totals};
