@@ -12,7 +12,7 @@ use Rattle.trail_replay.specs.Reads.{list_below}
 use Rattle.trail_replay.specs.Replayed.{HasReplayed, IsReplayed, lines_in, places_in}
 
 -- what f gives of each number below this one, by the list of the numbers
-below_by_map : {A : Type 0} (f : ℕ → A) (n : ℕ)
+pub below_by_map : {A : Type 0} (f : ℕ → A) (n : ℕ)
     → list_below f n ≡ map f (list_below (λ tree. tree) n)
 below_by_map f zero = refl
 below_by_map f (suc n) =
@@ -65,7 +65,7 @@ all_pushed P [] x all here = (here, tt)
 all_pushed P (first ∷ xs) x all here = (all.0, all_pushed P xs x all.1 here)
 
 -- what holds of each number below this one
-all_below : (P : ℕ → Type 0) (n : ℕ) → ((k : ℕ) → k < n → P k)
+pub all_below : (P : ℕ → Type 0) (n : ℕ) → ((k : ℕ) → k < n → P k)
     → AllByRecursion P (list_below (λ tree. tree) n)
 all_below P zero each = tt
 all_below P (suc n) each =
