@@ -16,3 +16,5 @@ pub mod Spelled
 pub mod InRange
 mod Rows
 pub mod SymbolPrices
+pub mod TreeLimits
+pub mod Quotas

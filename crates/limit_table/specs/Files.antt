@@ -48,6 +48,11 @@ pub record HoldsEntries (bytes : List ℕ) (entries : List Entry) : Type 0 where
   pub sound : AreSound rows
   pub set : entries ≡ entries_of rows
 
+-- a limit file sets these
+abbrev pub AreOfFile : List Entry → Type 0
+AreOfFile entries =
+    (bytes : List ℕ) × (length bytes ≤ bytes_most) × HoldsEntries bytes entries
+
 -- the text is a limit file with these limits
 pub record IsLimitFile (bytes : List ℕ) (limits : Limits) : Type 0 where
   pub few : length bytes ≤ bytes_most

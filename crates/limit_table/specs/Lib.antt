@@ -8,3 +8,5 @@ pub mod Files
 pub mod Printing
 pub mod Ranges
 pub mod FileLimits
+pub mod Value
+pub mod Trees

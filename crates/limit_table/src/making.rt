@@ -4,6 +4,7 @@ ghost use Rattle.std.specs.Prelude.{Some, None};
 ghost use Rattle.limit_table.specs.Kinds.{kind_of, same_kind};
 ghost use Rattle.limit_table.specs.Tables.{first_of, account_in, symbol_in, off_in, firm_of, trip_of};
 ghost use Rattle.limit_table.specs.Tables.{quota_of, repeat_of, limits_of, IsFew};
+ghost use Rattle.limit_table.specs.Files.{AreOfFile};
 ghost use Rattle.limit_table.specs.declared.fault.LimitFault.TheVariants as fault;
 
 use crate::fault::LimitFault;
@@ -133,7 +134,7 @@ fn make_symbols(alloc: Global, entries: &[Entry]) -> Result<Symbols, LimitFault>
 
 /// The limits that the rows set.
 pub(crate) fn make_limits(alloc: Global, entries: &[Entry]) -> Result<Limits, LimitFault>
-    requires { IsFew entries.now }
+    requires { AreOfFile entries.now }
     ensures made { IfOk result (λ limits. limits_of entries.now ≡ Some limits) }
     ensures refused { IfErr result (λ why.
         why ≢ fault.Memory → (why ≡ fault.NoFirm) × (firm_of entries.now ≡ None)) }

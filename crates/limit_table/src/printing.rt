@@ -1,7 +1,7 @@
 //! Limit files, written.
 ghost use Rattle.std.specs.Prelude.{◌≡◌, map, OnOk, IfOk};
 ghost use Rattle.csv.specs.Writing.{row_text, default_writer};
-ghost use Rattle.limit_table.specs.Files.{IsLimitFile, IsHeldByFile};
+ghost use Rattle.limit_table.specs.Files.{IsLimitFile};
 ghost use Rattle.limit_table.specs.Printing.{AppendsText, count_row, named_row, text_of, file_text};
 ghost use Rattle.limit_table.specs.declared.kind.Entry.TheVariants as entry;
 
@@ -88,10 +88,10 @@ fn write_entry(text: &mut Writer<Vec<u8>>, set: &Entry) -> Result<(), Memory>
 
 /// The limits as the text of a limit file, which `read_limits` reads as the same limits.
 pub fn print_limits(alloc: Global, limits: &Limits) -> Result<Vec<u8>, Memory>
-    requires { IsHeldByFile limits.now }
     ensures written { IfOk result (λ text. text.items ≡ file_text limits.now) }
     ensures read_again { IfOk result (λ text. IsLimitFile text.items limits.now) }
 {
+    limits.stand_in_a_file();
     let rows = list_rows(alloc, limits)?;
     let mut text = WriterBuilder::new().from_writer(Vec::new(alloc));
     for row in rows.as_slice() {

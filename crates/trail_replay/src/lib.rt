@@ -15,7 +15,6 @@ mod array;
 mod blocks;
 mod histories;
 mod history;
-mod law;
 mod laws;
 mod posts;
 mod prepared;
@@ -25,8 +24,10 @@ mod walk;
 
 pub use histories::{Histories, add_histories};
 pub use history::{History, at, place};
-pub use law::{closed_records_are_lawful, histories_are_legal};
-pub use laws::{components_are_leaves, histories_are_legal_by_places, histories_have_totals};
+pub use laws::{
+    closed_records_are_lawful, components_are_leaves, histories_are_legal,
+    histories_are_legal_by_places, histories_have_totals,
+};
 pub use prepared::{Prepared, replay, replay_of};
 pub use walk::Walk;
 

@@ -50,4 +50,5 @@ returns-in-Ok-clause-read_again c =
     kept_text (text_written (λ v. Some v.items) c.loop-row.text) c.in-Ok.text.items
     (flat_map text_of (take i rows)) c.in-Ok.ensures.ok c.loop-row.invariant.written
     ∙ ap (flat_map text_of) whole in
-    subst (λ (s : List ℕ). IsLimitFile s limits) (sym text) (printed_is_file limits c.requires)
+    subst (λ (s : List ℕ). IsLimitFile s limits) (sym text) (printed_is_file limits
+    c.stand_in_a_file.ensures)

@@ -4,4 +4,4 @@ use Rattle.limit_table.proofs.limits.Limits.account_tree.Goals as goal
 
 pub overflow_add-result : goal.overflow_add-result
 overflow_add-result c =
-    omega (arith, held_accounts c.args.self.now c.requires.held, c.requires.in_range)
+    omega (arith, held_accounts _ c.self.invariant, rw (← c.self.view_is) at c.requires)

@@ -4,18 +4,18 @@ use Rattle.limit_table.proofs.limits.Limits.symbol_tree.Goals as goal
 
 pub overflow_cast-result : goal.overflow_cast-result
 overflow_cast-result c =
-    omega (arith, held_accounts c.args.self.now c.requires.held, ap length c.rows.ensures)
+    omega (arith, held_accounts _ c.self.invariant, ap length c.rows.ensures)
 
 pub overflow_add-result : goal.overflow_add-result
 overflow_add-result c =
-    omega (arith, held_accounts c.args.self.now c.requires.held, ap length c.rows.ensures)
+    omega (arith, held_accounts _ c.self.invariant, ap length c.rows.ensures)
 
 pub overflow_add-result-2 : goal.overflow_add-result-2
 overflow_add-result-2 c =
     omega (
       arith,
-      held_accounts c.args.self.now c.requires.held,
+      held_accounts _ c.self.invariant,
       ap length c.rows.ensures,
-      held_symbols c.args.self.now c.requires.held,
-      c.requires.in_range,
+      held_symbols _ c.self.invariant,
+      rw (← c.self.view_is) at c.requires,
     )

@@ -1,0 +1,131 @@
+-- What comes when more is fetched.
+use Rattle.std.proofs.Common.{◌≡◌, ℕ, ◌+◌, ◌≤◌, List, [], ◌∷◌, ◌++◌, length, take, drop, refl, sym, ap, ◌∙◌}
+use Rattle.std.proofs.Common.{subst, arith, length-take-le, length-append, length-drop, append_assoc, false, Bool}
+use Rattle.std.specs.Prelude.{Option, Some, None}
+use Rattle.std.specs.Io.KnownBytes.{Consumes, IsAtEnd}
+use Rattle.std.proofs.lemmas.List.{take-take, take-append-le, append-nil}
+use Rattle.std.proofs.lemmas.List.Sums.{prefix_len-le-length}
+use Rattle.fix_fields.specs.Frames.{is_line_end}
+use Rattle.fix_fields.specs.Found.{Finds}
+use Rattle.fix_fields.specs.FrameBuffers.{BufferValue, GivesNext, IsOpen, line_ends, buffer_most}
+use Rattle.fix_fields.specs.Windows.{HoldsRest}
+use Rattle.fix_fields.specs.declared.frame.Found.{Found}
+use Rattle.fix_fields.proofs.Windows.{holds_next, holds_more}
+use Rattle.gate_ports.proofs.Pieces.{Consumes-append}
+use Rattle.frame_run.specs.Ahead.{HasMore, FetchesInto, GoesOn, LooksAhead}
+use Rattle.frame_run.specs.Ends.{input_most}
+
+-- the front of the room is what was written there
+pub front_of_room : (room w : List ℕ) (n : ℕ) → n ≤ length w → length w ≡ length room
+    → take n (take (length room) (w ++ drop (length w) room)) ≡ take n w
+front_of_room room w n few same =
+    take-take n (length room) (w ++ drop (length w) room) (omega (arith, same))
+    ∙ take-append-le n w (drop (length w) room) few
+
+pub length_of_front : (w : List ℕ) (n : ℕ) → n ≤ length w → length (take n w) ≡ n
+length_of_front w n few = length-take-le n w few
+
+pub consumes_none : (left : Option (List ℕ)) → Consumes left left []
+consumes_none None = tt
+consumes_none (Some bytes) = refl
+
+-- before anything is fetched
+pub more_none : (left : Option (List ℕ)) (buffer : BufferValue)
+    → buffer.base + length buffer.held ≤ input_most → HasMore left left buffer buffer
+more_none left buffer few = record {
+  more = [];
+  taken = consumes_none left;
+  holds = λ bytes place h. subst (λ l. HoldsRest l place buffer) (sym (append-nil bytes)) h;
+  later = omega arith;
+  total = omega arith;
+  few = few;
+}
+
+-- CR and LF in front are dropped
+pub more_next : (left left_after : Option (List ℕ)) (before middle after : BufferValue) (next : Found)
+    → HasMore left left_after before middle → GivesNext middle after next
+    → HasMore left left_after before after
+more_next left left_after before middle after next m gives =
+    let count = prefix_len-le-length is_line_end middle.held in
+    let size = length-drop (line_ends middle.held) middle.held in
+    record {
+      more = m.more;
+      taken = m.taken;
+      holds = λ bytes place h.
+          holds_next (bytes ++ m.more) place middle after next (m.holds bytes place h) gives;
+      later = omega (arith, m.later, gives.base);
+      total = omega (arith, m.total, gives.base, ap length gives.held, count, size);
+      few = omega (arith, m.few, gives.base, ap length gives.held, count, size);
+    }
+
+-- more was fetched
+pub more_fetched : (left left_between left_after : Option (List ℕ))
+    (before middle after : BufferValue) (count most : ℕ) → HasMore left left_between before middle
+    → FetchesInto left_between left_after middle after count most
+    → middle.base + length middle.held + most ≤ input_most → HasMore left left_after before after
+more_fetched left left_between left_after before middle after count most m f fits =
+    let size = length-append middle.held f.piece in
+    let both = length-append m.more f.piece in
+    record {
+      more = m.more ++ f.piece;
+      taken = Consumes-append left left_between left_after m.more f.piece m.taken f.taken;
+      holds = λ bytes place h. subst (λ l. HoldsRest l place after)
+          (append_assoc bytes m.more f.piece)
+          (holds_more (bytes ++ m.more) f.piece place middle after (m.holds bytes place h) f.held
+          f.base);
+      later = omega (arith, m.later, f.base);
+      total = omega (arith, m.total, f.base, ap length f.held, size, both);
+      few = omega (arith, fits, f.base, f.few, f.counted, ap length f.held, size);
+    }
+
+-- this stands next, within the input
+pub looks_within : (left left_after : Option (List ℕ)) (ended : Type 0)
+    (before after : BufferValue) (next : Found) → HasMore left left_after before after
+    → length after.held ≤ buffer_most → Finds after.held 0 next
+    → (IsOpen next → ended × IsAtEnd left_after)
+    → LooksAhead left left_after ended before after (record { next = next; goes_on = false })
+looks_within left left_after ended before after next m most finds whole = record {
+  more = m.more;
+  over = [];
+  taken = subst (Consumes left left_after) (sym (append-nil m.more)) m.taken;
+  holds = m.holds;
+  later = m.later;
+  few = m.few;
+  most = most;
+  finds = finds;
+  past = λ is. absurd cc;
+  within = λ is. refl;
+  may = λ is. absurd cc;
+  whole = λ is may. whole may;
+}
+
+-- this stands next, and the input has its most bytes
+pub looks_past : (left left_between left_after : Option (List ℕ)) (ended : Type 0)
+    (before after : BufferValue) (next : Found) (on : Bool) → IsOpen next → HasMore left left_between before after
+    → length after.held ≤ buffer_most → Finds after.held 0 next
+    → after.base + length after.held ≡ input_most → GoesOn left_between left_after ended on
+    → LooksAhead left left_after ended before after (record { next = next; goes_on = on })
+looks_past left left_between left_after ended before after next on may m most finds all goes = record {
+  more = m.more;
+  over = goes.over;
+  taken = Consumes-append left left_between left_after m.more goes.over m.taken goes.taken;
+  holds = m.holds;
+  later = m.later;
+  few = m.few;
+  most = most;
+  finds = finds;
+  past = λ is. (goes.one is, all);
+  within = λ is. (goes.none is).0;
+  may = λ is. may;
+  whole = λ is said. ((goes.none is).1, (goes.none is).2);
+}
+
+empty : (piece : List ℕ) → length piece ≡ 0 → piece ≡ []
+empty [] none = refl
+empty (x ∷ piece) none = absurd (omega arith)
+
+-- what is held stays where nothing was fetched
+pub held_same : (left left_after : Option (List ℕ)) (before after : BufferValue) (count most : ℕ)
+    → FetchesInto left left_after before after count most → count ≡ 0 → after.held ≡ before.held
+held_same left left_after before after count most f none =
+    f.held ∙ ap (λ l. before.held ++ l) (empty f.piece (f.counted ∙ none)) ∙ append-nil before.held

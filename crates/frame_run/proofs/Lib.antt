@@ -1,0 +1,4 @@
+pub mod Endings
+pub mod Fetches
+pub mod Splitting
+pub mod Streaming
