@@ -36,7 +36,4 @@ reads_of-append (Read tree stamp place value ∷ xs) ys =
     let seen : SeenAt = record { stamp = stamp; place = place; value = value } in ap
     (λ rs. seen ∷ rs) (reads_of-append xs ys)
 reads_of-append (Post tree index value ∷ xs) ys = reads_of-append xs ys
-reads_of-append (Sent frame ∷ xs) ys = reads_of-append xs ys
-reads_of-append (Refused frame code first second ∷ xs) ys = reads_of-append xs ys
-reads_of-append (Noted frame code first second ∷ xs) ys = reads_of-append xs ys
-reads_of-append (Ended end ∷ xs) ys = reads_of-append xs ys
+reads_of-append (note ∷ xs) ys = reads_of-append xs ys

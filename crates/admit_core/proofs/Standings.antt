@@ -32,10 +32,7 @@ events_of-append tree (Post in_tree index value ∷ first) later =
 events_of-append tree (Read in_tree stamp place value ∷ first) later =
     counted_in_front (in_tree == tree) (Saw stamp place value) (events_of tree first)
     (events_of tree (first ++ later)) (events_of tree later) (events_of-append tree first later)
-events_of-append tree (Sent frame ∷ first) later = events_of-append tree first later
-events_of-append tree (Refused frame code one two ∷ first) later = events_of-append tree first later
-events_of-append tree (Noted frame code one two ∷ first) later = events_of-append tree first later
-events_of-append tree (Ended end ∷ first) later = events_of-append tree first later
+events_of-append tree (note ∷ first) later = events_of-append tree first later
 
 -- how a session stands in a tree after these acts
 abbrev pub standing_of : ℕ → ℕ → List Act → Standing
@@ -145,11 +142,7 @@ posted_from limit tree start (Read in_tree stamp place value ∷ acts) =
         (events_of tree acts))).posted ≡ fold (latest tree) start.posted acts
     by_test true later = later (after_read limit value start)
     by_test false later = later start
-posted_from limit tree start (Sent frame ∷ acts) = posted_from limit tree start acts
-posted_from limit tree start (Refused frame code one two ∷ acts) =
-    posted_from limit tree start acts
-posted_from limit tree start (Noted frame code one two ∷ acts) = posted_from limit tree start acts
-posted_from limit tree start (Ended end ∷ acts) = posted_from limit tree start acts
+posted_from limit tree start (note ∷ acts) = posted_from limit tree start acts
 
 pub posted-last_post : (limit tree : ℕ) (acts : List Act)
     → (standing_of limit tree acts).posted ≡ last_post tree acts
