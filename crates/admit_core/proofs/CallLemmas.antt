@@ -7,8 +7,7 @@ use Rattle.risk_board.specs.Calls.{post_count, is_post_in}
 use Rattle.risk_board.specs.declared.hand.Call.{Call}
 use Rattle.risk_board.specs.declared.hand.Call.TheVariants as call
 use Rattle.risk_journal.specs.declared.acts.Act.{Act}
-use Rattle.risk_journal.specs.declared.acts.Act.TheVariants.{Post, Read, Sent, Refused, Noted}
-use Rattle.risk_journal.specs.declared.acts.Act.TheVariants.{Ended}
+use Rattle.risk_journal.specs.declared.acts.Act.TheVariants.{Post, Read}
 use Rattle.risk_journal.specs.ActLists.{posts_in, is_post_act_in}
 use Rattle.risk_journal.specs.ActLists.{calls_below, calls_at}
 use Rattle.admit_core.proofs.ActLemmas.{count_by-cons, count_by-skips}

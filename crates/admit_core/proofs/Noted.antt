@@ -1,5 +1,5 @@
 -- An act that is no call changes neither what stands posted nor what is admitted.
-use Rattle.std.proofs.Common.{◌≡◌, ℕ, List, [], ◌∷◌, ◌++◌, ◌+◌, refl, ap, sym, ◌∙◌, arith, Option}
+use Rattle.std.proofs.Common.{◌≡◌, ℕ, List, [], ◌∷◌, ◌++◌, refl, ap, sym, ◌∙◌, arith, Option}
 use Rattle.std.proofs.Common.{Some, None, IfSome, fold}
 use Rattle.limit_table.specs.Trees.{LimitsValue, limit_of}
 use Rattle.risk_journal.specs.declared.acts.Act.{Act}

@@ -6,8 +6,7 @@ use Rattle.std.proofs.lemmas.List.Sums.{fold-append}
 use Rattle.risk_board.specs.History.{Event}
 use Rattle.risk_board.specs.History.Event.{Posted, Saw}
 use Rattle.risk_journal.specs.declared.acts.Act.{Act}
-use Rattle.risk_journal.specs.declared.acts.Act.TheVariants.{Post, Read, Sent, Refused, Noted}
-use Rattle.risk_journal.specs.declared.acts.Act.TheVariants.{Ended}
+use Rattle.risk_journal.specs.declared.acts.Act.TheVariants.{Post, Read}
 use Rattle.risk_journal.specs.ActLists.{SeenAt, posts_in, last_post, latest}
 use Rattle.risk_journal.specs.ActLists.{events_of}
 use Rattle.admit_core.specs.Admitted.{Standing, nothing, after_event, after_post, after_read}

@@ -12,7 +12,7 @@ use Rattle.risk_board.specs.declared.hand.Call.{Call}
 use Rattle.risk_board.specs.declared.hand.Call.TheVariants as call
 use Rattle.risk_journal.specs.declared.acts.Act.{Act}
 use Rattle.risk_journal.specs.declared.acts.Act.TheVariants.{Post, Read}
-use Rattle.risk_journal.specs.ActLists.{posts_in, last_post, latest, calls_below, calls_at}
+use Rattle.risk_journal.specs.ActLists.{posts_in, latest, calls_below, calls_at}
 use Rattle.admit_core.specs.Hands.{InStep, IsHandOn, IsHaltHand}
 use Rattle.admit_core.specs.Tapes.{IsNoCall}
 use Rattle.admit_core.proofs.ActLemmas.{last_post-append}
