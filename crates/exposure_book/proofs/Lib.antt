@@ -4,4 +4,5 @@ pub mod Kept
 pub mod Causes
 pub mod Inserted
 pub mod Lowered
+pub mod Outcomes
 mod Rows
