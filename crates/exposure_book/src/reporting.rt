@@ -26,34 +26,6 @@ impl Book {
         ensures over { (result ≡ Applied.Over)
             ↔ IsSomeAnd (reported_order self.old.value report.now.id) (IsBeyond report.now.exec) }
     {
-        self.take_report(report)
-    }
-
-    /// Applies an OrderCancelReject (9) to the order that has its ClOrdID (11). Stray where no
-    /// order has it, which changes nothing. Never Over.
-    pub fn apply_reject(&mut self, reject: &CancelReject) -> Applied
-        ensures answer { result ≡ (outcome_of_reject self.old.value reject.now).answer }
-        ensures orders { self.new.value ≡ record self.old.value {
-          orders = (outcome_of_reject self.old.value reject.now).orders;
-        } }
-        ensures room { self.new.room ≡ self.old.room }
-        ensures placed { IsPlacedAnswer self.old.value.accounts self.old.value.symbols result }
-        ensures stray { (result ≡ Applied.Stray)
-            ↔ (order_with self.old.value reject.now.id ≡ None) }
-        ensures never_over { result ≢ Applied.Over }
-    {
-        self.take_reject(reject)
-    }
-
-    /// What a report is answered, and the book after it.
-    fn take_report(&mut self, report: &Report) -> Applied
-        ensures answer { result ≡ (outcome_of_report self.old.value report.now).answer }
-        ensures orders { self.new.value ≡ record self.old.value {
-          orders = (outcome_of_report self.old.value report.now).orders;
-        } }
-        ensures room { self.new.room ≡ self.old.room }
-        ensures placed { IsPlacedAnswer self.old.value.accounts self.old.value.symbols result }
-    {
         let Some(id) = &report.id else {
             return Applied::Stray;
         };
@@ -68,14 +40,18 @@ impl Book {
         }
     }
 
-    /// What a cancel reject is answered, and the book after it.
-    fn take_reject(&mut self, reject: &CancelReject) -> Applied
+    /// Applies an OrderCancelReject (9) to the order that has its ClOrdID (11). Stray where no
+    /// order has it, which changes nothing. Never Over.
+    pub fn apply_reject(&mut self, reject: &CancelReject) -> Applied
         ensures answer { result ≡ (outcome_of_reject self.old.value reject.now).answer }
         ensures orders { self.new.value ≡ record self.old.value {
           orders = (outcome_of_reject self.old.value reject.now).orders;
         } }
         ensures room { self.new.room ≡ self.old.room }
         ensures placed { IsPlacedAnswer self.old.value.accounts self.old.value.symbols result }
+        ensures stray { (result ≡ Applied.Stray)
+            ↔ (order_with self.old.value reject.now.id ≡ None) }
+        ensures never_over { result ≢ Applied.Over }
     {
         let id = reject.id.owned();
         let Some(place) = self.place(&id) else {
