@@ -36,8 +36,8 @@ fn is_of_order(request: &Replace, limits: &Limits, order: &Order) -> bool
     requires { IsPlaced (length limits.now.accounts) (length limits.now.symbols) order.now }
     ensures { result ≡ is_of_order request.now limits.now order.now }
 {
-    let account = &limits.accounts.rows()[order.account as usize].name;
-    let symbol = &limits.symbols.rows()[order.symbol as usize].name;
+    let account = &limits.accounts()[order.account as usize].name;
+    let symbol = &limits.symbols()[order.symbol as usize].name;
     let own_account = match &request.account {
         Some(name) => name.owned() == *account,
         None => true,
@@ -50,7 +50,7 @@ pub(crate) fn with_replace(request: &Replace, limits: &Limits, order: &Order) ->
     requires { IsPlaced (length limits.now.accounts) (length limits.now.symbols) order.now }
     ensures { result ≡ with_replace request.now limits.now order.now }
 {
-    let high = limits.symbols.rows()[order.symbol as usize].high;
+    let high = limits.symbols()[order.symbol as usize].high;
     Order {
         pending: Pending::Replace {
             id: request.id.owned(),

@@ -340,7 +340,7 @@ fn values_follow_each_message(rt: HostRuntime) -> Result<(), Fail> {
         return Err("limits")?;
     };
     assert!(&rt;
-        limits.accounts.rows().len() == 2 && limits.symbols.rows().len() == 2,
+        limits.accounts().len() == 2 && limits.symbols().len() == 2,
         "two of each"
     );
     for (name, steps) in SEQUENCES {
