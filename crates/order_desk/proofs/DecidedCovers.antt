@@ -28,7 +28,7 @@ use Rattle.exposure_book.specs.Proposals.{fault_alone, with_replace}
 use Rattle.exposure_book.specs.Proposals.{is_of_order, replace_of, proposal_of_cancel}
 use Rattle.exposure_book.specs.Proposals.{replace_at as proposed_at}
 use Rattle.exposure_book.specs.Totals.{IsPlaced}
-use Rattle.exposure_book.proofs.Lowering.{lowers_without_pending}
+use Rattle.exposure_book.proofs.Lowering.{lowers_with_cancel, lowers_without_pending}
 use Rattle.screen_kit.specs.Screens.{ScreenValue}
 use Rattle.risk_journal.specs.declared.acts.Act.{Act}
 use Rattle.admit_core.specs.declared.rows.OrderRows.{OrderRows}
@@ -57,15 +57,18 @@ use Rattle.order_desk.proofs.TreeValues.{value_in-set_other, IsOtherTree}
 abbrev IsCovered : LimitsValue → Decision → Type 0
 IsCovered limits decision = Covers limits decision.tape.acts decision.book
 
--- values that are given are those that were proposed
-capped_is : (proposed values : Proposal) → capped proposed ≡ Ok values → proposed ≡ values
-capped_is proposed values is = by_test (is_within_cap proposed) is
-  where
-    by_test : (within : Bool)
-        → cond {A = Result Proposal BookFault} within (Ok proposed) (Err fault.Cap) ≡ Ok values
-        → proposed ≡ values
-    by_test true given = cc
-    by_test false given = absurd cc
+-- what is given past a test that faults
+passes : {A B : Type 0} (test : Bool) (fault : B) (rest : Result A B) (given : A)
+    → cond {A = Result A B} test (Err fault) rest ≡ Ok given
+    → (test ≡ false) × (rest ≡ Ok given)
+passes true fault rest given is = absurd cc
+passes false fault rest given is = (refl, is)
+
+-- what is given by a test that faults where it fails
+chosen : {A B : Type 0} (test : Bool) (own given : A) (fault : B)
+    → cond {A = Result A B} test (Ok own) (Err fault) ≡ Ok given → own ≡ given
+chosen true own given fault is = cc
+chosen false own given fault is = absurd cc
 
 -- the values of what is proposed, by the other orders
 proposal_tells : (limits : LimitsValue) (rows : OrderRows) (values : Proposal)
@@ -92,25 +95,15 @@ module _ (limits : LimitsValue) (order : NewOrder) (book : BookValue) (before : 
   abbrev more : OrderRows → BookValue
   more rows = with_new order rows.account rows.symbol (upper_price limits rows) book
 
-  proposed_is : (rows : OrderRows) (values : Proposal)
-      → proposal_of_new book order rows.account rows.symbol (upper_price limits rows) ≡ Ok values
-      → proposal_of (more rows).orders rows.account rows.symbol ≡ values
-  proposed_is rows values is = by_test (is_known book order.id) is
-    where
-      by_test : (known : Bool)
-          → cond {A = Result Proposal BookFault} known (Err fault.Duplicate)
-          (capped (proposal_of (more rows).orders rows.account rows.symbol)) ≡ Ok values
-          → proposal_of (more rows).orders rows.account rows.symbol ≡ values
-      by_test true given = absurd cc
-      by_test false given =
-          capped_is (proposal_of (more rows).orders rows.account rows.symbol) values given
-
   new_taken : (rows : OrderRows) (values : Proposal)
       → ProposesNew limits order rows values book
       → IsCovered limits
       (tree_decided limits (offer_of_new limits order rows values) book (more rows) before)
   new_taken rows values is =
       let are = known_rows limits order rows is.found in
+      let proposed = proposal_of (more rows).orders rows.account rows.symbol in
+      let within = passes (is_known book order.id) fault.Duplicate (capped proposed) values
+      is.proposed in
       covers_asked limits rows are (values_of values) before.acts book (more rows) covers refl refl
       (All-push (IsPlaced book.accounts book.symbols) book.orders (one rows) covers.backs.placed
       (record {
@@ -118,7 +111,7 @@ module _ (limits : LimitsValue) (order : NewOrder) (book : BookValue) (before : 
         symbol = subst (λ n. rows.symbol < n) (sym covers.backs.symbols) are.symbol;
       }))
       (proposal_tells limits rows values book.orders (more rows).orders are
-      (proposed_is rows values is.proposed)
+      (chosen (is_within_cap proposed) proposed values fault.Cap within.1)
       (λ tree other. value_in-push_other limits tree book.orders (one rows) other))
       before.reads (λ tree. value_in-push_le limits tree book.orders (one rows))
 
@@ -151,24 +144,15 @@ requests_order : (book : BookValue) (orig : List ℕ) (own place : ℕ) (found :
     → open_for_request orig own found ≡ Ok place → RequestsOn book orig place
 requests_order book orig own place None at is given = absurd cc
 requests_order book orig own place (Some order) at is given =
-    by_tests (is_closed order) (is_pending order.pending) refl (is_same_id orig order.current) given
-  where
-    by_tests : (closed asked : Bool) → is_pending order.pending ≡ asked → (same : Bool)
-        → cond {A = Result ℕ BookFault} closed (Err fault.Closed)
-        (cond {A = Result ℕ BookFault} asked (Err fault.Pending)
-        (cond {A = Result ℕ BookFault} same (Ok own) (Err fault.Unknown))) ≡ Ok place
-        → RequestsOn book orig place
-    by_tests true asked idle same answer = absurd cc
-    by_tests false true idle same answer = absurd cc
-    by_tests false false idle false answer = absurd cc
-    by_tests false false idle true answer =
-        let here : own ≡ place = cc in
-        record {
-          order = order;
-          at = at ∙ ap Some here;
-          found = ap (slice_get book.orders) (sym here) ∙ is;
-          idle = is_idle order.pending idle;
-        }
+    let open_ = passes (is_closed order) fault.Closed _ place given in
+    let idle = passes (is_pending order.pending) fault.Pending _ place open_.1 in
+    let here = chosen (is_same_id orig order.current) own place fault.Unknown idle.1 in
+    record {
+      order = order;
+      at = at ∙ ap Some here;
+      found = ap (slice_get book.orders) (sym here) ∙ is;
+      idle = is_idle order.pending idle.0;
+    }
 
 requests_place : (book : BookValue) (orig : List ℕ) (place : ℕ) (at : Option ℕ)
     → place_of orig book.ids ≡ at → requested_at book orig at ≡ Ok place
@@ -179,14 +163,9 @@ requests_place book orig place (Some own) is given =
 
 requests_on : (book : BookValue) (id orig : List ℕ) (place : ℕ)
     → requested book id orig ≡ Ok place → RequestsOn book orig place
-requests_on book id orig place given = by_test (is_known book id) given
-  where
-    by_test : (known : Bool)
-        → cond {A = Result ℕ BookFault} known (Err fault.Duplicate)
-        (requested_at book orig (place_of orig book.ids)) ≡ Ok place
-        → RequestsOn book orig place
-    by_test true answer = absurd cc
-    by_test false answer = requests_place book orig place (place_of orig book.ids) refl answer
+requests_on book id orig place given =
+    requests_place book orig place (place_of orig book.ids) refl
+    (passes (is_known book id) fault.Duplicate _ place given).1
 
 -- a request is pending on an order with none
 module _ (order : Order) (idle : order.pending ≡ pending.Nothing) where
@@ -198,14 +177,6 @@ module _ (order : Order) (idle : order.pending ≡ pending.Nothing) where
   lowers_to_order next =
       subst (Lowers (record order { pending = next })) cleared
       (lowers_without_pending (record order { pending = next }))
-
-  cancel_same : (id : List ℕ) → exposure_of (record order { pending = pending.Cancel id })
-      ≡ exposure_of order
-  cancel_same id = ap exposure_of cleared
-
-  lowers_to_cancel : (id : List ℕ) → Lowers order (record order { pending = pending.Cancel id })
-  lowers_to_cancel id =
-      record { account = refl; symbol = refl; exposure = omega (arith, cancel_same id) }
 
 -- a request (F or G) on an order of a covered book
 module _ (limits : LimitsValue) (book : BookValue) (before : Tape)
@@ -235,7 +206,7 @@ module _ (limits : LimitsValue) (book : BookValue) (before : Tape)
       (λ tree.
       let less = value_in-set_le limits tree book.orders place on.order
       (next_order (pending.Cancel request.id)) on.found
-      (lowers_to_cancel on.order on.idle request.id) in
+      (lowers_with_cancel on.order request.id) in
       let more = value_in-set_ge limits tree book.orders place on.order
       (next_order (pending.Cancel request.id)) on.found
       (lowers_to_order on.order on.idle (pending.Cancel request.id)) in
@@ -313,20 +284,9 @@ replace_told : (limits : LimitsValue) (request : Replace) (book : BookValue) (pl
     → proposal_of (slice_set book.orders place (with_replace request limits order))
     order.account order.symbol ≡ values
 replace_told limits request book place order values is =
-    by_tests (not (is_of_order request limits order)) (nat_le request.quantity order.filled) is
-  where
-    by_tests : (other few : Bool)
-        → cond {A = Result Proposal BookFault} other (Err fault.Mismatch)
-        (cond {A = Result Proposal BookFault} few (Err fault.Quantity)
-        (capped (proposal_of (slice_set book.orders place (with_replace request limits order))
-        order.account order.symbol))) ≡ Ok values
-        → proposal_of (slice_set book.orders place (with_replace request limits order))
-        order.account order.symbol ≡ values
-    by_tests true few given = absurd cc
-    by_tests false true given = absurd cc
-    by_tests false false given =
-        capped_is (proposal_of (slice_set book.orders place (with_replace request limits order))
-        order.account order.symbol) values given
+    let other = passes (not (is_of_order request limits order)) fault.Mismatch _ values is in
+    let few = passes (nat_le request.quantity order.filled) fault.Quantity _ values other.1 in
+    chosen _ _ values fault.Cap few.1
 
 -- a replace that the book proposes
 replace_covers_on : (limits : LimitsValue) (request : Replace) (rows : OrderRows)
