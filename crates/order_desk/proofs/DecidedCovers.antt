@@ -35,19 +35,19 @@ use Rattle.admit_core.specs.declared.rows.OrderRows.{OrderRows}
 use Rattle.admit_core.specs.Legs.{Leg, AreRowsOf, legs_of}
 use Rattle.admit_core.specs.Tapes.{Tape, tape}
 use Rattle.limit_table.specs.Trees.{LimitsValue}
-use Rattle.order_desk.specs.declared.offer.Offer.{Offer}
 use Rattle.order_desk.specs.Backing.{Covers}
 use Rattle.order_desk.specs.Decisions.{Decision, cancel_by, cancel_decided, is_above_last, new_next}
-use Rattle.order_desk.specs.Decisions.{new_screened, replace_screened, taken_up, tree_decided}
-use Rattle.order_desk.specs.Offers.{new_offer, replace_offer}
+use Rattle.order_desk.specs.Decisions.{decided_on, new_screened, replace_screened, taken_up}
+use Rattle.order_desk.specs.Decisions.{tree_decided}
 use Rattle.order_desk.specs.Rows.{upper_price}
 use Rattle.order_desk.specs.Sending.{ProposesNew}
 use Rattle.order_desk.specs.Values.{values_of, value_in}
 use Rattle.order_desk.proofs.Covers.{Tells, covers_asked, covers_at_once, covers_same}
 use Rattle.order_desk.proofs.Covers.{none_passes, not_less}
-use Rattle.order_desk.proofs.Deciding.{decided_is}
+use Rattle.order_desk.proofs.Deciding.{judged_is}
 use Rattle.order_desk.proofs.Places.{known_rows}
-use Rattle.order_desk.proofs.Offered.{comes_of_new, comes_of_replace, offer_of_new, offer_of_replace}
+use Rattle.order_desk.proofs.Offered.{new_offer_is, offer_of_new, offer_of_replace}
+use Rattle.order_desk.proofs.Offered.{replace_offer_is}
 use Rattle.order_desk.proofs.Offered.{order_is_placed, rows_by}
 use Rattle.order_desk.proofs.TreeValues.{value_in-account, value_in-symbol, value_in-push_le}
 use Rattle.order_desk.proofs.TreeValues.{value_in-push_other, value_in-set_ge, value_in-set_le}
@@ -119,13 +119,14 @@ pub new_covers : (limits : LimitsValue) (order : NewOrder) (screens : List Scree
     (book : BookValue) (before : Tape) → Covers limits before.acts book
     → IsCovered limits (new_screened limits order screens book before)
 new_covers limits order screens book before covers =
-    decided_is limits screens (new_next order book) book before (IsCovered limits) (λ why. covers)
-    (new_offer limits order book)
-    (λ offer is.
-    let comes = comes_of_new limits order book offer is in
-    subst (λ (o : Offer). IsCovered limits
-    (tree_decided limits o book (new_next order book o) before)) (sym comes.is)
-    (new_taken limits order book before covers offer.rows offer.values comes.proposes))
+    new_offer_is limits order book
+    (λ offered. IsCovered limits
+    (decided_on limits screens (new_next order book) book before offered)) (λ why. covers)
+    (λ rows values is.
+    judged_is limits screens book before (IsCovered limits) (λ why. covers)
+    (offer_of_new limits order rows values)
+    (with_new order rows.account rows.symbol (upper_price limits rows) book)
+    (new_taken limits order book before covers rows values is))
 
 -- a request that nothing stands against: the order that it names, at its place, with none pending
 record RequestsOn (book : BookValue) (orig : List ℕ) (place : ℕ) : Type 0 where
@@ -334,13 +335,14 @@ pub replace_covers : (limits : LimitsValue) (request : Replace) (screens : List 
     → IsCovered limits (replace_screened limits request screens book before)
 replace_covers limits request screens book before covers =
     let next = with_replace_pending request limits book in
-    decided_is limits screens (λ offer. next) book before (IsCovered limits) (λ why. covers)
-    (replace_offer limits request book)
-    (λ offer is.
-    let comes = comes_of_replace limits request book offer is in
-    subst (λ (o : Offer). IsCovered limits (tree_decided limits o book next before)) (sym comes.is)
-    (replace_covers_by limits request offer.rows offer.values book before covers
-    (requested book request.id request.orig) refl comes.proposes.proposed comes.proposes.found))
+    replace_offer_is limits request book
+    (λ offered. IsCovered limits (decided_on limits screens (λ offer. next) book before offered))
+    (λ why. covers)
+    (λ rows values is.
+    judged_is limits screens book before (IsCovered limits) (λ why. covers)
+    (offer_of_replace limits request rows values) next
+    (replace_covers_by limits request rows values book before covers
+    (requested book request.id request.orig) refl is.proposed is.found))
 
 -- a cancel that the book proposed is committed
 pub sent_cancel_covers : (limits : LimitsValue) (request : Cancel) (acts : List Act)

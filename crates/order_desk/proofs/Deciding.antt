@@ -20,22 +20,19 @@ use Rattle.order_desk.specs.Decisions.{Decision, Decides, refused, committed, sc
 use Rattle.order_desk.specs.Decisions.{is_above_last, judged, offer_legs, taken_up, tree_decided}
 use Rattle.order_desk.specs.Refusals.{refusal_by, refusal_by_code}
 
--- whatever is so of a refusal, and of what the trees decide on what is offered, is so of what is decided
-module _ (limits : LimitsValue) (screens : List ScreenValue) (next : Offer → BookValue)
-    (book : BookValue) (before : Tape) (P : Decision → Type 0)
-    (refuses : (why : Refusal) → P (refused why book before)) where
-  behind_screens : (decision : Decision) → P decision → (why : Option Refusal)
+-- whatever is so of a refusal, and of what the trees decide on an offer, is so of what is decided
+module _ (limits : LimitsValue) (screens : List ScreenValue) (book : BookValue) (before : Tape)
+    (P : Decision → Type 0) (refuses : (why : Refusal) → P (refused why book before)) where
+  by_screens : (decision : Decision) → P decision → (why : Option Refusal)
       → P (screened why book before decision)
-  behind_screens decision holds None = holds
-  behind_screens decision holds (Some why) = refuses why
+  by_screens decision holds None = holds
+  by_screens decision holds (Some why) = refuses why
 
-  pub decided_is : (offered : Result Offer Refusal)
-      → ((offer : Offer) → offered ≡ Ok offer
-      → P (tree_decided limits offer book (next offer) before))
-      → P (decided_on limits screens next book before offered)
-  decided_is (Err why) takes = refuses why
-  decided_is (Ok offer) takes =
-      behind_screens (tree_decided limits offer book (next offer) before) (takes offer refl)
+  pub judged_is : (offer : Offer) (next : BookValue)
+      → P (tree_decided limits offer book next before)
+      → P (judged limits screens offer book next before)
+  judged_is offer next holds =
+      by_screens (tree_decided limits offer book next before) holds
       (refusal_by_code (first_code offer.seen screens))
 
 -- a choice by the book and the tape
@@ -142,13 +139,14 @@ module _ (book : BookValue) (before : Tape) (code : ℕ) where
       absurd (never_by
       (asking limits (offer_legs limits offer before.acts) before).verdict code is)
 
+  alone : (why : Refusal) → IsAlone (refused why book before)
+  alone why is = let same : why ≡ Screen code = cc in ap (λ w. refused w book before) same
+
   pub refused_alone : (limits : LimitsValue) (screens : List ScreenValue)
       (next : Offer → BookValue) (offered : Result Offer Refusal)
       → IsAlone (decided_on limits screens next book before offered)
-  refused_alone limits screens next offered =
-      decided_is limits screens next book before IsAlone
-      (λ why is. let same : why ≡ Screen code = cc in
-      ap (λ w. refused w book before) same) offered
-      (λ offer given. taken_alone
-      (offer.always || is_above_last (offer_legs limits offer before.acts)) limits offer
-      (next offer))
+  refused_alone limits screens next (Err why) = alone why
+  refused_alone limits screens next (Ok offer) =
+      judged_is limits screens book before IsAlone alone offer (next offer)
+      (taken_alone (offer.always || is_above_last (offer_legs limits offer before.acts)) limits
+      offer (next offer))
