@@ -20,10 +20,10 @@ use Rattle.exposure_book.specs.Books.{pair_of_order}
 use Rattle.exposure_book.specs.Commits.{with_new, named, with_request, with_replace_in}
 use Rattle.exposure_book.specs.Commits.{replaced_at, with_replace_pending, with_cancel}
 use Rattle.exposure_book.specs.Commits.{cancel_at, with_cancel_pending}
-use Rattle.exposure_book.specs.Orders.{Lowers, is_closed, exposure_of}
+use Rattle.exposure_book.specs.Orders.{Lowers, is_closed}
 use Rattle.exposure_book.specs.Pendings.{is_pending, is_same_id}
 use Rattle.exposure_book.specs.Proposals.{new_order, capped, is_within_cap, is_known, requested}
-use Rattle.exposure_book.specs.Proposals.{requested_at, open_for_request, proposal_of_new}
+use Rattle.exposure_book.specs.Proposals.{requested_at, open_for_request}
 use Rattle.exposure_book.specs.Proposals.{fault_alone, with_replace}
 use Rattle.exposure_book.specs.Proposals.{is_of_order, replace_of, proposal_of_cancel}
 use Rattle.exposure_book.specs.Proposals.{replace_at as proposed_at}
@@ -42,7 +42,7 @@ use Rattle.order_desk.specs.Decisions.{tree_decided}
 use Rattle.order_desk.specs.Rows.{upper_price}
 use Rattle.order_desk.specs.Sending.{ProposesNew}
 use Rattle.order_desk.specs.Values.{values_of, value_in}
-use Rattle.order_desk.proofs.Covers.{Tells, covers_asked, covers_at_once, covers_same}
+use Rattle.order_desk.proofs.Covers.{Tells, covers_asked, covers_at_once, covers_kept}
 use Rattle.order_desk.proofs.Covers.{none_passes, not_less}
 use Rattle.order_desk.proofs.Deciding.{judged_is}
 use Rattle.order_desk.proofs.Places.{known_rows}
@@ -202,8 +202,9 @@ module _ (limits : LimitsValue) (book : BookValue) (before : Tape)
   cancel_covers_on : (request : Cancel)
       → Covers limits before.acts (next_book request.id (pending.Cancel request.id))
   cancel_covers_on request =
-      covers_same limits before.acts book (next_book request.id (pending.Cancel request.id))
-      covers refl refl (next_placed (pending.Cancel request.id))
+      covers_kept limits before.acts before.acts book
+      (next_book request.id (pending.Cancel request.id)) covers refl refl
+      (next_placed (pending.Cancel request.id)) (λ tree inside. record { posts = refl; last = refl })
       (λ tree.
       let less = value_in-set_le limits tree book.orders place on.order
       (next_order (pending.Cancel request.id)) on.found
@@ -211,7 +212,7 @@ module _ (limits : LimitsValue) (book : BookValue) (before : Tape)
       let more = value_in-set_ge limits tree book.orders place on.order
       (next_order (pending.Cancel request.id)) on.found
       (lowers_to_order on.order on.idle (pending.Cancel request.id)) in
-      omega (arith, less, more))
+      omega (arith, less, more)) covers.admitted
 
   abbrev own_rows : OrderRows
   own_rows = record { account = on.order.account; symbol = on.order.symbol }

@@ -1,5 +1,5 @@
 -- What was decided on what is offered: case by case, by the reads that came, and with a screen's code.
-use Rattle.std.proofs.Common.{◌≡◌, ℕ, List, [], ◌++◌, Option, Some, None, Result, Ok, Err, refl}
+use Rattle.std.proofs.Common.{◌≡◌, ℕ, List, [], ◌++◌, Option, Some, None, Result, Ok, Err}
 use Rattle.std.proofs.Common.{sym, ap, subst, ◌∙◌, Bool, true, false, ◌||◌}
 use Rattle.std.proofs.lemmas.List.{append-nil}
 use Rattle.limit_table.specs.Trees.{LimitsValue}

@@ -1,7 +1,6 @@
--- What is decided on requests and what reports come to posts nothing in the halt tree, and a post there
--- keeps a book covered.
-use Rattle.std.proofs.Common.{◌≡◌, ℕ, ◌≤◌, ◌<◌, List, refl, sym, ◌∙◌, subst, arith, ◌||◌}
-use Rattle.std.proofs.Common.{Bool, true, false, cond, Some, None, Result, Ok, Err}
+-- What is decided on requests and what reports come to posts nothing in the halt tree.
+use Rattle.std.proofs.Common.{◌≡◌, ℕ, List, refl, arith, ◌||◌}
+use Rattle.std.proofs.Common.{Bool, true, false, Some, None, Result, Ok, Err}
 use Rattle.std.proofs.Common.{slice_get}
 use Rattle.std.proofs.lemmas.Bool.{ne_eqb}
 use Rattle.fix_orders.specs.declared.message.Cancel.{Cancel}
@@ -20,17 +19,12 @@ use Rattle.exposure_book.specs.Reports.{outcome_with}
 use Rattle.exposure_book.proofs.Outcomes.{report_comes, reject_comes}
 use Rattle.screen_kit.specs.Screens.{ScreenValue}
 use Rattle.risk_journal.specs.declared.acts.Act.{Act}
-use Rattle.risk_journal.specs.ActLists.{posts_in}
-use Rattle.admit_core.specs.declared.ask.Verdict.{Verdict}
-use Rattle.admit_core.specs.declared.ask.Verdict.TheVariants as verdict
 use Rattle.admit_core.specs.declared.rows.OrderRows.{OrderRows}
-use Rattle.admit_core.specs.Asking.{Asked, asking, is_short, settled as settled_legs, verdict_of}
-use Rattle.admit_core.specs.Asking.{posted_and_read}
-use Rattle.admit_core.specs.Legs.{Leg, AreRowsOf, legs_of}
-use Rattle.admit_core.specs.Tapes.{Tape, with_post}
+use Rattle.admit_core.specs.Asking.{asking}
+use Rattle.admit_core.specs.Legs.{AreRowsOf, legs_of}
+use Rattle.admit_core.specs.Tapes.{Tape}
 use Rattle.admit_core.proofs.AskedTrees.{leg_in, asked_keeps, back_keeps}
 use Rattle.admit_core.proofs.LoweredTrees.{lowering_keeps}
-use Rattle.admit_core.proofs.Tripped.{tripped_keeps, tripped_admits}
 use Rattle.order_desk.specs.declared.offer.Offer.{Offer}
 use Rattle.order_desk.specs.Backing.{Covers}
 use Rattle.order_desk.specs.Decisions.{cancel_by, cancel_decided, decided_on, is_above_last, judged}
@@ -38,32 +32,13 @@ use Rattle.order_desk.specs.Decisions.{new_next, new_screened, offer_legs, repla
 use Rattle.order_desk.specs.Halting.{KeepsHalt}
 use Rattle.order_desk.specs.Rows.{upper_price}
 use Rattle.order_desk.specs.Reported.{settled, report_settled, reject_settled}
-use Rattle.order_desk.specs.Values.{values_of, value_in, values_told, rows_told}
+use Rattle.order_desk.specs.Values.{values_of, values_told, rows_told}
+use Rattle.order_desk.proofs.Covers.{asking_is}
 use Rattle.order_desk.proofs.Deciding.{judged_is}
 use Rattle.order_desk.proofs.Places.{known_rows}
 use Rattle.order_desk.proofs.Offered.{new_offer_is, offer_of_new, offer_of_replace}
 use Rattle.order_desk.proofs.Offered.{replace_offer_is, replaced_rows}
 use Rattle.order_desk.proofs.ReportedCovers.{terms, are_rows}
-
--- a post in the halt tree keeps a book covered
-pub covers_tripped : (limits : LimitsValue) (value : ℕ) (acts : List Act) (book : BookValue)
-    → Covers limits acts book → Covers limits (with_post (halt_tree limits) value acts) book
-covers_tripped limits value acts book covers = record {
-  backs = record {
-    accounts = covers.backs.accounts;
-    symbols = covers.backs.symbols;
-    placed = covers.backs.placed;
-    trees = λ tree below.
-        let kept = tripped_keeps limits value tree acts below in
-        let own = covers.backs.trees tree below in
-        record {
-          within = subst (λ n. value_in limits tree book.orders ≤ n) (sym kept.last) own.within;
-          exact = λ left. own.exact (subst (λ n. n < limits.quota) kept.posts left)
-              ∙ sym kept.last;
-        };
-  };
-  admitted = tripped_admits limits value acts covers.admitted;
-}
 
 -- no leg of rows of the limits is of the halt tree
 no_halt_leg : (limits : LimitsValue) (rows : OrderRows) (acts : List Act) (values : List ℕ)
@@ -77,46 +52,17 @@ no_halt_leg limits rows acts values are =
     (λ e. absurd (omega (arith, e, are.symbol))) in
     rw (firm, account, symbol) refl
 
--- asking posts nothing in a tree with no leg
-settled_keep : (limits : LimitsValue) (tree : ℕ) (legs : List Leg) (before : Tape)
-    → leg_in tree legs ≡ None → (answer : Verdict)
-    → posts_in tree (settled_legs legs answer (posted_and_read limits legs before)).acts
-    ≡ posts_in tree before.acts
-settled_keep limits tree legs before none verdict.Sent =
-    (asked_keeps limits legs before tree none).posts
-settled_keep limits tree legs before none verdict.Firm =
-    (back_keeps limits legs before tree none).posts
-settled_keep limits tree legs before none verdict.Account =
-    (back_keeps limits legs before tree none).posts
-settled_keep limits tree legs before none verdict.Symbol =
-    (back_keeps limits legs before tree none).posts
-settled_keep limits tree legs before none verdict.Halt =
-    (back_keeps limits legs before tree none).posts
-settled_keep limits tree legs before none verdict.Quota =
-    (back_keeps limits legs before tree none).posts
-
-asking_keeps : (limits : LimitsValue) (tree : ℕ) (legs : List Leg) (before : Tape)
-    → leg_in tree legs ≡ None
-    → posts_in tree (asking limits legs before).tape.acts ≡ posts_in tree before.acts
-asking_keeps limits tree legs before none = by_test (is_short limits before.acts legs)
-  where
-    by_test : (short : Bool)
-        → posts_in tree (cond {A = Asked} short
-        (record { verdict = verdict.Quota; tape = before }) (record {
-          verdict = verdict_of legs before.reads;
-          tape = settled_legs legs (verdict_of legs before.reads)
-              (posted_and_read limits legs before);
-        })).tape.acts ≡ posts_in tree before.acts
-    by_test true = refl
-    by_test false = settled_keep limits tree legs before none (verdict_of legs before.reads)
-
+-- asking about rows of the limits posts nothing there
 rows_keep : (limits : LimitsValue) (rows : OrderRows) (values : List ℕ) (before : Tape)
     → AreRowsOf limits rows
     → KeepsHalt limits before.acts
     (asking limits (legs_of limits rows before.acts values) before).tape.acts
 rows_keep limits rows values before are =
-    asking_keeps limits (halt_tree limits) (legs_of limits rows before.acts values) before
-    (no_halt_leg limits rows before.acts values are)
+    let legs = legs_of limits rows before.acts values in
+    let none = no_halt_leg limits rows before.acts values are in
+    asking_is limits legs before (λ asked. KeepsHalt limits before.acts asked.tape.acts) refl
+    (asked_keeps limits legs before (halt_tree limits) none).posts
+    (λ answer why is. (back_keeps limits legs before (halt_tree limits) none).posts)
 
 -- what is taken up, whether or not the trees are asked
 taken_keeps : (asks : Bool) (limits : LimitsValue) (offer : Offer) (book next : BookValue)

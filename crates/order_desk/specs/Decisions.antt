@@ -1,6 +1,6 @@
 -- What is decided on an order, a cancel and a replace, as a function of the book, the acts and the
 -- reads.
-use Rattle.std.specs.Prelude.{◌≡◌, ℕ, List, ◌++◌, Option, Some, None, Result, Ok, Err, Bool}
+use Rattle.std.specs.Prelude.{◌≡◌, List, ◌++◌, Option, Some, None, Result, Ok, Err, Bool}
 use Rattle.std.specs.Prelude.{[], true, false, ◌||◌, nat_lt}
 use Rattle.std.specs.List.{list_any}
 use Rattle.fix_orders.specs.declared.message.NewOrder.{NewOrder}
