@@ -290,46 +290,40 @@ replace_told limits request book place order values is =
     let few = passes (nat_le request.quantity order.filled) fault.Quantity _ values other.1 in
     chosen _ _ values fault.Cap few.1
 
--- a replace that the book proposes
-replace_covers_on : (limits : LimitsValue) (request : Replace) (rows : OrderRows)
-    (values : Proposal) (book : BookValue) (before : Tape) (covers : Covers limits before.acts book)
-    (place : ℕ) → RequestsOn book request.orig place
-    → replace_of book request limits place (slice_get book.orders place) ≡ Ok values
-    → pair_of_order (order_with book request.orig) ≡ Some (rows.account, rows.symbol)
-    → IsCovered limits (tree_decided limits (offer_of_replace limits request rows values) book
-    (with_replace_pending request limits book) before)
-replace_covers_on limits request rows values book before covers place on is found =
-    let told = replace_told limits request book place on.order values
-    (ap (replace_of book request limits place) (sym on.found) ∙ is) in
-    let next : with_replace_pending request limits book
-    ≡ replaced limits book before covers request.orig place on request values told =
-    ap (replaced_at request limits book) on.at
-    ∙ ap (λ o. with_request request.id place (with_replace_in request limits o) book) on.found in
-    let pair : pair_of_order (order_with book request.orig)
-    ≡ Some (on.order.account, on.order.symbol) =
-    ap (λ p. pair_of_order (order_at book p)) on.at ∙ ap pair_of_order on.found in
-    let own = own_rows limits book before covers request.orig place on in
-    let same : own ≡ rows = ap rows_by (sym pair ∙ found) in
-    subst (λ (r : OrderRows). IsCovered limits (tree_decided limits
-    (offer_of_replace limits request r values) book (with_replace_pending request limits book)
-    before)) same
-    (subst (λ (b : BookValue). IsCovered limits (tree_decided limits
-    (offer_of_replace limits request own values) book b before)) (sym next)
-    (replace_taken limits book before covers request.orig place on request values told
-    (is_above_last (legs_of limits own before.acts (values_of values))) refl))
+-- a replace (G) that the book proposes
+module _ (limits : LimitsValue) (request : Replace) (rows : OrderRows) (values : Proposal)
+    (book : BookValue) (before : Tape) (covers : Covers limits before.acts book)
+    (found : pair_of_order (order_with book request.orig) ≡ Some (rows.account, rows.symbol)) where
+  abbrev taken : OrderRows → BookValue → Decision
+  taken own next = tree_decided limits (offer_of_replace limits request own values) book next before
 
--- a replace by what stands against it
-replace_covers_by : (limits : LimitsValue) (request : Replace) (rows : OrderRows)
-    (values : Proposal) (book : BookValue) (before : Tape) → Covers limits before.acts book
-    → (answer : Result ℕ BookFault) → requested book request.id request.orig ≡ answer
-    → proposed_at book request limits answer ≡ Ok values
-    → pair_of_order (order_with book request.orig) ≡ Some (rows.account, rows.symbol)
-    → IsCovered limits (tree_decided limits (offer_of_replace limits request rows values) book
-    (with_replace_pending request limits book) before)
-replace_covers_by limits request rows values book before covers (Err why) is given found = absurd cc
-replace_covers_by limits request rows values book before covers (Ok place) is given found =
-    replace_covers_on limits request rows values book before covers place
-    (requests_on book request.id request.orig place is) given found
+  replace_on : (place : ℕ) → RequestsOn book request.orig place
+      → replace_of book request limits place (slice_get book.orders place) ≡ Ok values
+      → IsCovered limits (taken rows (with_replace_pending request limits book))
+  replace_on place on is =
+      let told = replace_told limits request book place on.order values
+      (ap (replace_of book request limits place) (sym on.found) ∙ is) in
+      let next : with_replace_pending request limits book
+      ≡ replaced limits book before covers request.orig place on request values told =
+      ap (replaced_at request limits book) on.at
+      ∙ ap (λ o. with_request request.id place (with_replace_in request limits o) book) on.found in
+      let pair : pair_of_order (order_with book request.orig)
+      ≡ Some (on.order.account, on.order.symbol) =
+      ap (λ p. pair_of_order (order_at book p)) on.at ∙ ap pair_of_order on.found in
+      let own = own_rows limits book before covers request.orig place on in
+      let same : own ≡ rows = ap rows_by (sym pair ∙ found) in
+      subst (λ (r : OrderRows). IsCovered limits (taken r (with_replace_pending request limits book)))
+      same (subst (λ (b : BookValue). IsCovered limits (taken own b)) (sym next)
+      (replace_taken limits book before covers request.orig place on request values told
+      (is_above_last (legs_of limits own before.acts (values_of values))) refl))
+
+  -- by what stands against it
+  replace_by : (answer : Result ℕ BookFault) → requested book request.id request.orig ≡ answer
+      → proposed_at book request limits answer ≡ Ok values
+      → IsCovered limits (taken rows (with_replace_pending request limits book))
+  replace_by (Err why) is given = absurd cc
+  replace_by (Ok place) is given =
+      replace_on place (requests_on book request.id request.orig place is) given
 
 pub replace_covers : (limits : LimitsValue) (request : Replace) (screens : List ScreenValue)
     (book : BookValue) (before : Tape) → Covers limits before.acts book
@@ -342,8 +336,8 @@ replace_covers limits request screens book before covers =
     (λ rows values is.
     judged_is limits screens book before (IsCovered limits) (λ why. covers)
     (offer_of_replace limits request rows values) next
-    (replace_covers_by limits request rows values book before covers
-    (requested book request.id request.orig) refl is.proposed is.found))
+    (replace_by limits request rows values book before covers is.found
+    (requested book request.id request.orig) refl is.proposed))
 
 -- a cancel that the book proposed is committed
 pub sent_cancel_covers : (limits : LimitsValue) (request : Cancel) (acts : List Act)

@@ -39,35 +39,6 @@ module _ (limits : LimitsValue) (screens : List ScreenValue) (book : BookValue) 
 abbrev Choice : Type 0
 Choice = BookValue → Tape → Decision
 
--- decided with no act
-at_once_decides : (decide : Choice) (acts : List Act) (book after : BookValue)
-    (answer : Option Refusal)
-    → ((reads : List SeenAt) → decide book (tape acts reads)
-    ≡ record { refusal = answer; tape = tape acts reads; book = after })
-    → Decides decide acts acts book after answer
-at_once_decides decide acts book after answer is = record {
-  seen = [];
-  reads_are = sym (append-nil (reads_of acts));
-  decided = is;
-}
-
--- decided by another choice that comes to the same
-decides_as : (decide other : Choice) (acts acts_after : List Act)
-    (book after after_too : BookValue) (answer : Option Refusal)
-    → ((reads : List SeenAt) → other book (tape acts reads) ≡ decide book (tape acts reads))
-    → after ≡ after_too → Decides decide acts acts_after book after answer
-    → Decides other acts acts_after book after_too answer
-decides_as decide other acts acts_after book after after_too answer same is decides = record {
-  seen = decides.seen;
-  reads_are = decides.reads_are;
-  decided = λ more. same (decides.seen ++ more) ∙ decides.decided more
-      ∙ ap (λ (own : BookValue). record {
-        refusal = answer;
-        tape = tape acts_after more;
-        book = own;
-      }) is;
-}
-
 -- what is kept, whatever is read, is kept by what was decided
 pub decides_covers : (decide : Choice) (limits : LimitsValue) (acts acts_after : List Act)
     (book after : BookValue) (answer : Option Refusal)
@@ -88,9 +59,12 @@ module _ (limits : LimitsValue) (screens : List ScreenValue)
 
   pub unoffered_decides : (why : Refusal) → Err why ≡ offered book
       → Decides by_offer acts acts book book (Some why)
-  unoffered_decides why is =
-      at_once_decides by_offer acts book book (Some why)
-      (λ reads. ap (decided_on limits screens (next book) book (tape acts reads)) (sym is))
+  unoffered_decides why is = record {
+    seen = [];
+    reads_are = sym (append-nil (reads_of acts));
+    decided = λ reads.
+        ap (decided_on limits screens (next book) book (tape acts reads)) (sym is);
+  }
 
   pub offered_decides : (offer : Offer) (acts_after : List Act) (after : BookValue)
       (answer : Option Refusal) → Ok offer ≡ offered book
@@ -98,11 +72,18 @@ module _ (limits : LimitsValue) (screens : List ScreenValue)
       acts_after book (committed answer book (next book offer)) answer
       → committed answer book (next book offer) ≡ after
       → Decides by_offer acts acts_after book after answer
-  offered_decides offer acts_after after answer is decides kept =
-      decides_as (λ own before. judged limits screens offer own (next book offer) before) by_offer
-      acts acts_after book (committed answer book (next book offer)) after answer
-      (λ reads. ap (decided_on limits screens (next book) book (tape acts reads)) (sym is)) kept
-      decides
+  offered_decides offer acts_after after answer is decides kept = record {
+    seen = decides.seen;
+    reads_are = decides.reads_are;
+    decided = λ more.
+        ap (decided_on limits screens (next book) book (tape acts (decides.seen ++ more))) (sym is)
+        ∙ decides.decided more
+        ∙ ap (λ (own : BookValue). record {
+          refusal = answer;
+          tape = tape acts_after more;
+          book = own;
+        }) kept;
+  }
 
   -- what keeps the book covered, whatever is read, has kept it so
   pub offered_covers : (offer : Offer) (acts_after : List Act) (after : BookValue)
