@@ -102,15 +102,22 @@ module _ (limits : LimitsValue) (acts : List Act) (book : BookValue)
     );
   }
 
-  pub report_covers : (report : Report) → KeepsCover (outcome_of_report book report)
-  report_covers report =
+  pub report_keeps_cover : (report : Report) → KeepsCover (outcome_of_report book report)
+  report_keeps_cover report =
       report_comes book KeepsCover (record { covered = covers; tells = tt })
       (record { covered = covers; tells = tt }) lowered_keeps report
 
-  pub reject_covers : (reject : CancelReject) → KeepsCover (outcome_of_reject book reject)
-  reject_covers reject =
+  pub reject_keeps_cover : (reject : CancelReject) → KeepsCover (outcome_of_reject book reject)
+  reject_keeps_cover reject =
       reject_comes book KeepsCover (record { covered = covers; tells = tt })
       (record { covered = covers; tells = tt }) lowered_keeps reject
+
+  pub report_covers : (report : Report) → IsCovered limits (report_settled limits report book acts)
+  report_covers report = (report_keeps_cover report).covered
+
+  pub reject_covers : (reject : CancelReject)
+      → IsCovered limits (reject_settled limits reject book acts)
+  reject_covers reject = (reject_keeps_cover reject).covered
 
 -- what was settled is covered, by what the book applied
 pub settled_covers : (limits : LimitsValue) (acts acts_after : List Act) (book next : BookValue)
