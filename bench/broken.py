@@ -26,6 +26,14 @@ VALUES = {
     150: (b"", b"FF", b"f") + tuple(letter.encode() for letter in "0123456789ABCDEFGHI"),
     **{tag: (b"",) + IDS for tag in (49, 56, 52, 11, 41, 1, 55)},
 }
+# Cells of a limit file, by column.
+NUMBERS = ("", "0", "1", "16", "64", "65", "200000", "200001", "1000000", "1000001", "1000000000",
+           "1000000001", "999999999999", "1000000000000", "000000000001", "0000000000001", "-1",
+           "+1", "1.0", " 1", "1e3")
+NAMES = ("", "A", "ACC", "XYZ", " ", "a" * 64, "a" * 65, "\x1f", "\x7f", "\u00e9", "size")
+KINDS = ("firm", "account", "symbol", "trip", "quota", "repeat", "off", "", "Firm", "firm ", "size")
+BOUNDS = tuple(price.decode() for price in PRICES if b"," not in price)
+CELLS = (KINDS, NAMES, NUMBERS, BOUNDS, BOUNDS, NUMBERS)
 LENGTHS = (b"", b"0", b"x", b"-1", b" 5", b"8192", b"8193", b"9999999", b"10000000", b"00000000")
 
 
@@ -210,3 +218,25 @@ def change(dice, data):
     made = dice.choice(CHANGES)
     made(dice, frames, dice.randrange(len(frames)))
     return b"".join(frames), made.__name__
+
+
+def change_limits(dice, text):
+    """A limit file with a row or a cell changed; now and then with more rows than there may be."""
+    rows = text.split("\n")[:-1]
+    at, choice = dice.randrange(len(rows)), dice.randrange(10)
+    if choice < 6:
+        cells = rows[at].split(",")
+        column = dice.randrange(len(cells))
+        cells[column] = dice.choice(CELLS[min(column, 5)])
+        rows[at] = ",".join(cells)
+    elif choice == 6:
+        rows[at] = dice.choice((rows[at] + ",", rows[at][:-1], ""))
+    elif choice == 7:
+        del rows[at]
+    elif choice == 8:
+        rows.insert(dice.randint(0, len(rows)), rows[at])
+    else:
+        kind, most, rest = dice.choice((("off", 16, "1,,,"), ("account", 100, "1,,,"),
+                                        ("symbol", 400, "1,1,2,3")))
+        rows += [f"{kind},N{number},{rest}" for number in range(most - dice.randrange(3))]
+    return "".join(row + "\n" for row in rows)

@@ -25,14 +25,15 @@ import broken
 import loads
 from model.book import Book
 from model.frames import next_frame
-from model.judge import Wrong, judge_run
-from model.limits import Limits
+from model.judge import Wrong, demand, judge_run
+from model.limits import Limits, first_fault
 from model.screens import own_screens
 from model.session import ENDS, Session, take_frames
 from rows import ROWS, base
 from stress import PROGRAM, call, count, results
 
-# What the program answers to a limit file that isn't served.
+# The status of a limit file with a fault, and what is answered to one that isn't served.
+FAULTY = 3
 NOT_BUILT = (9, b"not built\n")
 CHUNK = 100
 
@@ -160,6 +161,10 @@ def made(seed, number, counts):
         limits = limits_of(dice)
         inputs = [session_of(dice, session, limits)
                   for session in range(dice.choice((1, 1, 2, 3, 4)))]
+    if dice.random() < 0.1:
+        counts["change", "limits"] += 1
+        for _ in range(dice.choice((1, 1, 2))):
+            limits = broken.change_limits(dice, limits)
     return limits, [changed(dice, data, counts) for data in inputs]
 
 
@@ -168,7 +173,12 @@ def wrong_of(program, limits, inputs, counts, keep=None):
     with tempfile.TemporaryDirectory() as folder:
         try:
             done, out = call(program, folder, limits, inputs)
-            if Limits(limits).off and (done.returncode, done.stdout) == NOT_BUILT:
+            fault, answer = first_fault(limits), (done.returncode, done.stdout)
+            if fault:
+                wanted = FAULTY, b"limits fault %d row %d\n" % fault
+                demand(answer == wanted, "a limit file's fault", wanted, answer)
+                counts.update(("runs", ("fault", fault[0])))
+            elif Limits(limits).off and answer == NOT_BUILT:
                 counts.update(("runs", "not built"))
             else:
                 acts = judge_run(limits, inputs, *results(done, out, len(inputs)))
@@ -248,8 +258,10 @@ def tell(counts, seconds):
     states = [value for _, value in of_kind(counts, "state")]
     causes = ", ".join(f"{code}: {counts['refused', code]:,}" for code in range(1, 17))
     notes = ", ".join(f"{code}: {counts['noted', code]:,}" for code in range(1, 7))
+    faults = ", ".join(f"{code}: {counts['fault', code]:,}" for code in range(1, 9))
     print(f"{counts['runs']:,} runs of {counts['sessions']:,} sessions with {counts['frames']:,} "
           f"frames, {seconds:.0f} s; not built: {counts['not built']:,}")
+    print(f"faults of limit files  {faults}")
     print(f"changes  {changes}")
     print(f"ends  {ends}")
     print(f"{sum(states):,} reports of known orders, of {len(states)} kinds: what the order is, "

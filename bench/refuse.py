@@ -1,17 +1,17 @@
 #!/usr/bin/env python3
 """Refuses each allocation of the built program in turn, over worked runs, and judges what it does.
 
-usage: refuse.py [--gate PATH] [--keep FOLDER] [--most N] [RUN...]      every run of rows.py
+usage: refuse.py [--onward] [--gate PATH] [--keep FOLDER] [--most N] [RUN...]   all runs of rows.py
 
 `refuse/refuse.c`, which `cc` makes here, is loaded in front of the C library's malloc. The first
 allocation is refused, then in a run of its own the second, and so on, until a run makes fewer than
-that. Sessions are tasks, so how many a run makes, and which is which, differs a little from run to
-run. Each run has to end with status 8 or as it does with ample memory: with one session the same
-bytes, text and status; with several a run that the judge of `stress.py` takes. Where it ends with 8
-and a whole journal stands, each session has to be judged too: one that ended for want of memory has
-the acts and messages of a number of first frames, so no post without its frame's verdict. It ends
-with status 1 at the first run that does otherwise, whose files it leaves in FOLDER, where one is
-given.
+that; with `--onward` all behind it are refused too. Sessions are tasks, so how many a run makes, and
+which is which, differs a little from run to run. Each run has to end with status 8 or as it does
+with ample memory: with one session the same bytes, text and status; with several a run that the
+judge of `stress.py` takes. Where it ends with 8 and a whole journal stands, that has to be legal,
+and each session is judged: one that ended for want of memory has the acts and messages of a number
+of first frames, so no post without its frame's verdict. It ends with status 1 at the first run that
+does otherwise, whose files it leaves in FOLDER, where one is given.
 """
 import argparse
 import os
@@ -66,11 +66,13 @@ class Done:
         return self.status, self.told, self.files
 
 
-def run(program, loaded, folder, worked, refused):
+def run(asked, loaded, folder, worked, refused):
     """Runs the program in a folder, with the allocation of this number refused."""
     told = write(folder, "asked", bytes(8))
     world = {**os.environ, "LD_PRELOAD": loaded, "REFUSE_AT": str(refused), "REFUSE_TELL": told}
-    done, out = call(program, folder, worked.limits, worked.inputs, env=world, timeout=SECONDS)
+    if asked.onward:
+        world["REFUSE_ONWARD"] = "1"
+    done, out = call(asked.gate, folder, worked.limits, worked.inputs, env=world, timeout=SECONDS)
     demand(not done.stderr, "it wrote to standard error", done.stderr)
     return Done(done, out, int.from_bytes(read(folder, "asked"), sys.byteorder))
 
@@ -117,13 +119,13 @@ def judge(worked, ample, done, counts):
     counts["sessions ended by memory"] += ended or 0
 
 
-def refuse_each(program, loaded, name, asked):
+def refuse_each(asked, loaded, name):
     """Refuses each allocation of a worked run in turn. Gives what came."""
     worked, counts, number, ample = RUNS[name], Counter(), 0, None
     while number <= asked.most:
         with tempfile.TemporaryDirectory() as folder:
             try:
-                done = run(program, loaded, folder, worked, number)
+                done = run(asked, loaded, folder, worked, number)
                 ample = ample or done
                 if done.asked < number:
                     break
@@ -142,6 +144,7 @@ def arguments():
     """What the command line asks for."""
     parser = argparse.ArgumentParser()
     parser.add_argument("--gate", default=PROGRAM)
+    parser.add_argument("--onward", action="store_true")
     parser.add_argument("--keep")
     parser.add_argument("--most", type=int, default=100_000)
     parser.add_argument("runs", nargs="*", metavar="RUN")
@@ -153,7 +156,7 @@ def main():
     with tempfile.TemporaryDirectory() as folder:
         loaded = library(folder)
         for name in asked.runs or RUNS:
-            counts = refuse_each(asked.gate, loaded, name, asked)
+            counts = refuse_each(asked, loaded, name)
             print(f"{name}: {counts['runs']:,} runs, each with another allocation refused: "
                   f"{counts['status 8']:,} with status 8, "
                   f"{counts['as with ample memory']:,} as with ample memory; a journal stood in "

@@ -1,7 +1,8 @@
-/* A malloc in front of the C library's. It counts what a process asks for, and refuses one of it.
+/* A malloc in front of the C library's. It counts what a process asks for, and refuses some of it.
  *
- * REFUSE_AT    the number of the allocation that is refused, from 1; 0 or nothing: none is
- * REFUSE_TELL  a file of eight bytes, in which the number of allocations stands at any time
+ * REFUSE_AT      the number of the allocation that is refused, from 1; 0 or nothing: none is
+ * REFUSE_ONWARD  where it is set, all that come after that one are refused too
+ * REFUSE_TELL    a file of eight bytes, in which the number of allocations stands at any time
  *
  * What the C library asks for itself, to make a thread for instance, is counted with the rest. */
 #include <errno.h>
@@ -19,6 +20,7 @@ void *__libc_memalign(size_t align, size_t size);
 
 static atomic_ulong *asked;
 static unsigned long refused_one;
+static int goes_on;
 
 /* Counting begins here, with the program's own first steps. */
 __attribute__((constructor)) static void begin(void) {
@@ -28,14 +30,19 @@ __attribute__((constructor)) static void begin(void) {
   if (file < 0)
     return;
   refused_one = at ? strtoul(at, NULL, 10) : 0;
+  goes_on = getenv("REFUSE_ONWARD") != NULL;
   shared = mmap(NULL, sizeof *asked, PROT_READ | PROT_WRITE, MAP_SHARED, file, 0);
   asked = shared == MAP_FAILED ? NULL : shared;
   close(file);
 }
 
-/* Counts one more, and says whether it is the one that is refused. */
+/* Counts one more, and says whether it is refused. */
 static int is_refused(void) {
-  if (!asked || atomic_fetch_add(asked, 1) + 1 != refused_one)
+  unsigned long number;
+  if (!asked)
+    return 0;
+  number = atomic_fetch_add(asked, 1) + 1;
+  if (!refused_one || number < refused_one || (number > refused_one && !goes_on))
     return 0;
   errno = ENOMEM;
   return 1;
