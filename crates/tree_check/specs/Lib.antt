@@ -1,0 +1,4 @@
+pub mod Reads
+pub mod Walked
+pub mod Staying
+pub mod Buckets
