@@ -128,6 +128,15 @@ class Program(unittest.TestCase):
         _, wrong = fuzz.chunk(SimpleNamespace(seed=2, gate=GATE), range(100))
         self.assertIsNone(wrong)
 
+    def test_each_front_of_a_frame(self):
+        """Also of frames whose BodyLength is of too many digits, of none, or no number."""
+        lengths = (b"", b"0", b"x", b"5", b"0000005", b"00000005", b"8192", b"8193", b"9999999")
+        frames = [broken.HEAD + length + b"\x0135=0\x0110=163\x01" for length in lengths]
+        fronts = [frame[:end] for frame in frames + [FIRST] for end in range(len(frame) + 1)]
+        for at in range(0, len(fronts), 32):
+            inputs = fronts[at:at + 32]
+            self.assertIsNone(fuzz.wrong_of(GATE, base(1_000), inputs, Counter()), inputs)
+
     @unittest.skipUnless(shutil.which("cc"), "there is no C compiler")
     def test_refused_allocations(self):
         """The first ten of the race."""
