@@ -60,6 +60,16 @@ class Broken(unittest.TestCase):
                     found = next_frame(frames[0], 0)
                     self.assertEqual((found.start, found.end), (0, len(frames[0])))
 
+    def test_a_field_has_the_value_that_it_is_given(self):
+        """In each kind of message, for a field that it is read of; and no other field changes."""
+        for kind, tag in (("D", 38), ("F", 41), ("G", 44), ("8", 31), ("9", 11)):
+            with self.subTest(kind):
+                frame = fuzz.asked_of(kind, 0)[1]
+                given = next_frame(broken.with_value(frame, tag, b"7"), 0).fields
+                wanted = [(own, b"7" if own == tag else value)
+                          for own, value in next_frame(frame, 0).fields]
+                self.assertEqual(given, wanted)
+
     def test_what_is_split_is_the_input(self):
         """Frames and the rest behind them, with what is passed over."""
         data = b"\r\n" + FIRST + b"\n" + FIRST[:40]
