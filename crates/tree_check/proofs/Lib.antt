@@ -7,3 +7,4 @@ pub mod PlaceSteps
 pub mod Standings
 pub mod WalkedReads
 pub mod Within
+pub mod Answered

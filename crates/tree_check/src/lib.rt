@@ -5,6 +5,7 @@
 //! Of a legal history both are so: that is a law here, and what a run owes is told where it runs.
 #![tactic(auto)]
 
+mod agreeing;
 mod buckets;
 mod laws;
 mod read_at;
@@ -12,6 +13,7 @@ mod standing;
 mod staying;
 mod walking;
 
+pub use agreeing::{ToldTree, trees_agree};
 pub use laws::{legal_reads_are_walked, staying_is_within};
 pub use read_at::{ReadAt, reads_by_tree};
 pub use staying::stays_within;
