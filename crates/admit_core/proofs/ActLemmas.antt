@@ -4,8 +4,7 @@ use Rattle.std.proofs.Common.{arith, false, Bool, cond}
 use Rattle.std.specs.Prelude.{count_by, fold}
 use Rattle.std.proofs.lemmas.List.Sums.{fold-append, sum_by-append}
 use Rattle.risk_journal.specs.declared.acts.Act.{Act}
-use Rattle.risk_journal.specs.declared.acts.Act.TheVariants.{Post, Read, Sent, Refused, Noted}
-use Rattle.risk_journal.specs.declared.acts.Act.TheVariants.{Ended}
+use Rattle.risk_journal.specs.declared.acts.Act.TheVariants.{Post, Read}
 use Rattle.risk_journal.specs.ActLists.{SeenAt, posts_in, last_post, latest, is_post_act_in}
 use Rattle.risk_journal.specs.ActLists.{reads_of}
 
@@ -36,7 +35,4 @@ reads_of-append (Read tree stamp place value ∷ xs) ys =
     let seen : SeenAt = record { stamp = stamp; place = place; value = value } in ap
     (λ rs. seen ∷ rs) (reads_of-append xs ys)
 reads_of-append (Post tree index value ∷ xs) ys = reads_of-append xs ys
-reads_of-append (Sent frame ∷ xs) ys = reads_of-append xs ys
-reads_of-append (Refused frame code first second ∷ xs) ys = reads_of-append xs ys
-reads_of-append (Noted frame code first second ∷ xs) ys = reads_of-append xs ys
-reads_of-append (Ended end ∷ xs) ys = reads_of-append xs ys
+reads_of-append (note ∷ xs) ys = reads_of-append xs ys

@@ -7,8 +7,7 @@ use Rattle.risk_board.specs.Calls.{post_count, is_post_in}
 use Rattle.risk_board.specs.declared.hand.Call.{Call}
 use Rattle.risk_board.specs.declared.hand.Call.TheVariants as call
 use Rattle.risk_journal.specs.declared.acts.Act.{Act}
-use Rattle.risk_journal.specs.declared.acts.Act.TheVariants.{Post, Read, Sent, Refused, Noted}
-use Rattle.risk_journal.specs.declared.acts.Act.TheVariants.{Ended}
+use Rattle.risk_journal.specs.declared.acts.Act.TheVariants.{Post, Read}
 use Rattle.risk_journal.specs.ActLists.{posts_in, is_post_act_in}
 use Rattle.risk_journal.specs.ActLists.{calls_below, calls_at}
 use Rattle.admit_core.proofs.ActLemmas.{count_by-cons, count_by-skips}
@@ -28,10 +27,7 @@ calls_below-append count (Post tree index value ∷ xs) ys =
 calls_below-append count (Read tree stamp place value ∷ xs) ys =
     call_in_front (nat_lt tree count) (call.Read tree stamp value) (calls_below count xs)
     (calls_below count (xs ++ ys)) (calls_below count ys) (calls_below-append count xs ys)
-calls_below-append count (Sent frame ∷ xs) ys = calls_below-append count xs ys
-calls_below-append count (Refused frame code first second ∷ xs) ys = calls_below-append count xs ys
-calls_below-append count (Noted frame code first second ∷ xs) ys = calls_below-append count xs ys
-calls_below-append count (Ended end ∷ xs) ys = calls_below-append count xs ys
+calls_below-append count (note ∷ xs) ys = calls_below-append count xs ys
 
 pub calls_at-append : (tree : ℕ) (xs ys : List Act)
     → calls_at tree (xs ++ ys) ≡ calls_at tree xs ++ calls_at tree ys
@@ -42,10 +38,7 @@ calls_at-append tree (Post in_tree index value ∷ xs) ys =
 calls_at-append tree (Read in_tree stamp place value ∷ xs) ys =
     call_in_front (in_tree == tree) (call.Read 0 stamp value) (calls_at tree xs)
     (calls_at tree (xs ++ ys)) (calls_at tree ys) (calls_at-append tree xs ys)
-calls_at-append tree (Sent frame ∷ xs) ys = calls_at-append tree xs ys
-calls_at-append tree (Refused frame code first second ∷ xs) ys = calls_at-append tree xs ys
-calls_at-append tree (Noted frame code first second ∷ xs) ys = calls_at-append tree xs ys
-calls_at-append tree (Ended end ∷ xs) ys = calls_at-append tree xs ys
+calls_at-append tree (note ∷ xs) ys = calls_at-append tree xs ys
 
 -- a tree that isn't below a number isn't one that is
 above_is_other : (in_tree tree count : ℕ) → tree < count → nat_lt in_tree count ≡ false
@@ -84,16 +77,8 @@ post_count-below count tree inside (Read t stamp place value ∷ xs) =
     by_test false later =
         later
         ∙ sym (count_by-skips tree (Read t stamp place value) xs refl)
-post_count-below count tree inside (Sent frame ∷ xs) = post_count-below count tree inside xs
-    ∙ sym (count_by-skips tree (Sent frame) xs refl)
-post_count-below count tree inside (Refused frame code first second ∷ xs) =
-    post_count-below count tree inside xs
-    ∙ sym (count_by-skips tree (Refused frame code first second) xs refl)
-post_count-below count tree inside (Noted frame code first second ∷ xs) =
-    post_count-below count tree inside xs
-    ∙ sym (count_by-skips tree (Noted frame code first second) xs refl)
-post_count-below count tree inside (Ended end ∷ xs) = post_count-below count tree inside xs
-    ∙ sym (count_by-skips tree (Ended end) xs refl)
+post_count-below count tree inside (note ∷ xs) =
+    post_count-below count tree inside xs ∙ sym (count_by-skips tree note xs refl)
 
 -- the posts of a hand on one tree alone are those of the acts in it
 pub post_count-at : (tree : ℕ) (acts : List Act)
@@ -123,11 +108,5 @@ post_count-at tree (Read t stamp place value ∷ xs) =
         ∙ sym (count_by-cons (is_post_act_in tree) (Read t stamp place value) xs)
     by_test false later =
         later ∙ sym (count_by-skips tree (Read t stamp place value) xs refl)
-post_count-at tree (Sent frame ∷ xs) =
-    post_count-at tree xs ∙ sym (count_by-skips tree (Sent frame) xs refl)
-post_count-at tree (Refused frame code first second ∷ xs) =
-    post_count-at tree xs ∙ sym (count_by-skips tree (Refused frame code first second) xs refl)
-post_count-at tree (Noted frame code first second ∷ xs) =
-    post_count-at tree xs ∙ sym (count_by-skips tree (Noted frame code first second) xs refl)
-post_count-at tree (Ended end ∷ xs) =
-    post_count-at tree xs ∙ sym (count_by-skips tree (Ended end) xs refl)
+post_count-at tree (note ∷ xs) =
+    post_count-at tree xs ∙ sym (count_by-skips tree note xs refl)

@@ -14,6 +14,5 @@ pub mod OwnStandings
 pub mod OwnSteps
 pub mod Standings
 pub mod Steps
-pub mod TreeTests
 pub mod Tripped
 pub mod Within

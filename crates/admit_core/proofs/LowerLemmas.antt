@@ -1,7 +1,8 @@
 -- Lower values in three trees, one after another: what was last posted in one stays where another falls.
-use Rattle.std.proofs.Common.{◌≡◌, ℕ, ◌==◌, List, refl, sym, ap, ◌∙◌, Bool, true, false}
-use Rattle.std.proofs.Common.{◌&&◌}
+use Rattle.std.proofs.Common.{◌≡◌, ℕ, ◌<◌, ◌&&◌, List, refl, sym, ap, ◌∙◌}
+use Rattle.std.proofs.Common.{arith, Bool, true, false}
 use Rattle.std.specs.Prelude.{slice_index}
+use Rattle.std.proofs.lemmas.Bool.{ne_eqb}
 use Rattle.limit_table.specs.Trees.{LimitsValue, account_tree, symbol_tree}
 use Rattle.risk_journal.specs.declared.acts.Act.{Act}
 use Rattle.risk_journal.specs.ActLists.{last_post}
@@ -10,7 +11,6 @@ use Rattle.admit_core.specs.declared.rows.OrderRows.{OrderRows}
 use Rattle.admit_core.specs.Legs.{Leg, leg_with, legs_of, AreRowsOf}
 use Rattle.admit_core.specs.Lowering.{Lowered, lowered_to, lowered_in, lowering}
 use Rattle.admit_core.proofs.LoweredTrees.{lowers_one, one_keeps}
-use Rattle.admit_core.proofs.TreeTests.{TreeTests, tree_tests}
 
 -- what one call does is what the leg says, where nothing was posted in its tree since
 lowers_as : (limits : LimitsValue) (leg : Leg) (quota tree : ℕ) (acts now : List Act)
@@ -51,20 +51,18 @@ module _ (limits : LimitsValue) (rows : OrderRows) (acts : List Act) (values : L
   abbrev three : Lowered
   three = lowered_in limits symbol_leg two.acts
 
-  tests : TreeTests limits rows
-  tests = tree_tests limits rows are
-
-  kept : (leg : Leg) (tree : ℕ) (before : List Act) → (leg.tree == tree) ≡ false
+  kept : (leg : Leg) (tree : ℕ) (before : List Act) → leg.tree < tree
       → last_post tree (lowered_in limits leg before).acts ≡ last_post tree before
-  kept leg tree before apart = (one_keeps limits.quota tree leg before
-      (lowered_in limits leg before).acts apart (lowers_one limits leg before)).last
+  kept leg tree before below = (one_keeps limits.quota tree leg before
+      (lowered_in limits leg before).acts
+      (ne_eqb leg.tree tree (λ e. absurd (omega (arith, e, below)))) (lowers_one limits leg before)).last
 
   account_kept : last_post account one.acts ≡ last_post account acts
-  account_kept = kept firm_leg account acts tests.firm_account
+  account_kept = kept firm_leg account acts (omega arith)
 
   symbol_kept : last_post symbol two.acts ≡ last_post symbol acts
-  symbol_kept = kept account_leg symbol one.acts tests.account_symbol
-      ∙ kept firm_leg symbol acts tests.firm_symbol
+  symbol_kept = kept account_leg symbol one.acts (omega (arith, are.account))
+      ∙ kept firm_leg symbol acts (omega arith)
 
   module _ (quota : ℕ) (quota_is : quota ≡ limits.quota) (first : Lowered)
       (firm : first ≡ lowered_to quota 0 (slice_index values 0) acts) where

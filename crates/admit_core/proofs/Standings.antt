@@ -6,8 +6,7 @@ use Rattle.std.proofs.lemmas.List.Sums.{fold-append}
 use Rattle.risk_board.specs.History.{Event}
 use Rattle.risk_board.specs.History.Event.{Posted, Saw}
 use Rattle.risk_journal.specs.declared.acts.Act.{Act}
-use Rattle.risk_journal.specs.declared.acts.Act.TheVariants.{Post, Read, Sent, Refused, Noted}
-use Rattle.risk_journal.specs.declared.acts.Act.TheVariants.{Ended}
+use Rattle.risk_journal.specs.declared.acts.Act.TheVariants.{Post, Read}
 use Rattle.risk_journal.specs.ActLists.{SeenAt, posts_in, last_post, latest}
 use Rattle.risk_journal.specs.ActLists.{events_of}
 use Rattle.admit_core.specs.Admitted.{Standing, nothing, after_event, after_post, after_read}
@@ -32,10 +31,7 @@ events_of-append tree (Post in_tree index value ∷ first) later =
 events_of-append tree (Read in_tree stamp place value ∷ first) later =
     counted_in_front (in_tree == tree) (Saw stamp place value) (events_of tree first)
     (events_of tree (first ++ later)) (events_of tree later) (events_of-append tree first later)
-events_of-append tree (Sent frame ∷ first) later = events_of-append tree first later
-events_of-append tree (Refused frame code one two ∷ first) later = events_of-append tree first later
-events_of-append tree (Noted frame code one two ∷ first) later = events_of-append tree first later
-events_of-append tree (Ended end ∷ first) later = events_of-append tree first later
+events_of-append tree (note ∷ first) later = events_of-append tree first later
 
 -- how a session stands in a tree after these acts
 abbrev pub standing_of : ℕ → ℕ → List Act → Standing
@@ -145,11 +141,7 @@ posted_from limit tree start (Read in_tree stamp place value ∷ acts) =
         (events_of tree acts))).posted ≡ fold (latest tree) start.posted acts
     by_test true later = later (after_read limit value start)
     by_test false later = later start
-posted_from limit tree start (Sent frame ∷ acts) = posted_from limit tree start acts
-posted_from limit tree start (Refused frame code one two ∷ acts) =
-    posted_from limit tree start acts
-posted_from limit tree start (Noted frame code one two ∷ acts) = posted_from limit tree start acts
-posted_from limit tree start (Ended end ∷ acts) = posted_from limit tree start acts
+posted_from limit tree start (note ∷ acts) = posted_from limit tree start acts
 
 pub posted-last_post : (limit tree : ℕ) (acts : List Act)
     → (standing_of limit tree acts).posted ≡ last_post tree acts

@@ -20,7 +20,7 @@ const UNREAD: Seen = Seen { stamp: 0, value: 0 };
 /// be left in one of the trees, it makes no call at all.
 ///
 /// The order of the calls matters: whoever tripped the halt tree before the last of these posts is seen
-/// by the read after it.
+/// by the read after it. Each answer has its clause, which makes the head longer than others.
 pub fn admit<H: Hand, M: Hand>(hands: &mut Hands<H, M>, ask: &Ask) -> Outcome
     requires legs { All (IsLegOf hands.old.halt_tree hands.old.acts) (legs_asked ask.now) }
     requires apart { AllPairs AreApart (legs_asked ask.now) }

@@ -33,7 +33,8 @@ pub fn lower<H: Hand, M: Hand>(hands: &mut Hands<H, M>, tree: u32, value: u64) -
 
 /// Posts each of the three values, of the firm, the account and the symbol of these rows, that is
 /// below what was last posted in its tree, where a post is left there. False exactly where none is
-/// left for one of them. No root is read.
+/// left for one of them. No root is read. The three legs are named in three clauses, which makes the
+/// head longer than others.
 pub fn lower_all<H: Hand, M: Hand>(
     hands: &mut Hands<H, M>,
     limits: &Limits,

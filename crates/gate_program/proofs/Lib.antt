@@ -1,6 +1,5 @@
 pub mod Lists
 pub mod LimitFiles
-pub mod LimitQuota
 pub mod LimitTexts
 pub mod Chains
 pub mod Outputs
@@ -21,3 +20,4 @@ pub mod Ran
 pub mod Ways
 pub mod Sessions
 pub mod WholeInputs
+pub mod JournalPieces

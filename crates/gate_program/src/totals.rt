@@ -1,24 +1,26 @@
 //! The totals of a run, as text.
 ghost use Rattle.std.specs.Prelude.{◌≡◌, ◌^◌, ◌≤◌, ◌<◌, length, map, All, IfOk, count_by};
 ghost use Rattle.std.specs.List.{AllByRecursion};
-ghost use Rattle.limit_table.specs.Files.{IsHeldByFile};
 ghost use Rattle.risk_board.specs.History.{array_after};
-ghost use Rattle.session_engine.specs.Trees.{halt_tree, fold_of, limit_of};
+ghost use Rattle.limit_table.specs.Trees.{halt_tree, fold_of, limit_of};
 ghost use Rattle.gate_program.specs.Totals.{HasTotal, HaveTotals};
 ghost use Rattle.gate_program.specs.Statuses.{number_of};
 ghost use Rattle.gate_program.specs.Totals.{is_sent, is_refused, is_noted, session_total};
-ghost use Rattle.gate_program.specs.Totals.{session_totals, kind_of, name_of, or_zero, tree_total};
+ghost use Rattle.gate_program.specs.Totals.{session_totals, total_at, IsCountable, kind_of, name_of, or_zero, tree_total};
 ghost use Rattle.gate_program.specs.Totals.{tree_totals_from, totals_of};
 ghost use Rattle.gate_program.specs.Words.{session_most};
 
 use crate::status::Status;
 use fold_law::{Max, Memory, Sum, whole};
+use fork_all::map_all;
 use limit_table::Limits;
 use risk_board::{Line, components};
 use risk_journal::{
     Act, End, Id64, Journal, SessionTotal, Totals, TreeKind, TreeTotal, write_totals,
 };
 use std::alloc::Global;
+use std::thread::Threads;
+use trail_replay::numbers;
 
 /// How many orders were sent.
 fn count_sent(acts: &[Act]) -> u32
@@ -63,25 +65,28 @@ fn session_total(end: End, acts: &[Act]) -> SessionTotal
     }
 }
 
-/// The totals of sessions with these ends and acts.
-fn session_totals(
+/// The totals of sessions with these ends and acts, side by side.
+fn session_totals<R: Threads + Sync>(
+    rt: &R,
     alloc: Global,
     ends: &[End],
     acts: &[Vec<Act>],
 ) -> Result<Vec<SessionTotal>, Memory>
     requires ends { length ends.now ≡ length acts.now }
+    requires few { length acts.now < 2 ^ 32 }
     requires acts { All (λ own. length own.items < 2 ^ 32) acts.now }
     ensures { IfOk result (λ all.
         all.items ≡ session_totals ends.now (map (λ own. own.items) acts.now)) }
 {
-    let mut all = Vec::new(alloc);
-    for session in 0..ends.len() {
-        let total = session_total(ends[session], acts[session].as_slice());
-        let Ok(()) = all.push(total) else {
-            return Err(Memory);
-        };
+    let sessions = numbers(alloc, acts.len() as u32)?;
+    let total = |session: u32| -> SessionTotal
+        requires { IsCountable ends.now (map (λ own. own.items) acts.now) session }
+        ensures { result ≡ total_at ends.entry.now (map (λ own. own.items) acts.entry.now) session }
+    { session_total(ends[session as usize], &acts[session as usize]) };
+    match map_all(rt, alloc, sessions, &total) {
+        Ok(all) => Ok(all),
+        Err(_) => Err(Memory),
     }
-    Ok(all)
 }
 
 /// What the limit file says of a tree.
@@ -94,18 +99,17 @@ struct Row {
 
 /// What the limit file says of the tree of this number.
 fn row_of(limits: &Limits, tree: usize) -> Row
-    requires { IsHeldByFile limits.now }
     ensures kind { result.kind ≡ kind_of limits.now tree }
     ensures name { result.name ≡ name_of limits.now tree }
     ensures limit { result.limit ≡ or_zero (limit_of limits.now tree) }
 {
-    let accounts = limits.accounts.rows();
-    let symbols = limits.symbols.rows();
+    let accounts = limits.accounts();
+    let symbols = limits.symbols();
     if tree == 0 {
         Row {
             kind: TreeKind::Firm,
             name: Id64::of(b"-"),
-            limit: limits.firm,
+            limit: limits.firm(),
         }
     } else if tree < 1 + accounts.len() {
         let row = &accounts[tree - 1];
@@ -153,7 +157,6 @@ fn tree_total(
     tree: usize,
     lines: &[Line],
 ) -> Result<TreeTotal, Memory>
-    requires held { IsHeldByFile limits.now }
     requires few { sessions ≤ session_most }
     requires lines { HasTotal sessions lines.now }
     ensures { IfOk result (λ total. total ≡ tree_total limits.now sessions tree lines.now) }
@@ -181,7 +184,6 @@ fn tree_totals(
     sessions: usize,
     lines: &[Vec<Line>],
 ) -> Result<Vec<TreeTotal>, Memory>
-    requires held { IsHeldByFile limits.now }
     requires few { sessions ≤ session_most }
     requires lines { HaveTotals sessions (map (λ own. own.items) lines.now) }
     ensures { IfOk result (λ all. all.items
@@ -198,14 +200,14 @@ fn tree_totals(
 }
 
 /// The text of the totals of a run with this journal, these ends and this status.
-pub(crate) fn totals_text(
+pub(crate) fn totals_text<R: Threads + Sync>(
+    rt: &R,
     alloc: Global,
     limits: &Limits,
     journal: &Journal,
     ends: &[End],
     status: Status,
 ) -> Result<Vec<u8>, Memory>
-    requires held { IsHeldByFile limits.now }
     requires few { length journal.now.acts.items ≤ session_most }
     requires ends { length ends.now ≡ length journal.now.acts.items }
     requires acts { All (λ own. length own.items < 2 ^ 32) journal.now.acts.items }
@@ -215,7 +217,7 @@ pub(crate) fn totals_text(
         (map (λ own. own.items) journal.now.acts.items) ends.now
         (map (λ own. own.items) journal.now.lines.items) (number_of status)) }
 {
-    let sessions = session_totals(alloc, ends, &journal.acts)?;
+    let sessions = session_totals(rt, alloc, ends, &journal.acts)?;
     let trees = tree_totals(alloc, limits, journal.acts.len(), &journal.lines)?;
     let totals = Totals {
         sessions,

@@ -19,3 +19,5 @@ pub mod PreparedTables
 pub mod Leaves
 pub mod Totals
 pub mod ReplayedTrees
+pub mod GrownBlocks
+pub mod Descending

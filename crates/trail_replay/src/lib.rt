@@ -13,6 +13,7 @@
 
 mod array;
 mod blocks;
+mod descent;
 mod histories;
 mod history;
 mod laws;
@@ -22,7 +23,7 @@ mod reads;
 mod tree_posts;
 mod walk;
 
-pub use histories::{Histories, add_histories};
+pub use histories::{Histories, add_histories, numbers};
 pub use history::{History, at, place};
 pub use laws::{
     closed_records_are_lawful, components_are_leaves, histories_are_legal,

@@ -13,6 +13,5 @@ invariant_of-hands g c =
     let room = rw (← c.hands.view_is) at c.requires.room in
     let slot : vec_len c.push_reserved.new.self < vec_capacity c.push_reserved.new.self =
     omega (arith, room, c.push_reserved.ensures.len, c.push_reserved.ensures.capacity) in
-    let none = rw (← c.hands.view_is) at c.requires.untripped in
     rw (c.post.ensures.added, c.push_reserved.ensures.items)
-    (tripped _ _ _ _ _ _ c.hands.invariant.0 none 1, slot)
+    (tripped _ _ _ _ _ _ c.hands.invariant.0 1 1, slot)

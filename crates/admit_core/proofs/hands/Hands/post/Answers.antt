@@ -22,13 +22,8 @@ invariant_of-self g c =
     let slot : vec_len c.push_reserved.new.self < vec_capacity c.push_reserved.new.self =
     omega (arith, room, c.push_reserved.ensures.len, c.push_reserved.ensures.capacity) in
     let inside = rw (← c.self.view_is) at c.requires.tree in
-    let left = rw (← c.self.view_is) at c.requires.left in
-    rw (
-      c.post.ensures.added,
-      c.push_reserved.ensures.items,
-      index_is _ _ _ _ _ _ c.self.invariant.0 c.args.tree inside left c.left.result c.left.ensures,
-    )
-    (posted _ _ _ _ _ _ c.self.invariant.0 c.args.tree inside c.args.value c.requires.capped, slot)
+    rw (c.post.ensures.added, c.push_reserved.ensures.items)
+    (posted _ _ _ _ _ _ c.self.invariant.0 c.args.tree _ c.args.value inside c.requires.capped, slot)
 
 pub returns-clause-acts : goal.returns-clause-acts
 returns-clause-acts g c =

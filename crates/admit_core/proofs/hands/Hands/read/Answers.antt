@@ -13,7 +13,7 @@ invariant_of-self g c = elim c.if-tree-self.branch [
       let slot : vec_len c.push_reserved.new.self < vec_capacity c.push_reserved.new.self =
       omega (arith, room, len, capacity) in
       rw (c.push_reserved.ensures.items, w.self-inside-is, w.seen-is, w.read-seen.ensures.added)
-      (read_halt _ _ _ _ _ _ c.self.invariant.0 c.args.tree w.if-tree-self.true w.read-seen.result, slot)
+      (read_halt _ _ _ _ _ _ c.self.invariant.0 c.args.tree _ 0 _ w.if-tree-self.true, slot)
   | else-tree-self w ↦
       let room = rw (← c.self.view_is) at c.requires.room in
       let len = rw w.self-inside-is at c.push_reserved.ensures.len in
@@ -28,5 +28,5 @@ invariant_of-self g c = elim c.if-tree-self.branch [
         w.seen-is,
         w.read-seen-else-tree-self.ensures.added,
       )
-      (read_sum _ _ _ _ _ _ c.self.invariant.0 c.args.tree inside w.read-seen-else-tree-self.result, slot)
+      (read_sum _ _ _ _ _ _ c.self.invariant.0 c.args.tree _ 0 _ inside, slot)
 ]
