@@ -123,7 +123,7 @@ def journal_ends(run):
 
 def file_ends(run):
     """The ends that the session files have by themselves."""
-    for session, path in enumerate(run.sessions):
+    for session, path in enumerate(run.inputs()[1:]):
         if is_plain(path) and not why_not_read(path):
             end = session_file.end_of(path)
             if end.kind != "whole":

@@ -3,22 +3,29 @@ import os
 import shutil
 import subprocess
 
-USAGE = "usage: gate run LIMITS OUT SESSION..."
+USAGE = "usage: gate run LIMITS OUT SESSION... | gate make NUMBER SESSIONS ORDERS"
 
 KIT = "rattle-kit-13f logic dac8208d650f15bf"
 
 HELP = """\
 usage: gate run LIMITS OUT SESSION...
+       gate make NUMBER SESSIONS ORDERS
        gate report LIMITS OUT SESSION...
        gate --help | --version
 
 Reads a limit file and 1 to 32 session files in FIX 4.4, sends each order on or refuses it, and
 writes OUT/s00.venue and OUT/s00.client for the first session, s01 for the second and so on, and
 OUT/journal.csv. OUT is made where it isn't there. The program is proved and built first, where that
-has to be. `report`, with the words of a run that has ended, writes OUT/report.html and
+has to be.
+
+`make` makes a load from a NUMBER below 4,294,967,296, of 1 to 32 SESSIONS with 1 to 10,000 ORDERS
+each, and runs it in memory: it reads no file, and writes the outputs into the folder load. Then it
+compares what every session read with a walk along each tree's history, and tells what it found.
+
+`report`, with the words of a run that has ended, writes OUT/report.html and
 OUT/requests.csv about it.
 
-status of a run
+status of a run, of which a load has 0, 1, 2, 6 and 8 alone
   0  every session file was read to its end, and everything was written
   1  the program couldn't be built or started
   2  the command line is malformed, or names one file twice; nothing was read or written

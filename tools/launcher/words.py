@@ -1,8 +1,9 @@
-"""The words of a call: which run they ask for, and what is wrong where they ask for none."""
+"""The words of a call: which run or load they ask for, and what is wrong where they ask for none."""
 import os
+import re
 
 from launcher.files import first_pair, identity
-from launcher.say import listed, name
+from launcher.say import counted, listed, name
 
 SESSIONS = 32
 
@@ -36,14 +37,65 @@ class Run:
         return f"{self.out}/journal.csv"
 
 
+class Load(Run):
+    """`make NUMBER SESSIONS ORDERS`: a run over no files, whose outputs stand in the folder `load`."""
+
+    def __init__(self, sessions):
+        super().__init__(None, "load", [None] * sessions)
+
+    def inputs(self):
+        return []
+
+
+# What each word behind `make` is: its name, and its least and its most.
+NUMBERS = (
+    ("NUMBER", 0, 4_294_967_295),
+    ("SESSIONS", 1, SESSIONS),
+    ("ORDERS", 1, 10_000),
+)
+
+
 def read_run(words):
-    """The run that these words ask for and None, or None and what is wrong with them."""
-    fault = wrong_word(words) or wrong_number(words)
+    """The run or the load that these words ask for and None, or None and what is wrong with them."""
+    fault = wrong_word(words)
+    if not fault and words[0] == "make":
+        return read_load(words)
+    fault = fault or wrong_number(words)
     if fault:
         return None, fault
     run = Run(words[1], words[2], words[3:])
     fault = repeated(run) or overwritten(run)
     return (None, fault) if fault else (run, None)
+
+
+def read_load(words):
+    """The same where the first word is `make`."""
+    fault = wrong_count(words) or wrong_digits(words)
+    if fault:
+        return None, fault
+    load = Load(int(words[2]))
+    fault = overwritten(load)
+    return (None, fault) if fault else (load, None)
+
+
+def wrong_count(words):
+    """Whether there are too few words behind `make` or too many, or None."""
+    missing = [which for which, _, _ in NUMBERS[len(words) - 1 :]]
+    if missing:
+        return "`make` lacks " + listed(missing)
+    extra = len(words) - 1 - len(NUMBERS)
+    return f"`make` takes three numbers, and {extra} more words were given" if extra else None
+
+
+def wrong_digits(words):
+    """The first word behind `make` that isn't a number in its range, or None."""
+    for place, (word, (which, least, most)) in enumerate(zip(words[1:], NUMBERS), 2):
+        if not re.fullmatch("0|[1-9][0-9]*", word) or not least <= int(word) <= most:
+            return (
+                f"word {place}, `{word}`, is no {which}: that is {counted(least)} to "
+                f"{counted(most)}, in digits without a leading zero"
+            )
+    return None
 
 
 def wrong_word(words):
@@ -53,13 +105,14 @@ def wrong_word(words):
     for place, word in enumerate(words, 1):
         if not is_utf8(word):
             return f"word {place} isn't UTF-8: {name(word)}"
-    if words[0] != "run":
+    if words[0] not in ("run", "make"):
         return f"`{words[0]}` is no command"
     for place, word in enumerate(words, 1):
         if not word:
             return f"word {place} is empty"
         if word.startswith("-"):
-            return f"word {place}, `{word}`, begins with a dash: write `./{word}` for such a file"
+            hint = f": write `./{word}` for such a file" if words[0] == "run" else ""
+            return f"word {place}, `{word}`, begins with a dash{hint}"
     return None
 
 

@@ -6,7 +6,7 @@ import unittest
 
 from tests.places import TOP, InFolder
 
-USAGE = "usage: gate run LIMITS OUT SESSION...\n"
+USAGE = "usage: gate run LIMITS OUT SESSION... | gate make NUMBER SESSIONS ORDERS\n"
 
 # Words, and what standard error says of them.
 MALFORMED = [
@@ -36,6 +36,18 @@ MALFORMED = [
         "would overwrite",
     ),
     ("limits that are the journal", ["run", "out/journal.csv", "out", "a.fix"], "would overwrite"),
+    ("make alone", ["make"], "`make` lacks NUMBER, SESSIONS and ORDERS"),
+    ("no orders", ["make", "7", "8"], "`make` lacks ORDERS"),
+    ("a word too many", ["make", "7", "8", "20", "1"], "three numbers, and 1 more words"),
+    ("an empty number", ["make", "", "8", "20"], "word 2 is empty"),
+    ("a sign", ["make", "-7", "8", "20"], "word 2, `-7`, begins with a dash"),
+    ("a plus", ["make", "+7", "8", "20"], "word 2, `+7`, is no NUMBER"),
+    ("a leading zero", ["make", "07", "8", "20"], "word 2, `07`, is no NUMBER"),
+    ("a number too large", ["make", "4294967296", "8", "20"], "is 0 to 4,294,967,295"),
+    ("no session of a load", ["make", "7", "0", "20"], "word 3, `0`, is no SESSIONS"),
+    ("33 sessions of a load", ["make", "7", "33", "20"], "word 3, `33`, is no SESSIONS"),
+    ("no order", ["make", "7", "8", "0"], "word 4, `0`, is no ORDERS"),
+    ("10,001 orders", ["make", "7", "8", "10001"], "that is 1 to 10,000"),
     ("no UTF-8", ["run", "limits.csv", "out", b"a\xff.fix"], "word 4 isn't UTF-8: a\\xff.fix"),
 ]
 
@@ -66,10 +78,10 @@ class Words(InFolder):
         self.assertEqual(found, {USAGE.rstrip()})
 
     def test_help_has_a_line_for_each_status(self):
-        for words in (["--help"], ["-h"], ["run", "--help"], ["report", "-h"]):
+        for words in (["--help"], ["-h"], ["run", "--help"], ["make", "-h"], ["report", "-h"]):
             status, out, error = self.gate(*words, env={"GATE_PROGRAM": None, "PATH": self.bare()})
             self.assertEqual((status, error), (0, ""))
-            of_run, of_report = out.split("status of a run\n")[1].split("status of a report\n")
+            of_run, of_report = out.split("status of a run")[1].split("status of a report\n")
             self.assertEqual(re.findall(r"^  ([0-9]+) ", of_run, re.M), [*"012345689", "128"])
             self.assertEqual(re.findall(r"^  ([0-9]+) ", of_report, re.M), [*"0234"])
             self.says(

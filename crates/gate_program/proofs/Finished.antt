@@ -19,20 +19,21 @@ use Rattle.gate_program.specs.Objects.{AreWritten}
 use Rattle.gate_program.specs.Objects.{HoldsOutputs}
 use Rattle.gate_program.specs.Finish.{HasAnswer, HasStood, HasFinished, HasKept, IsKept}
 use Rattle.gate_program.specs.Histories.{AreLegalLines}
+use Rattle.gate_program.specs.Telling.{Teller}
 use Rattle.risk_journal.specs.ActLists.{unplaced}
 use Rattle.gate_program.proofs.Chains.{rose_from}
 use Rattle.gate_program.proofs.Outputs.{apart_from_all, venue_isnt_journal, client_isnt_journal}
 use Rattle.gate_program.proofs.Folder.{causes_later}
 
 -- the journal was written or refused, and this comes of it
-pub stood : (limits : Limits) (name : List ℕ) (before after : PortsValue) (acts : List (List Act))
+pub stood : (tell : Teller) (name : List ℕ) (before after : PortsValue) (acts : List (List Act))
     (ends : List End) (lines : List (List Line)) (text : List ℕ) (n : ℕ) (refused : Bool)
-    → (n ≡ 8) ⊎ HasAnswer limits acts ends lines refused text n
+    → (n ≡ 8) ⊎ HasAnswer tell acts ends lines refused text n
     → IsKept before after name (journal_text acts lines) refused
     → ChangesOnly before.texts after.texts name
-    → (n ≡ 8) ⊎ HasStood limits name before after acts ends lines text n
-stood limits name before after acts ends lines text n refused (inl memory) kept others = inl memory
-stood limits name before after acts ends lines text n refused (inr answer) kept others =
+    → (n ≡ 8) ⊎ HasStood tell name before after acts ends lines text n
+stood tell name before after acts ends lines text n refused (inl memory) kept others = inl memory
+stood tell name before after acts ends lines text n refused (inr answer) kept others =
     inr (record { refused = refused; answer = answer; kept = kept; others = others })
 
 journal_of : (run : RunWords) (before closed after : PortsValue) (acts : List (List Act))
@@ -87,16 +88,16 @@ are_written run objects (Some old) (Some mid) (Some new) many (now, there, same)
     }
 
 -- the objects were closed, and then the journal stood
-pub finished : (limits : Limits) (run : RunWords) (before closed after : PortsValue)
+pub finished : (tell : Teller) (run : RunWords) (before closed after : PortsValue)
     (acts : List (List Act)) (lines : List (List Line)) (ends : List End)
     (objects : List ObjectsValue) (name text : List ℕ) (n : ℕ) (said : List End) → said ≡ ends
     → name ≡ journal_name run.out → length objects ≡ length run.sessions
     → HasClosed run before closed objects → Went closed after
-    → (n ≡ 8) ⊎ HasStood limits name closed after acts said lines text n
-    → (n ≡ 8) ⊎ HasFinished limits run before after acts lines ends objects text n
-finished limits run before closed after acts lines ends objects name text n said same is many closes
+    → (n ≡ 8) ⊎ HasStood tell name closed after acts said lines text n
+    → (n ≡ 8) ⊎ HasFinished tell run before after acts lines ends objects text n
+finished tell run before closed after acts lines ends objects name text n said same is many closes
     went (inl memory) = inl memory
-finished limits run before closed after acts lines ends objects name text n said same is many closes
+finished tell run before closed after acts lines ends objects name text n said same is many closes
     went (inr stands) = inr (record {
       refused = stands.refused;
       journal = journal_of run before closed after acts lines name stands.refused is closes.went
@@ -106,18 +107,18 @@ finished limits run before closed after acts lines ends objects name text n said
           (subst (λ (m : List ℕ). ChangesOnly closed.texts after.texts m) is stands.others);
       causes = λ session own at.
           causes_later run before closed after session own went (closes.causes session own at);
-      answer = subst (λ (e : List End). HasAnswer limits acts e lines stands.refused text n) same
+      answer = subst (λ (e : List End). HasAnswer tell acts e lines stands.refused text n) same
           stands.answer;
     })
 
 -- a journal that was kept was kept for these acts
-pub kept : (limits : Limits) (run : RunWords) (before after : PortsValue)
+pub kept : (tell : Teller) (limits : Limits) (run : RunWords) (before after : PortsValue)
     (placed acts : List (List Act)) (lines : List (List Line)) (ends : List End)
     (objects : List ObjectsValue) (text : List ℕ) (n : ℕ)
     → map (map unplaced) placed ≡ map (map unplaced) acts → AreLegalLines limits placed lines
-    → (n ≡ 8) ⊎ HasFinished limits run before after placed lines ends objects text n
-    → (n ≡ 8) ⊎ HasKept limits run before after acts ends objects text n
-kept limits run before after placed acts lines ends objects text n alike legal (inl memory) =
+    → (n ≡ 8) ⊎ HasFinished tell run before after placed lines ends objects text n
+    → (n ≡ 8) ⊎ HasKept tell limits run before after acts ends objects text n
+kept tell limits run before after placed acts lines ends objects text n alike legal (inl memory) =
     inl memory
-kept limits run before after placed acts lines ends objects text n alike legal (inr own) =
+kept tell limits run before after placed acts lines ends objects text n alike legal (inr own) =
     inr (record { placed = placed; lines = lines; alike = alike; legal = legal; finished = own })

@@ -145,7 +145,7 @@ opened_are_own run before after session own opens = record {
 
 module _ (run : RunWords) (made : List ObjectsValue) (own : ObjectsValue) where
   -- the texts over the sessions before and one more
-  texts_more : (t0 t1 t2 : Option Texts) → ChangesOutputs run.out (length made) t0 t1
+  pub texts_more : (t0 t1 t2 : Option Texts) → ChangesOutputs run.out (length made) t0 t1
       → t2 ≡ option_map (with_two (venue_name run.out (length made)) []
       (client_name run.out (length made)) []) t1
       → ChangesOutputs run.out (length (made ++ own ∷ [])) t0 t2
@@ -175,11 +175,18 @@ module _ (run : RunWords) (made : List ObjectsValue) (own : ObjectsValue) where
         opened.1 ∙ text,
       )
 
-  empty_from : (t0 t1 : Option Texts) (held : Option (List ℕ))
+  pub empty_from : (t0 t1 : Option Texts) (held : Option (List ℕ))
       → ChangesOutputs run.out (length made) t0 t1 → IsEmptySink t1 held → IsEmptySink t0 held
   empty_from None t1 held changes empty = tt
   empty_from (Some old) None held (new, there, same) empty = absurd cc
   empty_from (Some old) (Some mid) held (new, there, same) empty = empty
+
+-- an input that was opened tells what is left
+opened_is_told : (told : Option Texts) (name : List ℕ) (left : Option (List ℕ))
+    → IsOpened told name left → IfSome told (λ _. IsSome left)
+opened_is_told None name left opened = tt
+opened_is_told (Some texts) name left (there, is) =
+    subst (λ (o : Option (List ℕ)). IsSome o) (sym is) there
 
 -- one session more was opened
 pub one_opened : (run : RunWords) (before now after : PortsValue) (made : List ObjectsValue)
@@ -202,17 +209,24 @@ one_opened run before now after made own apart opened opens = record {
         (opened_are_own run now after (length made) own opens))
   ];
 } where
+  is_opened : IsOpened before.texts (session_name run (length made)) own.left
+  is_opened = new_from run made own before.texts now.texts _ opened.texts apart opens.input.opened
+
   is_new : AreNew run before.texts (length made) own
   is_new = record {
-    opened = new_from run made own before.texts now.texts _ opened.texts apart opens.input.opened;
-    venue_empty = empty_from run made own before.texts now.texts _ opened.texts opens.venue.empty;
-    client_empty = empty_from run made own before.texts now.texts _ opened.texts opens.client.empty;
-    input_fresh = opens.input.fresh;
-    venue_fresh = opens.venue.fresh;
-    client_fresh = opens.client.fresh;
+    opened = is_opened;
+    fresh = record {
+      left = opened_is_told before.texts _ own.left is_opened;
+      venue_empty = empty_from run made own before.texts now.texts _ opened.texts opens.venue.empty;
+      client_empty = empty_from run made own before.texts now.texts _ opened.texts
+          opens.client.empty;
+      input_fresh = opens.input.fresh;
+      venue_fresh = opens.venue.fresh;
+      client_fresh = opens.client.fresh;
+    };
   }
 
-changes_nothing : (out : List ℕ) (told : Option Texts) → ChangesOutputs out 0 told told
+pub changes_nothing : (out : List ℕ) (told : Option Texts) → ChangesOutputs out 0 told told
 changes_nothing out None = refl
 changes_nothing out (Some old) = (old, refl, λ name apart. refl)
 

@@ -1,4 +1,5 @@
 pub mod Lists
+pub mod Numbers
 pub mod LimitFiles
 pub mod LimitTexts
 pub mod Chains
@@ -20,4 +21,9 @@ pub mod Ran
 pub mod Ways
 pub mod Sessions
 pub mod WholeInputs
+pub mod Made
+pub mod LoadTold
+pub mod LoadRuns
+pub mod Sums
+pub mod Created
 pub mod JournalPieces

@@ -14,7 +14,8 @@ use Rattle.risk_journal.specs.declared.acts.End.{End}
 use Rattle.risk_journal.specs.ActLists.{unplaced}
 use Rattle.screen_kit.specs.Screens.{ScreenValue}
 use Rattle.session_engine.specs.Follows.{FollowsSource, FollowsInput, EndsAs, EndsWith}
-use Rattle.gate_program.specs.Objects.{ObjectsValue, HasDone, HaveDone}
+use Rattle.gate_program.specs.Objects.{ObjectsValue, HasDone, HaveDone, AreCounts}
+use Rattle.gate_program.specs.Telling.{Teller}
 use Rattle.gate_program.specs.Words.{RunWords}
 use Rattle.gate_program.specs.Run.{PortsValue, set_of}
 use Rattle.gate_program.specs.Finish.{HasEnded, HasKept}
@@ -163,17 +164,27 @@ as_many placed acts same =
       ap length same,
     )
 
+-- counts that are taken of inputs are those of the inputs' type
+pub counts_of : {S X : Type 0} (faults : S → ℕ) (f : X → ObjectsValue) (input : X → S)
+    → ((x : X) → (f x).input_faults ≡ faults (input x)) → (all : List X)
+    → AreCounts faults (map f all)
+counts_of faults f input same all session own is =
+    let (x, at, one) = mapped_at f all session own is in
+    (input x, ap (λ (o : ObjectsValue). o.input_faults) (sym one) ∙ same x)
+
 -- sessions that did so and whose journal was kept have ended
-pub ended : PlacesLaw → (limits : Limits) (sets others : List (List ScreenValue)) (run : RunWords)
+pub ended : {S : Type 0} → PlacesLaw → (faults : S → ℕ) (tell : Teller) (limits : Limits) (sets others : List (List ScreenValue)) (run : RunWords)
     (before after : PortsValue) (objects objects_after : List ObjectsValue) (acts : List (List Act))
     (ends : List End) (text : List ℕ) (n : ℕ)
-    → HaveDone limits others objects objects_after acts ends
+    → HaveDone limits others objects objects_after acts ends → AreCounts faults objects_after
     → ((session : ℕ) → session < length objects → set_of others session ≡ set_of sets session)
-    → (n ≡ 8) ⊎ HasKept limits run before after acts ends objects_after text n
-    → (n ≡ 8) ⊎ HasEnded limits sets run before after objects text n
-ended law limits sets others run before after objects objects_after acts ends text n done sets_are
+    → (n ≡ 8) ⊎ HasKept tell limits run before after acts ends objects_after text n
+    → (n ≡ 8) ⊎ HasEnded faults tell limits sets run before after objects text n
+ended law faults tell limits sets others run before after objects objects_after acts ends text n done
+    counts sets_are
     (inl memory) = inl memory
-ended law limits sets others run before after objects objects_after acts ends text n done sets_are
+ended law faults tell limits sets others run before after objects objects_after acts ends text n done
+    counts sets_are
     (inr own) = inr (record {
       acts = own.placed;
       lines = own.lines;
@@ -181,6 +192,7 @@ ended law limits sets others run before after objects objects_after acts ends te
       objects_after = objects_after;
       done = done_alike law limits sets others objects objects_after own.placed acts ends own.alike
           sets_are done;
+      counts = counts;
       legal = own.legal;
       finished = own.finished;
     })

@@ -24,7 +24,9 @@ use Rattle.gate_program.specs.Run.{standing_of}
 use Rattle.gate_program.specs.Run.{FollowsText, session_name, set_of}
 use Rattle.gate_program.specs.Gate.{HasRun, HasJournal, AreInputs, HasLimits}
 use Rattle.gate_program.specs.Totals.{totals_of}
-use Rattle.gate_program.specs.Objects.{ObjectsValue, AreNew, ChangesOutputs, HasOpened, HasDone}
+use Rattle.gate_program.specs.Objects.{ObjectsValue, AreNew, AreFresh, ChangesOutputs, HasDone}
+use Rattle.gate_program.specs.Objects.{HasOpened, HasCreated}
+use Rattle.gate_program.specs.Telling.{Teller}
 use Rattle.gate_program.specs.Objects.{HoldsOutputs}
 use Rattle.gate_program.specs.Finish.{HasEnded}
 use Rattle.gate_program.proofs.Chains.{rose_from, rose_is_some}
@@ -102,7 +104,7 @@ none_is_there (Some text) is there = cc
 follows_text : (limits : Limits) (screens : List ScreenValue) (run : RunWords) (session count : ℕ)
     (t0 t1 t2 : Option Texts)
     (own now : ObjectsValue) (acts : List Act) (end : End)
-    → ChangesOutputs run.out count t0 t1 → AreNew run t0 session own
+    → ChangesOutputs run.out count t0 t1 → AreFresh t0 own
     → (t1 ≡ None → t2 ≡ None) → IfSome t1 (λ _. IfSome t2 (λ new. HoldsOutputs run new session now))
     → FollowsSource limits screens own.left acts end own.venue_held now.venue_held own.client_held
     now.client_held
@@ -124,17 +126,16 @@ follows_text limits screens run session count (Some old) None (Some texts) own n
 follows_text limits screens run session count (Some old) (Some middle) (Some texts) own now acts end
     changes
     new
-    tells holds follows = by_left own.left new.opened.1 follows where
-      by_left : (left : Option (List ℕ)) → left ≡ old (session_name run session)
+    tells holds follows = by_left own.left new.left follows where
+      by_left : (left : Option (List ℕ)) → IsSome left
           → FollowsSource limits screens left acts end own.venue_held now.venue_held own.client_held
           now.client_held
           → (venue : List ℕ) × (client : List ℕ)
           × (texts (venue_name run.out session) ≡ Some venue)
           × (texts (client_name run.out session) ≡ Some client)
           × FollowsInput limits screens (told_bytes left) acts end venue client
-      by_left None is source = absurd (none_is_there (old (session_name run session)) is
-          new.opened.0)
-      by_left (Some bytes) is (to_venue, to_client, venue_gets, client_gets, input) = (
+      by_left None some source = absurd cc
+      by_left (Some bytes) some (to_venue, to_client, venue_gets, client_gets, input) = (
         to_venue,
         to_client,
         holds.venue ∙ ap (λ s. Some s) (holds_appended own.venue_held now.venue_held to_venue
@@ -179,7 +180,7 @@ are_inputs run (Some texts) objects same each =
     ap texts (sym named)
     ∙ text_is texts (session_name run session) own.left new.opened.0 new.opened.1)
 
-keeps_others : (run : RunWords) (count : ℕ) (t0 t1 t2 : Option Texts) → count ≡ length run.sessions
+pub keeps_others : (run : RunWords) (count : ℕ) (t0 t1 t2 : Option Texts) → count ≡ length run.sessions
     → ChangesOutputs run.out count t0 t1
     → IfSome t1 (λ mid. IfSome t2 (λ new. (name : List ℕ)
     → is_among name (output_names run.out (length run.sessions)) ≡ false → new name ≡ mid name))
@@ -195,7 +196,7 @@ keeps_others run count (Some old) (Some middle) (Some new) many (mid, there, sam
     (subst (λ (n : ℕ). is_among name (output_names run.out n) ≡ false) (sym many) among)).0
 
 -- a folder that told its texts tells them still
-goes_on : (run : RunWords) (count : ℕ) (t0 t1 t2 : Option Texts)
+pub goes_on : (run : RunWords) (count : ℕ) (t0 t1 t2 : Option Texts)
     → ChangesOutputs run.out count t0 t1 → (IsSome t1 → IsSome t2) → IsSome t0 → IsSome t2
 goes_on run count None t1 t2 changes later some = absurd cc
 goes_on run count (Some old) t1 t2 (mid, there, same) later some =
@@ -216,34 +217,35 @@ either_rose : (v0 v1 c0 c1 : ℕ) (V C : Type 0) → v0 ≡ 0 → c0 ≡ 0 → R
 either_rose v0 v1 c0 c1 V C v c (inl rose) venue client = inl (venue (rose_is_some v0 v1 v rose))
 either_rose v0 v1 c0 c1 V C v c (inr rose) venue client = inr (client (rose_is_some c0 c1 c rose))
 
-module _ (run : RunWords) (limits : Limits) (sets : List (List ScreenValue)) (t0 : Option Texts)
+module _ {S : Type 0} (faults : S → ℕ) (tell : Teller) (run : RunWords) (limits : Limits)
+    (sets : List (List ScreenValue)) (t0 : Option Texts)
     (r0 w0 : List ℕ → ℕ)
     (t1 : Option Texts) (r1 w1 : List ℕ → ℕ) (t2 : Option Texts) (r2 w2 : List ℕ → ℕ)
     (objects : List ObjectsValue) (text : List ℕ) (status : ℕ)
-    (opened : HasOpened run (silent t0 r0 w0) (silent t1 r1 w1) objects)
-    (many : length objects ≡ length run.sessions)
-    (ended : HasEnded limits sets run (silent t1 r1 w1) (silent t2 r2 w2) objects text status) where
+    (created : HasCreated run (silent t0 r0 w0) (silent t1 r1 w1) objects)
+    (ended : HasEnded faults tell limits sets run (silent t1 r1 w1) (silent t2 r2 w2) objects text
+    status) where
   -- what is known of a session by its end
-  session_holds : (session : ℕ) (own now : ObjectsValue) (did : List Act) (end : End)
+  pub session_holds : (session : ℕ) (own now : ObjectsValue) (did : List Act) (end : End)
       → slice_get objects session ≡ Some own → slice_get ended.objects_after session ≡ Some now
       → HasDone limits (set_of sets session) own now did end
       → EndHolds limits (armed_for limits (set_of sets session)) (shown t0 r0 w0 [])
       (shown t2 r2 w2 text) run session (told_bytes own.left) did end
   session_holds session own now did end is_own is_now done =
-      let new = opened.each session own is_own in
+      let new = created.each session own is_own in
       let causes = ended.finished.causes session now is_now in
       end_holds limits (armed_for limits (set_of sets session)) (shown t0 r0 w0 [])
       (shown t2 r2 w2 text) run session (told_bytes own.left) did end
-      (λ is. rose_from _ _ _ (opened.went.read (session_name run session))
+      (λ is. rose_from _ _ _ (created.went.read (session_name run session))
       (causes.input (rose_is_some _ _ new.input_fresh (done.read is))))
       (λ is. either_rose _ _ _ _ _ _ new.venue_fresh new.client_fresh (done.write is)
-      (λ some. rose_from _ _ _ (opened.went.written (venue_name run.out session))
+      (λ some. rose_from _ _ _ (created.went.written (venue_name run.out session))
       (causes.venue some))
-      (λ some. rose_from _ _ _ (opened.went.written (client_name run.out session))
+      (λ some. rose_from _ _ _ (created.went.written (client_name run.out session))
       (causes.client some)))
       done.ends
       (λ by_input. follows_text limits (armed_for limits (set_of sets session)) run session
-      (length objects) t0 t1 t2 own now did end opened.texts
+      (length objects) t0 t1 t2 own now did end created.texts
       new ended.finished.written.tells (holds_one t1 t2 ended.finished.written.holds)
       (done.follows by_input)) where
         holds_one : (a b : Option Texts)
@@ -254,9 +256,28 @@ module _ (run : RunWords) (limits : Limits) (sets : List (List ScreenValue)) (t0
         holds_one (Some x) None holds = tt
         holds_one (Some x) (Some y) holds = holds session now is_now
 
+-- objects that were opened are fresh
+pub created : (run : RunWords) (before after : PortsValue) (objects : List ObjectsValue)
+    → HasOpened run before after objects → HasCreated run before after objects
+created run before after objects opened = record {
+  went = opened.went;
+  texts = opened.texts;
+  each = λ session own is. (opened.each session own is).fresh;
+  own = opened.own;
+}
+
+module _ {S : Type 0} (faults : S → ℕ) (run : RunWords) (limits : Limits)
+    (sets : List (List ScreenValue)) (t0 : Option Texts)
+    (r0 w0 : List ℕ → ℕ)
+    (t1 : Option Texts) (r1 w1 : List ℕ → ℕ) (t2 : Option Texts) (r2 w2 : List ℕ → ℕ)
+    (objects : List ObjectsValue) (text : List ℕ) (status : ℕ)
+    (opened : HasOpened run (silent t0 r0 w0) (silent t1 r1 w1) objects)
+    (many : length objects ≡ length run.sessions)
+    (ended : HasEnded faults (totals_of limits) limits sets run (silent t1 r1 w1) (silent t2 r2 w2)
+    objects text status) where
   -- what the run did
-  pub has_run : HasLimits t0 run.limits limits → AdmissionLaws → list_any is_memory ended.ends ≡
-      false
+  pub has_run : HasLimits t0 run.limits limits → AdmissionLaws
+      → list_any is_memory ended.ends ≡ false
       → HasRun run sets (shown t0 r0 w0 []) (shown t2 r2 w2 text) status
   has_run limits_are laws remembered = record {
     limits = limits;
@@ -278,7 +299,8 @@ module _ (run : RunWords) (limits : Limits) (sets : List (List ScreenValue)) (t0
         (omega (arith, slice_get_within objects session own.0 own.1, ended.done.object_count)) in
         subst (λ (b : List ℕ). EndHolds limits (armed_for limits (set_of sets session))
         (shown t0 r0 w0 []) (shown t2 r2 w2 text) run session b did end) own.2
-        (session_holds session own.0 now.0 did end own.1 now.1
+        (session_holds faults (totals_of limits) run limits sets t0 r0 w0 t1 r1 w1 t2 r2 w2 objects
+        text status (created run _ _ objects opened) ended session own.0 now.0 did end own.1 now.1
         (ended.done.each session own.0 now.0 did end own.1 now.1 is_did is_end));
     history = is_history limits ended.acts ended.lines ended.legal laws;
     journal = journal_from run t0 t1 t2 r0 w0 r1 w1 r2 w2 text ended.acts ended.lines

@@ -15,14 +15,15 @@ use Rattle.limit_table.specs.declared.limits.Limits.{Limits}
 use Rattle.screen_kit.specs.Screens.{ScreenValue}
 use Rattle.session_engine.specs.Session.{armed_for}
 use Rattle.gate_program.specs.Words.{RunWords, Command, journal_name}
-use Rattle.gate_program.specs.Words.Command.{Run as RunCommand}
 use Rattle.gate_program.specs.Run.{PortsValue, EndHolds, set_of, is_memory, standing_of}
-use Rattle.gate_program.specs.Gate.{CommandWent, RunWent, SessionsWent, HasJournal, HasLimits}
+use Rattle.gate_program.specs.Commands.{CommandWent}
+use Rattle.gate_program.specs.Gate.{RunWent, SessionsWent, HasJournal, HasLimits}
 use Rattle.gate_program.specs.Gate.{IsTold}
 use Rattle.gate_program.specs.Stages.{Went, HasLimitsFault, HasUnopened}
 use Rattle.gate_program.specs.Objects.{ObjectsValue, HasOpened}
 use Rattle.gate_program.specs.Finish.{HasEnded}
 use Rattle.gate_program.specs.Statuses.{number_of, told_text}
+use Rattle.gate_program.specs.Totals.{totals_of}
 use Rattle.gate_program.proofs.Chains.{rose_from, zero_stands}
 use Rattle.gate_program.proofs.Histories.{AdmissionLaws}
 use Rattle.gate_program.proofs.Ran.{silent, shown, has_run}
@@ -173,7 +174,7 @@ unopened run limits sets t0 r0 w0 t1 r1 w1 status.NotBuilt limits_are (session, 
     fault
 
 -- sessions of which one wanted memory stand at 8, and any others did what their run says
-memory_or_run : {R : Type 0} (ends : List End) (refused : Bool) (n : ℕ) (wanting : Bool)
+pub memory_or_run : {R : Type 0} (ends : List End) (refused : Bool) (n : ℕ) (wanting : Bool)
     → list_any is_memory ends ≡ wanting → n ≡ standing_of ends refused
     → (list_any is_memory ends ≡ false → R) → (n ≡ 8) ⊎ R
 memory_or_run ends refused n true is stands run = inl (stands ∙ at_memory ends refused is) where
@@ -182,21 +183,21 @@ memory_or_run ends refused n true is stands run = inl (stands ∙ at_memory ends
 memory_or_run ends refused n false is stands run = inr (run is)
 
 -- the sessions were opened behind the limits, and ended
-pub ended_went : (run : RunWords) (limits : Limits) (sets : List (List ScreenValue))
+pub ended_went : {S : Type 0} (faults : S → ℕ) (run : RunWords) (limits : Limits) (sets : List (List ScreenValue))
     (t0 : Option Texts) (r0 w0 : List ℕ → ℕ)
     (t1 : Option Texts) (r1 w1 : List ℕ → ℕ) (t2 : Option Texts) (r2 w2 : List ℕ → ℕ)
     (objects : List ObjectsValue) (text : List ℕ) (n : ℕ)
     → HasOpened run (silent t0 r0 w0) (silent t1 r1 w1) objects
     → length objects ≡ length run.sessions → HasLimits t0 run.limits limits → AdmissionLaws
-    → (n ≡ 8) ⊎ HasEnded limits sets run (silent t1 r1 w1) (silent t2 r2 w2) objects text n
+    → (n ≡ 8) ⊎ HasEnded faults (totals_of limits) limits sets run (silent t1 r1 w1) (silent t2 r2 w2) objects text n
     → (n ≡ 8) ⊎ SessionsWent run sets (shown t0 r0 w0 []) (shown t2 r2 w2 text) n
-ended_went run limits sets t0 r0 w0 t1 r1 w1 t2 r2 w2 objects text n opened many limits_are laws
+ended_went faults run limits sets t0 r0 w0 t1 r1 w1 t2 r2 w2 objects text n opened many limits_are laws
     (inl memory) = inl memory
-ended_went run limits sets t0 r0 w0 t1 r1 w1 t2 r2 w2 objects text n opened many limits_are laws
+ended_went faults run limits sets t0 r0 w0 t1 r1 w1 t2 r2 w2 objects text n opened many limits_are laws
     (inr ended) =
     memory_or_run ended.ends ended.finished.refused n (list_any is_memory ended.ends) refl
     ended.finished.answer.stands
-    (λ remembered. inr (inr (has_run run limits sets t0 r0 w0 t1 r1 w1 t2 r2 w2 objects text n
+    (λ remembered. inr (inr (has_run faults run limits sets t0 r0 w0 t1 r1 w1 t2 r2 w2 objects text n
     opened
     many
     ended limits_are laws remembered)))
@@ -217,14 +218,14 @@ module _ (run : RunWords) (sets : List (List ScreenValue)) (t0 : Option Texts)
     (held held_after : Option (List ℕ)) (faults faults_after answer : ℕ)
     (told : IsTold held held_after faults faults_after text n answer) where
   -- what an answer says is told
-  told_so : (say : List ℕ) (standing : ℕ) → IsTold (Some []) (Some text) 0 0 say standing n
+  pub told_so : (say : List ℕ) (standing : ℕ) → IsTold (Some []) (Some text) 0 0 say standing n
       → IsTold held held_after faults faults_after say standing answer
   told_so say standing (inl is) =
       subst (λ (m : ℕ). IsTold held held_after faults faults_after say m answer) is.0
       (subst (λ (s : List ℕ). IsTold held held_after faults faults_after s n answer) is.1 told)
   told_so say standing (inr faulty) = absurd (zero_stands faulty.1)
 
-  end_beside : (limits : Limits) (screens : List ScreenValue) (session : ℕ) (bytes : List ℕ)
+  pub end_beside : (limits : Limits) (screens : List ScreenValue) (session : ℕ) (bytes : List ℕ)
       (own : List Act) (end : End)
       → EndHolds limits screens (shown t0 r0 w0 []) (shown t1 r1 w1 text) run session bytes own end
       → EndHolds limits screens (beside t0 r0 w0 held faults)
@@ -238,7 +239,7 @@ module _ (run : RunWords) (sets : List (List ScreenValue)) (t0 : Option Texts)
   end_beside limits screens session bytes own (ending.Broken place) holds = holds
   end_beside limits screens session bytes own (ending.TooLong place) holds = holds
 
-  journal_beside : (acts : List (List Act)) (lines : List (List Line)) (refused : Bool)
+  pub journal_beside : (acts : List (List Act)) (lines : List (List Line)) (refused : Bool)
       → HasJournal (shown t0 r0 w0 []) (shown t1 r1 w1 text) run acts lines refused
       → HasJournal (beside t0 r0 w0 held faults) (beside t1 r1 w1 held_after faults_after) run acts
       lines refused
@@ -326,12 +327,12 @@ run_told run sets t0 r0 w0 t1 r1 w1 text n held held_after faults faults_after a
     inr (went_told run sets t0 r0 w0 t1 r1 w1 text n held held_after faults faults_after answer told
     did)
 
--- the way of a run is that of the words of one
-pub command_went : (words : List (List ℕ)) (command : Option Command) (run : RunWords)
+-- the way of a command is that of its words
+pub command_went : (words : List (List ℕ)) (command : Option Command) (own : Command)
     (sets : List (List ScreenValue))
-    (before after : PortsValue) (n : ℕ) → Some (RunCommand run) ≡ command
-    → (n ≡ 8) ⊎ RunWent run sets before after n → (n ≡ 8) ⊎ CommandWent words command sets before
-    after n
-command_went words command run sets before after n is went =
+    (before after : PortsValue) (n : ℕ) → Some own ≡ command
+    → (n ≡ 8) ⊎ CommandWent words (Some own) sets before after n
+    → (n ≡ 8) ⊎ CommandWent words command sets before after n
+command_went words command own sets before after n is went =
     subst (λ (asked : Option Command). (n ≡ 8) ⊎ CommandWent words asked sets before after n) is
     went

@@ -32,7 +32,8 @@ use Rattle.gate_program.specs.Run.{set_of}
 use Rattle.gate_program.specs.Run.{is_write_fault, is_read_fault, is_cut_short, standing_of}
 use Rattle.gate_program.specs.Run.{OutputRose}
 use Rattle.gate_program.specs.Limits.{is_served}
-use Rattle.gate_program.specs.Gate.{AreInputs, CommandWent, GateRun, HasJournal, HasRun}
+use Rattle.gate_program.specs.Commands.{CommandWent, GateRun}
+use Rattle.gate_program.specs.Gate.{AreInputs, HasJournal, HasRun}
 use Rattle.gate_program.specs.Gate.{HasUnserved, IsRefused, RunWent, Tells}
 use Rattle.gate_program.specs.WholeInputs.{IsWholeInput, AreWholeTexts, HasNoFault}
 use Rattle.gate_program.specs.WholeInputs.{HasWholeInputs}
@@ -92,7 +93,7 @@ isnt_longer : (most length : ℕ) → length ≤ most → nat_lt most length ≡
 isnt_longer most length few = grind (arith, nat_tests)
 
 -- a whole input ends whole
-whole_ends : (bytes : List ℕ) (others : List FrameValue) (next : Found) (end : End)
+pub whole_ends : (bytes : List ℕ) (others : List FrameValue) (next : Found) (end : End)
     → IsWholeInput bytes → Splits (take input_most bytes) 0 others next
     → EndsBy (nat_lt input_most (length bytes)) next end → end ≡ ending.Whole
 whole_ends bytes others next end whole split ends =

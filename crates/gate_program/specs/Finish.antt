@@ -10,16 +10,17 @@ use Rattle.screen_kit.specs.Screens.{ScreenValue}
 use Rattle.gate_program.specs.Words.{RunWords}
 use Rattle.gate_program.specs.Run.{PortsValue, Holds, WriteRose, standing_of}
 use Rattle.gate_program.specs.Gate.{HasJournal}
-use Rattle.gate_program.specs.Totals.{totals_of}
+use Rattle.gate_program.specs.Telling.{Teller}
 use Rattle.gate_program.specs.Stages.{ChangesOnly}
 use Rattle.gate_program.specs.Histories.{AreLegalLines}
-use Rattle.gate_program.specs.Objects.{ObjectsValue, HaveDone, AreWritten, EachHasCauses}
+use Rattle.gate_program.specs.Objects.{ObjectsValue, HaveDone, AreCounts, AreWritten}
+use Rattle.gate_program.specs.Objects.{EachHasCauses}
 
 -- the status that stands is by the ends and by whether the journal was refused, and has its text
-pub record HasAnswer (limits : Limits) (acts : List (List Act)) (ends : List End)
+pub record HasAnswer (tell : Teller) (acts : List (List Act)) (ends : List End)
     (lines : List (List Line)) (refused : Bool) (text : List ℕ) (status : ℕ) : Type 0 where
   pub stands : status ≡ standing_of ends refused
-  pub told : text ≡ totals_of limits acts ends lines status
+  pub told : text ≡ tell acts ends lines status
 
 -- the name has the text, or its write count rose
 abbrev pub IsKept : PortsValue → PortsValue → List ℕ → List ℕ → Bool → Type 0
@@ -27,38 +28,38 @@ IsKept before after name text false = Holds after.texts name text
 IsKept before after name text true = WriteRose before after name
 
 -- The journal was written under its name or refused, and no other text changed.
-pub record HasStood (limits : Limits) (name : List ℕ) (before after : PortsValue)
+pub record HasStood (tell : Teller) (name : List ℕ) (before after : PortsValue)
     (acts : List (List Act)) (ends : List End) (lines : List (List Line)) (text : List ℕ)
     (status : ℕ) : Type 0 where
   pub refused : Bool
-  pub answer : HasAnswer limits acts ends lines refused text status
+  pub answer : HasAnswer tell acts ends lines refused text status
   pub kept : IsKept before after name (journal_text acts lines) refused
   pub others : ChangesOnly before.texts after.texts name
 
 -- The objects were given back and closed before.
-pub record HasFinished (limits : Limits) (run : RunWords) (before after : PortsValue)
+pub record HasFinished (tell : Teller) (run : RunWords) (before after : PortsValue)
     (acts : List (List Act)) (lines : List (List Line)) (ends : List End)
     (objects : List ObjectsValue) (text : List ℕ) (status : ℕ) : Type 0 where
   pub refused : Bool
   pub journal : HasJournal before after run acts lines refused
   pub written : AreWritten run before.texts after.texts objects
   pub causes : EachHasCauses run before after objects
-  pub answer : HasAnswer limits acts ends lines refused text status
+  pub answer : HasAnswer tell acts ends lines refused text status
 
 -- The acts of sessions that ended got the places of their reads, and stand in the journal with the
 -- lines of each tree.
-pub record HasKept (limits : Limits) (run : RunWords) (before after : PortsValue)
+pub record HasKept (tell : Teller) (limits : Limits) (run : RunWords) (before after : PortsValue)
     (acts : List (List Act)) (ends : List End) (objects : List ObjectsValue) (text : List ℕ)
     (status : ℕ) : Type 0 where
   pub placed : List (List Act)
   pub lines : List (List Line)
   pub alike : map (map unplaced) placed ≡ map (map unplaced) acts
   pub legal : AreLegalLines limits placed lines
-  pub finished : HasFinished limits run before after placed lines ends objects text status
+  pub finished : HasFinished tell run before after placed lines ends objects text status
 
 -- The sessions that were opened ran with their screens over forests of their own, were closed, and
 -- stand in the journal, with the lines of each tree.
-pub record HasEnded (limits : Limits) (sets : List (List ScreenValue)) (run : RunWords)
+pub record HasEnded {S : Type 0} (faults : S → ℕ) (tell : Teller) (limits : Limits) (sets : List (List ScreenValue)) (run : RunWords)
     (before after : PortsValue) (objects : List ObjectsValue) (text : List ℕ) (status : ℕ)
     : Type 0 where
   pub acts : List (List Act)
@@ -66,5 +67,7 @@ pub record HasEnded (limits : Limits) (sets : List (List ScreenValue)) (run : Ru
   pub ends : List End
   pub objects_after : List ObjectsValue
   pub done : HaveDone limits sets objects objects_after acts ends
+  -- the inputs are of one type
+  pub counts : AreCounts faults objects_after
   pub legal : AreLegalLines limits acts lines
-  pub finished : HasFinished limits run before after acts lines ends objects_after text status
+  pub finished : HasFinished tell run before after acts lines ends objects_after text status

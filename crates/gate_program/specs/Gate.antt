@@ -14,11 +14,10 @@ use Rattle.risk_journal.specs.declared.acts.Act.{Act}
 use Rattle.risk_journal.specs.declared.acts.End.{End}
 use Rattle.limit_table.specs.declared.limits.Limits.{Limits}
 use Rattle.risk_journal.specs.JournalText.{journal_text}
-use Rattle.gate_program.specs.Words.{RunWords, Command, command_of, output_names, journal_name}
+use Rattle.gate_program.specs.Words.{RunWords, command_of, output_names, journal_name}
 use Rattle.gate_program.specs.Words.{is_among}
 use Rattle.gate_program.specs.Totals.{totals_of}
 use Rattle.gate_program.specs.Limits.{AreLimits, AreUnserved, limits_fault_text}
-use Rattle.gate_program.specs.Words.Command.{Run}
 use Rattle.gate_program.specs.Run.{PortsValue, Holds, ReadRose, WriteRose, OutputRose, session_name}
 use Rattle.gate_program.specs.Run.{EndHolds, IsHistory, set_of, standing_of, is_memory}
 use Rattle.screen_kit.specs.Screens.{ScreenValue}
@@ -48,7 +47,8 @@ Tells before after text standing status =
     IsTold before.held after.held before.out_faults after.out_faults text standing status
 
 abbrev pub usage_text : List ℕ
-usage_text = codes "usage: gate run LIMITS OUT SESSION..." ++ 10 ∷ []
+usage_text =
+    codes "usage: gate run LIMITS OUT SESSION... | gate make NUMBER SESSIONS ORDERS" ++ 10 ∷ []
 
 abbrev pub read_fault_text : List ℕ
 read_fault_text = codes "read fault" ++ 10 ∷ []
@@ -179,15 +179,3 @@ abbrev pub RunWent : RunWords → List (List ScreenValue) → PortsValue → Por
 RunWent run sets before after status =
     HasUnreadLimits run before after status ⊎ HasRefusedLimits run before after status
     ⊎ HasOtherLimits run before after status ⊎ SessionsWent run sets before after status
-
--- the way of a command
-abbrev pub CommandWent : List (List ℕ) → Option Command → List (List ScreenValue) → PortsValue
-    → PortsValue → ℕ → Type 0
-CommandWent words None sets before after status = HasNoForm words before after status
-CommandWent words (Some (Run run)) sets before after status = RunWent run sets before after status
-
--- The call, with a set of screens for each session, answered 8 for want of memory, or went the way
--- of its words.
-abbrev pub GateRun : List (List ℕ) → List (List ScreenValue) → PortsValue → PortsValue → ℕ → Type 0
-GateRun words sets before after status =
-    (status ≡ 8) ⊎ CommandWent words (command_of words) sets before after status

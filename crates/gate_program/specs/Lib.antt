@@ -1,7 +1,10 @@
 pub mod Words
 pub mod Run
 pub mod Totals
+pub mod Telling
 pub mod Gate
+pub mod Loads
+pub mod Commands
 pub mod CommandOf
 pub mod Names
 pub mod Limits

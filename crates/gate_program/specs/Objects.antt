@@ -57,17 +57,22 @@ EachOwn run told objects =
     (session : ℕ) (own : ObjectsValue) → slice_get objects session ≡ Some own
     → AreOwn run told session own
 
--- a session's objects are new: the input has its name's text left, the outputs are empty, and there
--- was
--- no fault
-pub record AreNew (run : RunWords) (told : Option Texts) (session : ℕ) (own : ObjectsValue)
-    : Type 0 where
-  pub opened : IsOpened told (session_name run session) own.left
+-- a session's objects are fresh: the input tells what is left of it, the outputs are empty, where the
+-- folder tells its texts, and there was no fault
+pub record AreFresh (told : Option Texts) (own : ObjectsValue) : Type 0 where
+  pub left : IfSome told (λ _. IsSome own.left)
   pub venue_empty : IsEmptySink told own.venue_held
   pub client_empty : IsEmptySink told own.client_held
   pub input_fresh : own.input_faults ≡ 0
   pub venue_fresh : own.venue_faults ≡ 0
   pub client_fresh : own.client_faults ≡ 0
+
+-- they are so with sessions that were made in memory too; these were opened: the input has its name's
+-- text left
+pub record AreNew (run : RunWords) (told : Option Texts) (session : ℕ) (own : ObjectsValue)
+    : Type 0 where
+  pub opened : IsOpened told (session_name run session) own.left
+  pub fresh : AreFresh told own
 
 -- the name is none of the outputs of the first sessions
 abbrev pub IsApart : List ℕ → ℕ → List ℕ → Type 0
@@ -82,6 +87,21 @@ ChangesOutputs out count before after =
     MatchOption before (after ≡ None)
     (λ old. (new : Texts) × (after ≡ Some new)
     × ((name : List ℕ) → IsApart out count name → new name ≡ old name))
+
+-- The first sessions have fresh objects, and no name but their outputs has another text.
+pub record HasCreated (run : RunWords) (before after : PortsValue) (objects : List ObjectsValue)
+    : Type 0 where
+  pub went : Went before after
+  pub texts : ChangesOutputs run.out (length objects) before.texts after.texts
+  pub each : (session : ℕ) (own : ObjectsValue) → slice_get objects session ≡ Some own
+      → AreFresh before.texts own
+  pub own : EachOwn run after.texts objects
+
+-- each count of an input's faults is that of an input of this type
+abbrev pub AreCounts : {S : Type 0} → (S → ℕ) → List ObjectsValue → Type 0
+AreCounts {S} faults objects =
+    (session : ℕ) (own : ObjectsValue) → slice_get objects session ≡ Some own
+    → (input : S) × (own.input_faults ≡ faults input)
 
 -- The objects of the first sessions were opened and made, and no other name has another text.
 pub record HasOpened (run : RunWords) (before after : PortsValue) (objects : List ObjectsValue)

@@ -143,3 +143,9 @@ HasUnopened run before after standing =
     (session : ℕ) × (session < length run.sessions)
     × IsUnopened before after (session_name run session) (venue_name run.out session)
     (client_name run.out session) standing
+
+-- why an output of a session of a load was not made
+abbrev pub HasUnmade : RunWords → PortsValue → PortsValue → Status → Type 0
+HasUnmade run before after standing =
+    (session : ℕ) × (session < length run.sessions)
+    × IsUnmade before after (venue_name run.out session) (client_name run.out session) standing

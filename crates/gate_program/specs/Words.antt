@@ -1,9 +1,13 @@
 -- The words of the command line, and the names of outputs.
-use Rattle.std.specs.Prelude.{ℕ, ◌+◌, ◌/◌, ◌%◌, ◌==◌, ◌&&◌, List, [], ◌∷◌, ◌++◌, length, codes}
+use Rattle.std.specs.Prelude.{ℕ, ◌+◌, ◌-◌, ◌^◌, ◌/◌, ◌%◌, ◌==◌, ◌&&◌, List, [], ◌∷◌, ◌++◌, length, codes}
 use Rattle.std.specs.Prelude.{Option, Some, None, Bool, true, false, not, nat_le, if◌then◌else◌}
 use Rattle.std.specs.List.{list_all, list_any, flat_map, range_with_len}
 use Rattle.std.specs.Str.{bytes_eq}
+use Rattle.std.specs.Fmt.{decimal}
+use Rattle.std.specs.Str.Parse.{digits_value}
 use Rattle.fold_law.specs.declared.limits.TheConstants.{SESSIONS}
+use Rattle.make_load.specs.declared.session.TheConstants.{ORDERS_MOST}
+use Rattle.make_load.specs.declared.summary.Asked.{Asked}
 
 -- the words of a run: the limit file, the folder of outputs, and the sessions
 pub record RunWords : Type 0 where
@@ -14,6 +18,7 @@ pub record RunWords : Type 0 where
 -- what the words ask for
 pub data Command : Type 0 where
   Run : RunWords → Command
+  Make : Asked → Command
 
 -- not empty, and without a leading dash
 abbrev pub is_word : List ℕ → Bool
@@ -74,10 +79,35 @@ run_of limits out sessions =
     let run : RunWords = record { limits = limits; out = out; sessions = sessions } in
     if is_run run then Some (Run run) else None
 
+-- the number that a word spells in digits without a leading zero, where it does and is in this range
+abbrev pub number_in : ℕ → ℕ → List ℕ → Option ℕ
+number_in least most word =
+    let number = digits_value 10 word in
+    if bytes_eq (decimal number) word && nat_le least number && nat_le number most then Some number
+    else None
+
+-- a load, of numbers that are all there
+abbrev pub load_with : Option ℕ → Option ℕ → Option ℕ → Option Command
+load_with (Some number) (Some sessions) (Some orders) =
+    Some (Make (record { number = number; sessions = sessions; orders = orders }))
+load_with (Some number) (Some sessions) None = None
+load_with (Some number) None orders = None
+load_with None sessions orders = None
+
+-- the words after `make` as those of a load, where they are: its number, how many sessions it has, and
+-- how many orders each
+abbrev pub load_of : List ℕ → List ℕ → List (List ℕ) → Option Command
+load_of number sessions (orders ∷ []) =
+    load_with (number_in 0 (2 ^ 32 - 1) number) (number_in 1 session_most sessions)
+    (number_in 1 ORDERS_MOST orders)
+load_of number sessions [] = None
+load_of number sessions (orders ∷ other ∷ others) = None
+
 -- what the words ask for, where they are a form
 abbrev pub command_of : List (List ℕ) → Option Command
-command_of (command ∷ limits ∷ out ∷ sessions) =
-    if bytes_eq command (codes "run") then run_of limits out sessions else None
+command_of (command ∷ first ∷ second ∷ others) =
+    if bytes_eq command (codes "run") then run_of first second others
+    else (if bytes_eq command (codes "make") then load_of first second others else None)
 command_of [] = None
 command_of (command ∷ []) = None
 command_of (command ∷ limits ∷ []) = None

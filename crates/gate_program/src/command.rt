@@ -2,31 +2,38 @@
 ghost use Rattle.std.specs.Prelude.{◌≡◌, ◌⊎◌, ◌^◌, ◌<◌, ◌≤◌, IsTrue, IfOk, [], length, map};
 ghost use Rattle.std.specs.Prelude.{string_bytes, vec_capacity};
 ghost use Rattle.std.specs.List.{AllByRecursion};
-ghost use Rattle.gate_program.specs.CommandOf.{run_value};
+ghost use Rattle.gate_program.specs.CommandOf.{run_value, IsAsked};
+ghost use Rattle.gate_program.specs.Commands.{GateRun};
+ghost use Rattle.gate_program.specs.Loads.{LoadWent};
 ghost use Rattle.gate_program.specs.Finish.{HasEnded, HasKept};
 ghost use Rattle.gate_program.specs.Forests.{HaveRun};
-ghost use Rattle.gate_program.specs.Gate.{HasLimits, GateRun, RunWent, SessionsWent, ports_of};
+ghost use Rattle.gate_program.specs.Gate.{HasLimits, RunWent, SessionsWent, ports_of};
 ghost use Rattle.gate_program.specs.Names.{AreNames};
 ghost use Rattle.gate_program.specs.Objects.{objects_of, EachOwn};
 ghost use Rattle.gate_program.specs.Room.{HasNone, HasSpare};
 ghost use Rattle.gate_program.specs.Stages.{folder_of, folder_with};
 ghost use Rattle.gate_program.specs.Statuses.{answer_number, answer_text};
+ghost use Rattle.gate_program.specs.Telling.{told_of};
 ghost use Rattle.gate_program.specs.Words.{is_run, journal_name, session_most};
 
 use crate::close::close_sessions;
 use crate::ended::{Ended, Room, room_for, run_sessions};
 use crate::finish::{Finished, finish};
 use crate::forests::{Forests, Opening, open_forests};
+use crate::inputs::{Inputs, Named};
+use crate::make::make_words;
 use crate::names::{Names, names_in};
 use crate::open::{Opened, open_sessions, read_limits};
 use crate::replay::journal_after;
 use crate::status::{Answer, Status};
 use crate::tasks::tasks_of;
 use crate::tell::{tell, tell_answer};
-use crate::words::{Run, command_from};
+use crate::told::Told;
+use crate::words::{Command, Run, command_from};
 use fold_law::Memory;
 use gate_ports::{Folder, Gate, Sink};
 use limit_table::Limits;
+use make_load::Asked;
 use screen_kit::Screen;
 use session_engine::{a_history_admits_what_sessions_do, admitted_stays_within, places_are_free};
 use std::alloc::Global;
@@ -34,13 +41,13 @@ use std::thread::Threads;
 
 /// What a run has by it before its sessions are opened: names, and room for what they do.
 #[derive(Drop)]
-struct Ready<S, K> {
-    names: Names,
-    room: Room<S, K>,
+pub(crate) struct Ready<S, K> {
+    pub names: Names,
+    pub room: Room<S, K>,
 }
 
 /// Takes the memory for so many sessions.
-fn ready_for<S: Drop, K: Drop>(
+pub(crate) fn ready_for<S: Drop, K: Drop>(
     alloc: Global,
     out: &str,
     count: usize,
@@ -60,14 +67,15 @@ fn ready_for<S: Drop, K: Drop>(
 }
 
 /// Closes sessions that ran over these forests, and writes their journal.
-fn finish_run<R: Threads + Sync, D: Folder>(
+fn finish_run<R: Threads + Sync, D: Folder, I: Inputs<D>>(
     rt: &R,
     alloc: Global,
     run: &Run,
     limits: &Limits,
+    told: &Told,
     names: &Names,
     forests: Forests,
-    ended: Ended<D::In, D::Out>,
+    ended: Ended<I::In, D::Out>,
     folder: &mut D,
 ) -> Answer
     requires most { length run.now.sessions.now ≤ session_most }
@@ -81,13 +89,14 @@ fn finish_run<R: Threads + Sync, D: Folder>(
     requires end_count { length ended.ends.items ≡ length run.now.sessions.now }
     requires object_count { length ended.opened.items ≡ length run.now.sessions.now }
     requires own { EachOwn (run_value run.now) (D.texts folder.old)
-        (map (objects_of D.In.left D.In.name D.In.faults D.Out.held D.Out.name D.Out.faults)
+        (map (objects_of I.In.left I.In.name I.In.faults D.Out.held D.Out.name D.Out.faults)
         ended.opened.items) }
-    ensures { (answer_number result ≡ 8) ⊎ HasKept limits.now (run_value run.now)
+    ensures { (answer_number result ≡ 8) ⊎ HasKept (told_of told.now limits.now) limits.now
+        (run_value run.now)
         (folder_of D.texts D.read_faults D.write_faults folder.old)
         (folder_of D.texts D.read_faults D.write_faults folder.new)
         (map (λ own. own.items) ended.acts.items) ended.ends.items
-        (map (objects_of D.In.left D.In.name D.In.faults D.Out.held D.Out.name D.Out.faults)
+        (map (objects_of I.In.left I.In.name I.In.faults D.Out.held D.Out.name D.Out.faults)
         ended.opened.items) (answer_text result) (answer_number result) }
 {
     limits.stand_in_a_file();
@@ -104,10 +113,10 @@ fn finish_run<R: Threads + Sync, D: Folder>(
                 ends,
                 opened,
             };
-            finish(rt, alloc, run, limits, names, finished, folder)
+            finish::<R, D, I>(rt, alloc, run, limits, told, names, finished, folder)
         }
         Err(Memory) => {
-            close_sessions(run, &names.sessions, opened, folder);
+            close_sessions::<D, I>(run, &names.sessions, opened, folder);
             Answer::Stopped(Status::Memory)
         }
     }
@@ -115,18 +124,20 @@ fn finish_run<R: Threads + Sync, D: Folder>(
 
 /// Runs sessions that were opened over forests of their own, each with its screens, all side by side,
 /// closes them and writes the journal.
-fn run_opened<R: Threads + Sync, D: Folder, G: Gate>(
+pub(crate) fn run_opened<R: Threads + Sync, D: Folder, I: Inputs<D>, G: Gate>(
     rt: &R,
     alloc: Global,
     run: &Run,
     limits: &Limits,
+    told: &Told,
     gate: &G,
-    ready: Ready<D::In, D::Out>,
+    ready: Ready<I::In, D::Out>,
     screens: Vec<Vec<Box<dyn Screen + Send>>>,
-    opened: Vec<Opened<D::In, D::Out>>,
+    opened: Vec<Opened<I::In, D::Out>>,
     folder: &mut D,
 ) -> Answer
-    requires run { IsTrue (is_run (run_value run.now)) }
+    requires some { 1 ≤ length run.now.sessions.now }
+    requires most { length run.now.sessions.now ≤ session_most }
     requires names { AreNames run.now.out.now (length run.now.sessions.now)
         ready.names.sessions.items }
     requires journal { string_bytes ready.names.journal ≡ journal_name run.now.out.now }
@@ -137,28 +148,33 @@ fn run_opened<R: Threads + Sync, D: Folder, G: Gate>(
     requires sets { length screens.items ≡ session_most }
     requires many { length opened.items ≡ length run.now.sessions.now }
     requires own { EachOwn (run_value run.now) (D.texts folder.old)
-        (map (objects_of D.In.left D.In.name D.In.faults D.Out.held D.Out.name D.Out.faults)
+        (map (objects_of I.In.left I.In.name I.In.faults D.Out.held D.Out.name D.Out.faults)
         opened.items) }
-    ensures { (answer_number result ≡ 8) ⊎ HasEnded limits.now
+    ensures { (answer_number result ≡ 8) ⊎ HasEnded I.In.faults
+        (told_of told.now limits.now) limits.now
         (map (λ set. map (λ b. (Screen-box b).meaning b.value) set.items) screens.items)
         (run_value run.now)
         (folder_of D.texts D.read_faults D.write_faults folder.old)
         (folder_of D.texts D.read_faults D.write_faults folder.new)
-        (map (objects_of D.In.left D.In.name D.In.faults D.Out.held D.Out.name D.Out.faults)
+        (map (objects_of I.In.left I.In.name I.In.faults D.Out.held D.Out.name D.Out.faults)
         opened.items) (answer_text result) (answer_number result) }
 {
     places_are_free();
     let Ready { names, room } = ready;
     let Ok(opening) = open_forests(alloc, limits, run.sessions.len() as u32) else {
-        close_sessions(run, &names.sessions, opened, folder);
+        close_sessions::<D, I>(run, &names.sessions, opened, folder);
         return Answer::Stopped(Status::Memory);
     };
     let Opening { forests, passes } = opening;
     let tasks = tasks_of(passes, screens, opened, room.tasks);
-    match run_sessions::<R, D, G>(rt, alloc, limits, gate, &forests, tasks, room.ended) {
-        Ok(ended) => finish_run(rt, alloc, run, limits, &names, forests, ended, folder),
+    match run_sessions::<R, I::In, D::Out, G>(
+        rt, alloc, limits, gate, &forests, tasks, room.ended,
+    ) {
+        Ok(ended) => finish_run::<R, D, I>(
+            rt, alloc, run, limits, told, &names, forests, ended, folder,
+        ),
         Err(opened) => {
-            close_sessions(run, &names.sessions, opened, folder);
+            close_sessions::<D, I>(run, &names.sessions, opened, folder);
             Answer::Stopped(Status::Memory)
         }
     }
@@ -190,7 +206,18 @@ fn run_limited<R: Threads + Sync, D: Folder, G: Gate>(
         Err(Memory) => return Answer::Stopped(Status::Memory),
     };
     match open_sessions(alloc, run, &ready.names.sessions, folder) {
-        Ok(opened) => run_opened(rt, alloc, run, limits, gate, ready, screens, opened, folder),
+        Ok(opened) => run_opened::<R, D, Named, G>(
+            rt,
+            alloc,
+            run,
+            limits,
+            &Told::Totals,
+            gate,
+            ready,
+            screens,
+            opened,
+            folder,
+        ),
         Err(status) => Answer::Stopped(status),
     }
 }
@@ -242,6 +269,27 @@ fn run_and_tell<R: Threads + Sync, D: Folder, O: Sink, G: Gate>(
     tell_answer(alloc, out, answer)
 }
 
+/// Makes a load and runs it, and tells what it comes to.
+fn make_and_tell<R: Threads + Sync, D: Folder, O: Sink, G: Gate>(
+    rt: &R,
+    alloc: Global,
+    asked: &Asked,
+    folder: &mut D,
+    out: &mut O,
+    gate: &G,
+) -> u8
+    requires { IsAsked asked.now }
+    ensures { (result ≡ 8) ⊎ LoadWent asked.now
+        (ports_of D.texts D.read_faults D.write_faults O.held O.faults folder.old out.old)
+        (ports_of D.texts D.read_faults D.write_faults O.held O.faults folder.new out.new) result }
+{
+    let answer = make_words(rt, alloc, asked, gate, folder);
+    if answer.number() == Status::Memory.number() {
+        return Status::Memory.number();
+    }
+    tell_answer(alloc, out, answer)
+}
+
 /// Does what the words ask for, and answers the status of the program.
 ///
 /// `words` doesn't hold the program's name. There is a set of screens for each session that a run
@@ -266,7 +314,8 @@ pub fn gate<R: Threads + Sync, D: Folder, O: Sink, G: Gate>(
         (ports_of D.texts D.read_faults D.write_faults O.held O.faults folder.new out.new) result }
 {
     match command_from(words) {
-        Some(run) => run_and_tell(rt, alloc, &run, folder, out, screens, gate),
+        Some(Command::Run(run)) => run_and_tell(rt, alloc, &run, folder, out, screens, gate),
+        Some(Command::Make(asked)) => make_and_tell(rt, alloc, &asked, folder, out, gate),
         None => tell(alloc, out, Status::Usage),
     }
 }

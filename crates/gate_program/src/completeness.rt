@@ -2,7 +2,7 @@
 ghost use Rattle.std.specs.Prelude.{◌≡◌, ℕ, ◌⊎◌, List};
 ghost use Rattle.screen_kit.specs.Screens.{ScreenValue};
 ghost use Rattle.gate_program.specs.WholeInputs.{HasWholeInputs};
-ghost use Rattle.gate_program.specs.Gate.{GateRun};
+ghost use Rattle.gate_program.specs.Commands.{GateRun};
 ghost use Rattle.gate_program.specs.Run.{PortsValue};
 
 /// A run over a limit file that is served and inputs that are whole frames, in which nothing failed

@@ -10,7 +10,7 @@ use crate::forests::{Forests, Passes};
 use crate::open::Opened;
 use crate::tasks::{Task, TaskDone, opened_of, run_tasks};
 use fold_law::Memory;
-use gate_ports::{Folder, Gate};
+use gate_ports::{Gate, Sink, Source};
 use limit_table::Limits;
 use risk_journal::{Act, End};
 use std::alloc::Global;
@@ -98,15 +98,15 @@ pub(crate) fn taken_apart<S: Drop, K: Drop>(
 
 /// Runs each task over these forests, all side by side, and takes apart what they left. There is room
 /// for it. Where memory is wanting none is run, and the objects are given back.
-pub(crate) fn run_sessions<R: Threads + Sync, D: Folder, G: Gate>(
+pub(crate) fn run_sessions<R: Threads + Sync, S: Source + Send, K: Sink + Send, G: Gate>(
     rt: &R,
     alloc: Global,
     limits: &Limits,
     gate: &G,
     forests: &Forests,
-    tasks: Vec<Task<D::In, D::Out>>,
-    room: Ended<D::In, D::Out>,
-) -> Result<Ended<D::In, D::Out>, Vec<Opened<D::In, D::Out>>>
+    tasks: Vec<Task<S, K>>,
+    room: Ended<S, K>,
+) -> Result<Ended<S, K>, Vec<Opened<S, K>>>
     requires some { 1 ≤ length tasks.items }
     requires forests { AreOpened limits.now (length tasks.items) forests.now }
     requires sums { map (λ t. t.sum) tasks.items
@@ -121,15 +121,15 @@ pub(crate) fn run_sessions<R: Threads + Sync, D: Folder, G: Gate>(
         AllByRecursion (λ own. length own < 2 ^ 32) (map (λ own. own.items) ended.acts.items)) }
     ensures done { IfOk result (λ ended. HaveDone limits.now
         (map (λ t. map (λ b. (Screen-box b).meaning b.value) t.screens.items) tasks.items)
-        (map (λ t. objects_of D.In.left D.In.name D.In.faults D.Out.held D.Out.name D.Out.faults
+        (map (λ t. objects_of S.left S.name S.faults K.held K.name K.faults
         t.opened) tasks.items)
-        (map (objects_of D.In.left D.In.name D.In.faults D.Out.held D.Out.name D.Out.faults)
+        (map (objects_of S.left S.name S.faults K.held K.name K.faults)
         ended.opened.items)
         (map (λ own. own.items) ended.acts.items) ended.ends.items) }
     ensures err { IfErr result (λ back. back.items ≡ map (λ t. t.opened) tasks.items) }
 {
     limits.stand_in_a_file();
-    match run_tasks::<R, D, G>(rt, alloc, limits, gate, forests, tasks) {
+    match run_tasks::<R, S, K, G>(rt, alloc, limits, gate, forests, tasks) {
         Ok(done) => Ok(taken_apart(done, room)),
         Err(tasks) => Err(opened_of(tasks, room.opened)),
     }

@@ -4,6 +4,7 @@ ghost use Rattle.std.specs.Prelude.{OnOk, IsErrOf};
 ghost use Rattle.std.specs.Io.KnownBytes.{Appends};
 ghost use Rattle.gate_program.specs.CommandOf.{run_value};
 ghost use Rattle.gate_program.specs.Finish.{HasAnswer, HasStood, HasFinished};
+ghost use Rattle.gate_program.specs.Telling.{told_of};
 ghost use Rattle.gate_program.specs.Totals.{HaveTotals};
 ghost use Rattle.gate_program.specs.Names.{AreNames};
 ghost use Rattle.gate_ports.specs.Faults.{HasCause};
@@ -15,11 +16,13 @@ ghost use Rattle.gate_program.specs.Statuses.{answer_number, answer_text};
 ghost use Rattle.gate_program.specs.Words.{journal_name, session_most};
 
 use crate::close::close_sessions;
+use crate::inputs::Inputs;
 use crate::names::Names;
 use crate::open::Opened;
 use crate::pieces::journal_pieces;
 use crate::status::{Answer, Status, standing};
-use crate::totals::totals_text;
+use crate::summary::text_after;
+use crate::told::Told;
 use crate::words::Run;
 use fold_law::Memory;
 use gate_ports::{Folder, PortFault, Sink, give_all};
@@ -66,6 +69,7 @@ fn answer_after<R: Threads + Sync>(
     rt: &R,
     alloc: Global,
     limits: &Limits,
+    told: &Told,
     journal: &Journal,
     ends: &[End],
     refused: bool,
@@ -75,18 +79,18 @@ fn answer_after<R: Threads + Sync>(
     requires acts { All (λ own. length own.items < 2 ^ 32) journal.now.acts.items }
     requires lines { HaveTotals (length journal.now.acts.items)
         (map (λ own. own.items) journal.now.lines.items) }
-    ensures { (answer_number result ≡ 8) ⊎ HasAnswer limits.now
+    ensures { (answer_number result ≡ 8) ⊎ HasAnswer (told_of told.now limits.now)
         (map (λ own. own.items) journal.now.acts.items) ends.now
         (map (λ own. own.items) journal.now.lines.items) refused
         (answer_text result) (answer_number result) }
 {
     let status = standing(ends, refused);
-    match status {
-        Status::Memory => Answer::Stopped(status),
-        _ => match totals_text(rt, alloc, limits, journal, ends, status) {
-            Ok(text) => Answer::Ended(status, text),
-            Err(Memory) => Answer::Stopped(Status::Memory),
-        },
+    if let Status::Memory = status {
+        return Answer::Stopped(Status::Memory);
+    }
+    match text_after(rt, alloc, limits, told, journal, ends, status) {
+        Ok(text) => Answer::Ended(status, text),
+        Err(Memory) => Answer::Stopped(Status::Memory),
     }
 }
 
@@ -95,6 +99,7 @@ fn keep_journal<R: Threads + Sync, D: Folder>(
     rt: &R,
     alloc: Global,
     limits: &Limits,
+    told: &Told,
     name: &str,
     journal: &Journal,
     ends: &[End],
@@ -108,7 +113,7 @@ fn keep_journal<R: Threads + Sync, D: Folder>(
         (map (λ own. own.items) journal.now.lines.items) }
     ensures went { Went (folder_of D.texts D.read_faults D.write_faults folder.old)
         (folder_of D.texts D.read_faults D.write_faults folder.new) }
-    ensures stood { (answer_number result ≡ 8) ⊎ HasStood limits.now name.now
+    ensures stood { (answer_number result ≡ 8) ⊎ HasStood (told_of told.now limits.now) name.now
         (folder_of D.texts D.read_faults D.write_faults folder.old)
         (folder_of D.texts D.read_faults D.write_faults folder.new)
         (map (λ own. own.items) journal.now.acts.items) ends.now
@@ -120,8 +125,8 @@ fn keep_journal<R: Threads + Sync, D: Folder>(
         Err(Memory) => return Answer::Stopped(Status::Memory),
     };
     match write_file(name, &pieces, folder) {
-        Ok(()) => answer_after(rt, alloc, limits, journal, ends, false),
-        Err(PortFault::Failed) => answer_after(rt, alloc, limits, journal, ends, true),
+        Ok(()) => answer_after(rt, alloc, limits, told, journal, ends, false),
+        Err(PortFault::Failed) => answer_after(rt, alloc, limits, told, journal, ends, true),
         Err(PortFault::Memory) => Answer::Stopped(Status::Memory),
     }
 }
@@ -135,13 +140,14 @@ pub(crate) struct Finished<S, K> {
 }
 
 /// Closes sessions that have ended, and writes the journal.
-pub(crate) fn finish<R: Threads + Sync, D: Folder>(
+pub(crate) fn finish<R: Threads + Sync, D: Folder, I: Inputs<D>>(
     rt: &R,
     alloc: Global,
     run: &Run,
     limits: &Limits,
+    told: &Told,
     names: &Names,
-    finished: Finished<D::In, D::Out>,
+    finished: Finished<I::In, D::Out>,
     folder: &mut D,
 ) -> Answer
     requires most { length run.now.sessions.now ≤ session_most }
@@ -156,15 +162,16 @@ pub(crate) fn finish<R: Threads + Sync, D: Folder>(
     requires end_count { length finished.ends.items ≡ length run.now.sessions.now }
     requires object_count { length finished.opened.items ≡ length run.now.sessions.now }
     requires own { EachOwn (run_value run.now) (D.texts folder.old)
-        (map (objects_of D.In.left D.In.name D.In.faults D.Out.held D.Out.name D.Out.faults)
+        (map (objects_of I.In.left I.In.name I.In.faults D.Out.held D.Out.name D.Out.faults)
         finished.opened.items) }
-    ensures { (answer_number result ≡ 8) ⊎ HasFinished limits.now (run_value run.now)
+    ensures { (answer_number result ≡ 8) ⊎ HasFinished (told_of told.now limits.now)
+        (run_value run.now)
         (folder_of D.texts D.read_faults D.write_faults folder.old)
         (folder_of D.texts D.read_faults D.write_faults folder.new)
         (map (λ own. own.items) finished.journal.acts.items)
         (map (λ own. own.items) finished.journal.lines.items)
         finished.ends.items
-        (map (objects_of D.In.left D.In.name D.In.faults D.Out.held D.Out.name D.Out.faults)
+        (map (objects_of I.In.left I.In.name I.In.faults D.Out.held D.Out.name D.Out.faults)
         finished.opened.items) (answer_text result) (answer_number result) }
 {
     let Finished {
@@ -172,11 +179,12 @@ pub(crate) fn finish<R: Threads + Sync, D: Folder>(
         ends,
         opened,
     } = finished;
-    close_sessions(run, &names.sessions, opened, folder);
+    close_sessions::<D, I>(run, &names.sessions, opened, folder);
     keep_journal(
         rt,
         alloc,
         limits,
+        told,
         names.journal.as_str(),
         &journal,
         &ends,

@@ -8,9 +8,12 @@ mod completeness;
 mod ended;
 mod finish;
 mod forests;
+mod inputs;
 #[cfg(test)]
 mod leaf_tests;
 mod limits;
+mod load;
+mod make;
 mod names;
 mod open;
 #[cfg(test)]
@@ -27,6 +30,7 @@ mod rows;
 mod screen_tests;
 mod sets;
 mod status;
+mod summary;
 #[cfg(test)]
 mod task_tests;
 mod tasks;
@@ -37,6 +41,7 @@ mod test_gates;
 mod test_screens;
 #[cfg(test)]
 mod tests;
+mod told;
 mod totals;
 #[cfg(test)]
 mod turn_rows;

@@ -11,6 +11,7 @@ ghost use Rattle.gate_program.specs.Names.{AreNames};
 ghost use Rattle.gate_program.specs.Objects.{objects_of, HasOpened};
 
 use crate::close::close_sessions;
+use crate::inputs::Named;
 use crate::limits::limits_from;
 use crate::names::Outputs;
 use crate::status::Status;
@@ -77,7 +78,10 @@ pub(crate) struct Sinks<K> {
 }
 
 /// Makes the two outputs of a session. Where the second can't be made the first is closed empty.
-fn create_outputs<D: Folder>(outputs: &Outputs, folder: &mut D) -> Result<Sinks<D::Out>, Status>
+pub(crate) fn create_outputs<D: Folder>(
+    outputs: &Outputs,
+    folder: &mut D,
+) -> Result<Sinks<D::Out>, Status>
     ensures went { Went (folder_of D.texts D.read_faults D.write_faults folder.old)
         (folder_of D.texts D.read_faults D.write_faults folder.new) }
     ensures texts { IfOk result (λ sinks. D.texts folder.new ≡ option_map
@@ -185,7 +189,7 @@ pub(crate) fn open_sessions<D: Folder>(
         match open_session(run.sessions[session].as_str(), &names[session], folder) {
             Ok(opened) => all.push_reserved(opened),
             Err(status) => {
-                close_sessions(run, names, all, folder);
+                close_sessions::<D, Named>(run, names, all, folder);
                 return Err(status);
             }
         }

@@ -10,7 +10,7 @@ use crate::open::{Opened, Sinks};
 use f_array::{Forest, Pass, TreeHand};
 use fold_law::{Max, Sum};
 use fork_all::map_all;
-use gate_ports::{Folder, Gate, Sink, Source};
+use gate_ports::{Gate, Sink, Source};
 use limit_table::Limits;
 use risk_journal::{Act, End};
 use screen_kit::Screen;
@@ -129,38 +129,38 @@ fn run_task<S: Source, K: Sink, G: Gate>(
 
 /// Runs each task, all side by side, and gives what each left, in their order. Where memory is
 /// wanting none is run, and the tasks are given back.
-pub(crate) fn run_tasks<R: Threads + Sync, D: Folder, G: Gate>(
+pub(crate) fn run_tasks<R: Threads + Sync, S: Source + Send, K: Sink + Send, G: Gate>(
     rt: &R,
     alloc: Global,
     limits: &Limits,
     gate: &G,
     forests: &Forests,
-    tasks: Vec<Task<D::In, D::Out>>,
-) -> Result<Vec<TaskDone<D::In, D::Out>>, Vec<Task<D::In, D::Out>>>
+    tasks: Vec<Task<S, K>>,
+) -> Result<Vec<TaskDone<S, K>>, Vec<Task<S, K>>>
     requires ready { AllByRecursion (λ task.
         AreReady limits.now forests.now.sums forests.now.halts task.sum task.halt) tasks.items }
     ensures ok { IfOk result (λ done. AllZip (λ task one.
         HaveMade limits.now task.sum task.halt one.sum one.halt one.acts.items
         × (length one.acts.items < 2 ^ 32)
         × HasDone limits.now (map (λ b. (Screen-box b).meaning b.value) task.screens.items)
-        (objects_of D.In.left D.In.name D.In.faults D.Out.held D.Out.name D.Out.faults task.opened)
-        (objects_of D.In.left D.In.name D.In.faults D.Out.held D.Out.name D.Out.faults one.opened)
+        (objects_of S.left S.name S.faults K.held K.name K.faults task.opened)
+        (objects_of S.left S.name S.faults K.held K.name K.faults one.opened)
         one.acts.items one.end)
         tasks.items done.items) }
     ensures err { IfErr result (λ back. back.items ≡ tasks.items) }
 {
     let sums = &forests.sums;
     let halts = &forests.halts;
-    let run = |task: Task<D::In, D::Out>| -> TaskDone<D::In, D::Out>
+    let run = |task: Task<S, K>| -> TaskDone<S, K>
         requires { AreReady limits.now sums.now halts.now task.sum task.halt }
         ensures { HaveMade limits.entry.now task.sum task.halt result.sum result.halt
             result.acts.items
             × (length result.acts.items < 2 ^ 32)
             × HasDone limits.entry.now
             (map (λ b. (Screen-box b).meaning b.value) task.screens.items)
-            (objects_of D.In.left D.In.name D.In.faults D.Out.held D.Out.name D.Out.faults
+            (objects_of S.left S.name S.faults K.held K.name K.faults
             task.opened)
-            (objects_of D.In.left D.In.name D.In.faults D.Out.held D.Out.name D.Out.faults
+            (objects_of S.left S.name S.faults K.held K.name K.faults
             result.opened)
             result.acts.items result.end }
     { run_task(alloc, limits, gate, sums, halts, task) };

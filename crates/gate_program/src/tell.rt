@@ -30,7 +30,11 @@ pub(crate) fn tell<O: Sink>(alloc: Global, out: &mut O, standing: Status) -> u8
         (O.faults out.old) (O.faults out.new) (told_text standing) (number_of standing) result }
 {
     match standing {
-        Status::Usage => { tell_text(out, b"usage: gate run LIMITS OUT SESSION...\n", standing) }
+        Status::Usage => tell_text(
+            out,
+            b"usage: gate run LIMITS OUT SESSION... | gate make NUMBER SESSIONS ORDERS\n",
+            standing,
+        ),
         Status::Limits(fault) => tell_fault(alloc, out, fault),
         Status::ReadFault => tell_text(out, b"read fault\n", standing),
         Status::WriteFault => tell_text(out, b"write fault\n", standing),

@@ -1,14 +1,17 @@
 //! The words of the command line.
 ghost use Rattle.std.specs.Prelude.{◌≡◌, ◌≢◌, ℕ, ◌<◌, ◌≤◌, ◌∷◌, ◌++◌, List, map, string_bytes};
-ghost use Rattle.std.specs.Prelude.{IsTrue, IfSome, MatchOption};
+ghost use Rattle.std.specs.Prelude.{IfSome, MatchOption, ◌^◌, decimal};
 ghost use Rattle.std.specs.List.{list_all, list_any};
 ghost use Rattle.std.specs.Option.{option_map};
 ghost use Rattle.std.specs.Str.{bytes_eq};
-ghost use Rattle.gate_program.specs.Words.{RunWords, command_of, is_word, is_run, is_among};
+ghost use Rattle.gate_program.specs.Words.{command_of, is_word, is_run, is_among, load_of, number_in};
+ghost use Rattle.gate_program.specs.Words.{run_of};
 ghost use Rattle.gate_program.specs.Words.{output_names, are_distinct, session_most};
-ghost use Rattle.gate_program.specs.CommandOf.{command_value, run_value, file_names, files_of};
+ghost use Rattle.gate_program.specs.CommandOf.{command_value, run_value, file_names, files_of, IsForm};
 
 use fold_law::SESSIONS;
+use itoa::Buffer;
+use make_load::{Asked, ORDERS_MOST};
 
 /// The words of a run.
 #[derive(Clone, Copy, Debug)]
@@ -21,24 +24,106 @@ pub(crate) struct Run<'a> {
     pub sessions: &'a [String],
 }
 
-/// The run that the words ask for. None where they are no form.
-pub(crate) fn command_from<'a>(words: &'a [String]) -> Option<Run<'a>>
+/// What the words ask for.
+#[derive(Clone, Copy, Debug)]
+pub(crate) enum Command<'a> {
+    /// A run over files.
+    Run(Run<'a>),
+    /// A load, and a run over it.
+    Make(Asked),
+}
+
+/// The command that the words ask for. None where they are no form.
+pub(crate) fn command_from<'a>(words: &'a [String]) -> Option<Command<'a>>
     ensures command { option_map command_value result ≡ command_of (map string_bytes words.now) }
-    ensures run { IfSome result (λ run. IsTrue (is_run (run_value run))) }
+    ensures form { IfSome result IsForm }
 {
-    let [command, limits, out, sessions @ ..] = words else {
+    let [command, first, second, others @ ..] = words else {
         return None;
     };
-    let run = Run {
-        limits: limits.as_str(),
-        out: out.as_str(),
-        sessions,
-    };
-    if command.as_str() == "run" && is_run(&run) {
-        Some(run)
+    if command.as_str() == "run" {
+        run_from(first.as_str(), second.as_str(), others)
+    } else if command.as_str() == "make" {
+        load_from(first.as_str(), second.as_str(), others)
     } else {
         None
     }
+}
+
+/// The run that the words after `run` ask for.
+fn run_from<'a>(limits: &'a str, out: &'a str, sessions: &'a [String]) -> Option<Command<'a>>
+    ensures command { option_map command_value result
+        ≡ run_of limits.now out.now (map string_bytes sessions.now) }
+    ensures form { IfSome result IsForm }
+{
+    let run = Run {
+        limits,
+        out,
+        sessions,
+    };
+    if is_run(&run) {
+        Some(Command::Run(run))
+    } else {
+        None
+    }
+}
+
+/// The load that the words after `make` ask for.
+fn load_from<'a>(number: &str, sessions: &str, others: &[String]) -> Option<Command<'a>>
+    ensures command { option_map command_value result
+        ≡ load_of number.now sessions.now (map string_bytes others.now) }
+    ensures form { IfSome result IsForm }
+{
+    let [orders] = others else {
+        return None;
+    };
+    let Some(number) = number_in(0, u32::MAX, number) else {
+        return None;
+    };
+    let Some(sessions) = number_in(1, SESSIONS, sessions) else {
+        return None;
+    };
+    let Some(orders) = number_in(1, ORDERS_MOST, orders.as_str()) else {
+        return None;
+    };
+    Some(Command::Make(Asked {
+        number,
+        sessions,
+        orders,
+    }))
+}
+
+/// The number that a word spells in digits without a leading zero, where it does.
+fn number_of(word: &str) -> Option<u32>
+    ensures { MatchOption result ((number : ℕ) → number < 2 ^ 32 → decimal number ≢ word.now)
+        (λ number. decimal number ≡ word.now) }
+{
+    let Ok(number) = word.parse::<u32>() else {
+        return None;
+    };
+    let mut digits = Buffer::new();
+    if digits.format(number).as_bytes() == word.as_bytes() {
+        Some(number)
+    } else {
+        None
+    }
+}
+
+/// The same, where it is in this range.
+fn number_in(least: u32, most: u32, word: &str) -> Option<u32>
+    ensures number { result ≡ number_in least most word.now }
+    ensures range { IfSome result (λ number. (least ≤ number) × (number ≤ most)) }
+{
+    let Some(number) = number_of(word) else {
+        return None;
+    };
+    if number < least {
+        return None;
+    }
+    if number > most {
+        return None;
+    }
+    Some(number)
 }
 
 /// Whether the words are those of a run.

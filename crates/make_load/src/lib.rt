@@ -17,6 +17,7 @@ mod summary;
 
 pub use laws::{load_limits_are_a_file, loads_are_whole, worked_draws};
 pub use load::{Load, make_load};
+pub use session::ORDERS_MOST;
 pub use summary::{Asked, Counts, summary_text};
 
 #[cfg(test)]

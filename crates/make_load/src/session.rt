@@ -22,7 +22,7 @@ pub(crate) struct SessionFile {
 }
 
 /// The most orders of a session.
-pub(crate) const ORDERS_MOST: u32 = 10_000;
+pub const ORDERS_MOST: u32 = 10_000;
 
 /// Room for the messages of an order, in bytes: more than most orders have.
 const ORDER_ROOM: usize = 512;

@@ -4,6 +4,7 @@ ghost use Rattle.make_load.specs.Summary.{asked_text, counts_text, summary_text}
 
 use crate::part::{add, add_number};
 use fold_law::Memory;
+use itoa::Buffer;
 use std::alloc::Global;
 
 /// The load that was asked for.
@@ -27,7 +28,7 @@ pub struct Counts {
     /// The bytes of all session files.
     pub bytes: u32,
     /// The reads of all roots.
-    pub reads: u32,
+    pub reads: u64,
 }
 
 /// The trees of a load, by the rows of its limit file, and the status.
@@ -73,7 +74,8 @@ fn add_counts(text: &mut Vec<u8>, counts: &Counts) -> Result<(), Memory>
     add(text, b" bytes ")?;
     add_number(text, counts.bytes)?;
     add(text, b"\nreads ")?;
-    add_number(text, counts.reads)?;
+    let mut reads = Buffer::new();
+    add(text, reads.format(counts.reads).as_bytes())?;
     add(text, b"\n")
 }
 

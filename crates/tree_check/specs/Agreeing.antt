@@ -28,7 +28,7 @@ pub record CanBeChecked (cap sessions : ℕ) (tree : ToldTree) : Type 0 where
   pub lines : AreLines cap tree.history.lines.items
   pub own : AllByRecursion (IsOwn sessions) tree.history.lines.items
   pub reads : AreOf sessions tree.reads.items
-  pub few : length tree.history.lines.items + 1 < 2 ^ 32
+  pub few : length tree.history.lines.items < 2 ^ 32
   pub most : sessions ≤ SESSIONS
 
 -- the tree was checked

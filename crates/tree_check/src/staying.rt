@@ -86,7 +86,7 @@ pub fn stays_within(
     limit: u64,
 ) -> Result<bool, Memory>
     requires few { sessions ≤ SESSIONS }
-    requires long { length lines.now + 1 < 2 ^ 32 }
+    requires long { length lines.now < 2 ^ 32 }
     requires lines { AllByRecursion (IsOwn sessions) lines.now }
     requires reads { AreOf sessions reads.now }
     ensures { IfOk result (λ stays. stays ≡ stays_along limit sessions lines.now reads.now) }

@@ -13,15 +13,14 @@ use trail_replay::{History, Walk};
 /// The fold of the plain array at each place of a history, from 0 to its length.
 fn roots_of<F: Fold>(alloc: Global, history: &History) -> Result<Vec<u64>, Memory>
     requires lines { AreLines F.CAP history.now.lines.items }
-    requires few { length history.now.lines.items + 1 < 2 ^ 32 }
+    requires few { length history.now.lines.items < 2 ^ 32 }
     ensures { IfOk result (λ roots. roots.items ≡ list_below
         (whole_at F.join F.UNIT history.now.lines.items) (length history.now.lines.items + 1)) }
 {
-    let count = history.lines.len() as u32 + 1;
     let mut walk = Walk::<F>::start(history);
     let mut roots = Vec::new(alloc);
-    for place in 0..count {
-        let Ok(()) = roots.push(walk.to(place)) else {
+    for place in 0..history.lines.len() + 1 {
+        let Ok(()) = roots.push(walk.to(place as u32)) else {
             return Err(Memory);
         };
     }
@@ -50,7 +49,7 @@ pub fn are_walked<F: Fold>(
     reads: &[ReadAt],
 ) -> Result<bool, Memory>
     requires lines { AreLines F.CAP history.now.lines.items }
-    requires few { length history.now.lines.items + 1 < 2 ^ 32 }
+    requires few { length history.now.lines.items < 2 ^ 32 }
     ensures { IfOk result (λ all.
         all ≡ are_walked F.join F.UNIT history.now.lines.items reads.now) }
 {

@@ -17,8 +17,8 @@ close_session-requires-clause-input g c κs within =
     let session = c.loop-session.session in
     let below : session < length c.args.opened.items =
     omega (arith, c.len-count.ensures, c.loop-session-test.true) in
-    let own = next_owned (objects_of g.D.In.Source.left g.D.In.Source.name
-    g.D.In.Source.faults g.D.Out.Sink.held g.D.Out.Sink.name g.D.Out.Sink.faults)
+    let own = next_owned (objects_of g.I.In.Source.left g.I.In.Source.name
+    g.I.In.Source.faults g.D.Out.Sink.held g.D.Out.Sink.name g.D.Out.Sink.faults)
     (run_value c.args.run.now) _ _ c.args.opened.items _ _ session c.remove-next.result
     c.loop-session.invariant.closed.went c.loop-session.invariant.left below
     c.remove-next.ensures.value c.remove-next.ensures.by_index.2 c.requires.own in
@@ -30,8 +30,8 @@ close_session-requires-clause-venue g c κs within =
     let session = c.loop-session.session in
     let below : session < length c.args.opened.items =
     omega (arith, c.len-count.ensures, c.loop-session-test.true) in
-    let own = next_owned (objects_of g.D.In.Source.left g.D.In.Source.name
-    g.D.In.Source.faults g.D.Out.Sink.held g.D.Out.Sink.name g.D.Out.Sink.faults)
+    let own = next_owned (objects_of g.I.In.Source.left g.I.In.Source.name
+    g.I.In.Source.faults g.D.Out.Sink.held g.D.Out.Sink.name g.D.Out.Sink.faults)
     (run_value c.args.run.now) _ _ c.args.opened.items _ _ session c.remove-next.result
     c.loop-session.invariant.closed.went c.loop-session.invariant.left below
     c.remove-next.ensures.value c.remove-next.ensures.by_index.2 c.requires.own in
@@ -45,8 +45,8 @@ close_session-requires-clause-client g c κs within =
     let session = c.loop-session.session in
     let below : session < length c.args.opened.items =
     omega (arith, c.len-count.ensures, c.loop-session-test.true) in
-    let own = next_owned (objects_of g.D.In.Source.left g.D.In.Source.name
-    g.D.In.Source.faults g.D.Out.Sink.held g.D.Out.Sink.name g.D.Out.Sink.faults)
+    let own = next_owned (objects_of g.I.In.Source.left g.I.In.Source.name
+    g.I.In.Source.faults g.D.Out.Sink.held g.D.Out.Sink.name g.D.Out.Sink.faults)
     (run_value c.args.run.now) _ _ c.args.opened.items _ _ session c.remove-next.result
     c.loop-session.invariant.closed.went c.loop-session.invariant.left below
     c.remove-next.ensures.value c.remove-next.ensures.by_index.2 c.requires.own in
@@ -69,14 +69,14 @@ loop-session-preserved g c =
     record {
       left = taken.1;
       closed = next_closed (run_value c.args.run.now) _ _ _ _ session _
-          (map_at (objects_of g.D.In.Source.left g.D.In.Source.name
-          g.D.In.Source.faults g.D.Out.Sink.held g.D.Out.Sink.name g.D.Out.Sink.faults)
+          (map_at (objects_of g.I.In.Source.left g.I.In.Source.name
+          g.I.In.Source.faults g.D.Out.Sink.held g.D.Out.Sink.name g.D.Out.Sink.faults)
           c.args.opened.items session c.remove-next.result taken.0)
           (omega (
             arith,
             length-map c.args.opened.items
-                (objects_of g.D.In.Source.left g.D.In.Source.name
-                g.D.In.Source.faults g.D.Out.Sink.held g.D.Out.Sink.name g.D.Out.Sink.faults),
+                (objects_of g.I.In.Source.left g.I.In.Source.name
+                g.I.In.Source.faults g.D.Out.Sink.held g.D.Out.Sink.name g.D.Out.Sink.faults),
             below,
           ))
           c.loop-session.invariant.closed

@@ -11,7 +11,7 @@ invariant-loop-session g l = record {
   closed : HasClosed (run_value l.run)
       (folder_of g.D.Folder.texts g.D.Folder.read_faults g.D.Folder.write_faults l.initial.folder)
       (folder_of g.D.Folder.texts g.D.Folder.read_faults g.D.Folder.write_faults l.folder)
-      (take l.session (map (objects_of g.D.In.Source.left g.D.In.Source.name
-      g.D.In.Source.faults g.D.Out.Sink.held g.D.Out.Sink.name
+      (take l.session (map (objects_of g.I.In.Source.left g.I.In.Source.name
+      g.I.In.Source.faults g.D.Out.Sink.held g.D.Out.Sink.name
       g.D.Out.Sink.faults) l.initial.opened.items));
 }

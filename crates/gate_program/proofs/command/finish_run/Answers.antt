@@ -34,5 +34,5 @@ finish-requires-clause-act_count g c κs within =
 
 pub returns-in-Ok : goal.returns-in-Ok
 returns-in-Ok g c =
-    kept c.args.limits.now (run_value c.args.run.now) _ _ _ _ _ _ _ _ _ c.in-Ok.ensures.acts
+    kept _ c.args.limits.now (run_value c.args.run.now) _ _ _ _ _ _ _ _ _ c.in-Ok.ensures.acts
     (c.in-Ok.ensures.legal c.args.limits.now c.requires.ran) c.finish.ensures

@@ -1,13 +1,28 @@
-use Rattle.std.proofs.Common.{◌∙◌, sym, string_bytes}
+use Rattle.std.proofs.Common.{◌∙◌, sym, string_bytes, arith}
 use Rattle.std.proofs.lemmas.List.{length-map}
 use Rattle.gate_program.specs.CommandOf.{run_value}
 use Rattle.gate_program.specs.Objects.{objects_of}
+use Rattle.gate_program.proofs.RunStarts.{few_sessions, some_session}
 use Rattle.gate_program.proofs.Ways.{ended_went, unopened}
 use Rattle.gate_program.proofs.command.run_limited.Goals as goal
 
+pub run_opened-requires-clause-some : goal.run_opened-requires-clause-some
+run_opened-requires-clause-some g c κs within = omega (
+  arith,
+  some_session (run_value c.args.run.now) c.requires.run,
+  length-map c.args.run.now.sessions.now string_bytes,
+)
+
+pub run_opened-requires-clause-most : goal.run_opened-requires-clause-most
+run_opened-requires-clause-most g c κs within = omega (
+  arith,
+  few_sessions (run_value c.args.run.now) c.requires.run,
+  length-map c.args.run.now.sessions.now string_bytes,
+)
+
 pub returns-in-Ok-open_sessions : goal.returns-in-Ok-open_sessions
 returns-in-Ok-open_sessions g c =
-    ended_went (run_value c.args.run.now) c.args.limits.now _ _ _ _ _ _ _ _ _ _ _ _ _
+    ended_went g.D.In.Source.faults (run_value c.args.run.now) c.args.limits.now _ _ _ _ _ _ _ _ _ _ _ _ _
     c.in-Ok-open_sessions.ensures.ok
     (length-map c.in-Ok-open_sessions.opened.items
     (objects_of g.D.In.Source.left g.D.In.Source.name g.D.In.Source.faults g.D.Out.Sink.held

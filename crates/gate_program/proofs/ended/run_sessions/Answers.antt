@@ -73,8 +73,8 @@ returns-in-Ok-clause-few g c =
 
 pub returns-in-Ok-clause-done : goal.returns-in-Ok-clause-done
 returns-in-Ok-clause-done g c =
-    let f = objects_of g.D.In.Source.left g.D.In.Source.name g.D.In.Source.faults g.D.Out.Sink.held
-    g.D.Out.Sink.name g.D.Out.Sink.faults in
+    let f = objects_of g.S.Source.left g.S.Source.name g.S.Source.faults g.K.Sink.held
+    g.K.Sink.name g.K.Sink.faults in
     have_done _ c.args.limits.now _ (λ t. f t.opened) (λ d. f d.opened) (λ d. d.acts.items)
     (λ d. d.end) (λ t d ran. ran.2) c.args.tasks.items c.in-Ok.done.items c.in-Ok.ensures.ok _ _ _
     (ap (map f) c.taken_apart.ensures.opened

@@ -7,11 +7,11 @@ use Rattle.gate_program.proofs.finish.finish.Goals as goal
 
 pub returns : goal.returns
 returns g c =
-    finished c.args.limits.now (run_value c.args.run.now) _ _ _ _ _
+    finished _ (run_value c.args.run.now) _ _ _ _ _
     c.args.finished.ends.items _ c.as_str.result.now _ _ _ c.deref-2.ensures.value
     (c.as_str.ensures.value ∙ c.requires.journal)
     (length-map c.args.finished.opened.items
-    (objects_of g.D.In.Source.left g.D.In.Source.name g.D.In.Source.faults g.D.Out.Sink.held
+    (objects_of g.I.In.Source.left g.I.In.Source.name g.I.In.Source.faults g.D.Out.Sink.held
     g.D.Out.Sink.name g.D.Out.Sink.faults)
     ∙ c.requires.object_count ∙ sym (length-map c.args.run.now.sessions.now string_bytes))
     c.close_sessions.ensures c.keep_journal.ensures.went

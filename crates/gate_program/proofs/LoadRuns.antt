@@ -1,0 +1,176 @@
+-- A load as a run: its names, its files and its sets of screens.
+use Rattle.std.proofs.Common.{◌≡◌, ℕ, zero, suc, ◌+◌, ◌<◌, ◌≤◌, List, [], ◌∷◌, length, map, refl, sym, ap, subst}
+use Rattle.std.proofs.Common.{◌∙◌, arith, replicate, inl, inr}
+use Rattle.std.proofs.Common.{Vec, Global, String, string_bytes}
+use Rattle.std.proofs.lemmas.List.{length-map}
+use Rattle.std.proofs.lemmas.List.FromFn.{length-range_with_len}
+use Rattle.std.proofs.lemmas.Option.{slice_get_within}
+use Rattle.std.specs.Prelude.{false, Option, Some, None, slice_get, sum_by, ◌⊎◌}
+use Rattle.std.specs.List.{AllByRecursion, range_with_len}
+use Rattle.gate_ports.specs.Names.{Texts}
+use Rattle.limit_table.proofs.OneAnswer.{one_limits, not_both}
+use Rattle.limit_table.specs.Files.{IsLimitFile}
+use Rattle.limit_table.specs.declared.limits.Limits.{Limits}
+use Rattle.make_load.specs.LoadLimits.{load_limits}
+use Rattle.make_load.specs.Loads.{limit_text, session_texts}
+use Rattle.make_load.specs.declared.summary.Asked.{Asked}
+use Rattle.screen_kit.specs.Screens.{ScreenValue}
+use Rattle.gate_program.specs.declared.names.Outputs.{Outputs}
+use Rattle.gate_program.specs.declared.status.Status.{Status}
+use Rattle.gate_program.specs.declared.status.Status.TheVariants as status
+use Rattle.gate_program.specs.CommandOf.{IsAsked}
+use Rattle.gate_program.specs.Limits.{is_served}
+use Rattle.gate_program.specs.Loads.{LoadWent, input_of, load_run}
+use Rattle.gate_program.specs.Names.{AreNames}
+use Rattle.gate_program.specs.Objects.{ObjectsValue}
+use Rattle.gate_program.specs.Run.{PortsValue, set_of}
+use Rattle.gate_program.specs.Stages.{GivesNoLimits, HasUnmade}
+use Rattle.gate_program.specs.Statuses.{number_of, told_text}
+use Rattle.gate_program.specs.Words.{RunWords, session_most, venue_name}
+use Rattle.gate_program.proofs.Lists.{map_at}
+use Rattle.gate_program.proofs.Made.{FilesLaw}
+use Rattle.gate_program.proofs.Ran.{silent, shown}
+
+-- the names of outputs to venues, from one on
+venues_from : (out : List ℕ) (start : ℕ) (outputs : List Outputs)
+    → ((place : ℕ) (own : Outputs) → slice_get outputs place ≡ Some own
+    → string_bytes own.venue ≡ venue_name out (start + place))
+    → map (λ (o : Outputs). string_bytes o.venue) outputs
+    ≡ map (venue_name out) (range_with_len start (length outputs))
+venues_from out start [] each = refl
+venues_from out start (own ∷ outputs) each =
+    let first : string_bytes own.venue ≡ venue_name out start =
+    each 0 own refl ∙ ap (venue_name out) (omega arith) in
+    ap (λ (n : List ℕ). n ∷ map (λ (o : Outputs). string_bytes o.venue) outputs) first
+    ∙ ap (λ (l : List (List ℕ)). venue_name out start ∷ l)
+    (venues_from out (start + 1) outputs (λ place o is. each (suc place) o is
+    ∙ ap (venue_name out) (omega arith)))
+
+-- the names that a load's inputs go by
+pub venues_are : (out : List ℕ) (count : ℕ) (outputs : List Outputs) (names : List (String Global))
+    → AreNames out count outputs
+    → map string_bytes names ≡ map (λ (o : Outputs). string_bytes o.venue) outputs
+    → map string_bytes names ≡ map (venue_name out) (range_with_len 0 count)
+venues_are out count outputs names are named =
+    named
+    ∙ venues_from out 0 outputs (λ place own is. (are.each place own is).venue)
+    ∙ ap (λ (n : ℕ). map (venue_name out) (range_with_len 0 n)) are.many
+
+-- there are as many of them
+pub names_many : (out : List ℕ) (count : ℕ) (outputs : List Outputs) (names : List (String Global))
+    → AreNames out count outputs
+    → map string_bytes names ≡ map (λ (o : Outputs). string_bytes o.venue) outputs
+    → length names ≡ count
+names_many out count outputs names are named =
+    sym (length-map names string_bytes) ∙ ap length named
+    ∙ length-map outputs (λ (o : Outputs). string_bytes o.venue) ∙ are.many
+
+-- a load has as many sessions as were asked for
+pub load_many : (asked : Asked) → length (load_run asked).sessions ≡ asked.sessions
+load_many asked =
+    length-map (range_with_len 0 asked.sessions) (venue_name (load_run asked).out)
+    ∙ length-range_with_len 0 asked.sessions
+
+-- and as many files
+pub files_many : (asked : Asked) (files : List (Vec ℕ Global))
+    → map (λ own. own.items) files
+    ≡ session_texts asked.number asked.sessions asked.orders
+    → length files ≡ asked.sessions
+files_many asked files are =
+    sym (length-map files (λ own. own.items)) ∙ ap length are
+    ∙ length-map (range_with_len 0 asked.sessions) _
+    ∙ length-range_with_len 0 asked.sessions
+
+text_from : (f : ℕ → List ℕ) (start count place : ℕ) (text : List ℕ)
+    → slice_get (map f (range_with_len start count)) place ≡ Some text → text ≡ f (start + place)
+text_from f start zero place text is = absurd cc
+text_from f start (suc count) zero text is =
+    let same : f start ≡ text = cc in sym same ∙ ap f (omega arith)
+text_from f start (suc count) (suc place) text is =
+    text_from f (start + 1) count place text is ∙ ap f (omega arith)
+
+-- the file of a session is its input
+pub file_is : (asked : Asked) (session : ℕ) (text : List ℕ)
+    → slice_get (session_texts asked.number asked.sessions asked.orders) session ≡ Some text
+    → text ≡ input_of asked session
+file_is asked session text is =
+    text_from _ 0 asked.sessions session text is ∙ ap (input_of asked) (omega arith)
+
+none_at : (count place : ℕ) → place < count
+    → set_of (replicate count ([] : List ScreenValue)) place ≡ []
+none_at zero place below = absurd (omega arith)
+none_at (suc count) zero below = refl
+none_at (suc count) (suc place) below = none_at count place (omega arith)
+
+-- there is no screen in any of so many empty sets
+pub no_set : (sets : List (List ScreenValue)) (session : ℕ) → sets ≡ replicate session_most []
+    → session < session_most → set_of sets session ≡ []
+no_set sets session are below =
+    ap (λ (all : List (List ScreenValue)). set_of all session) are
+    ∙ none_at session_most session below
+
+-- the limit file of a load gives limits, unless memory is wanting
+pub gives_limits : (P : ℕ → Type 0) (s : Status) → IsLimitFile limit_text load_limits
+    → GivesNoLimits limit_text s → (number_of s ≡ 8) ⊎ P (number_of s)
+gives_limits P (status.Limits why) file fault =
+    absurd (not_both limit_text load_limits why file fault)
+gives_limits P status.NotBuilt file other =
+    absurd (served (ap is_served (one_limits limit_text other.file load_limits other.held file))
+    other.unserved) where
+      served : is_served other.file ≡ is_served load_limits
+          → is_served other.file ≡ false → ⊥
+      served same isnt = cc
+gives_limits P status.Memory file fault = inl refl
+gives_limits P status.Done file fault = absurd fault
+gives_limits P status.Usage file fault = absurd fault
+gives_limits P status.CutShort file fault = absurd fault
+gives_limits P status.ReadFault file fault = absurd fault
+gives_limits P status.WriteFault file fault = absurd fault
+
+-- an output of a load could not be made
+pub unmade : (asked : Asked) (t0 : Option Texts) (r0 w0 : List ℕ → ℕ) (t1 : Option Texts)
+    (r1 w1 : List ℕ → ℕ) (s : Status)
+    → HasUnmade (load_run asked) (silent t0 r0 w0) (silent t1 r1 w1) s
+    → (number_of s ≡ 8)
+    ⊎ LoadWent asked (shown t0 r0 w0 []) (shown t1 r1 w1 (told_text s)) (number_of s)
+unmade asked t0 r0 w0 t1 r1 w1 status.WriteFault (session, below, rose) = inr (inl (record {
+  session = session;
+  in_range = subst (λ (n : ℕ). session < n) (load_many asked) below;
+  rose = rose;
+  told = inl (refl, refl);
+}))
+unmade asked t0 r0 w0 t1 r1 w1 status.Memory fault = inl refl
+unmade asked t0 r0 w0 t1 r1 w1 status.Done (session, below, fault) = absurd fault
+unmade asked t0 r0 w0 t1 r1 w1 status.Usage (session, below, fault) = absurd fault
+unmade asked t0 r0 w0 t1 r1 w1 (status.Limits why) (session, below, fault) = absurd fault
+unmade asked t0 r0 w0 t1 r1 w1 status.CutShort (session, below, fault) = absurd fault
+unmade asked t0 r0 w0 t1 r1 w1 status.ReadFault (session, below, fault) = absurd fault
+unmade asked t0 r0 w0 t1 r1 w1 status.NotBuilt (session, below, fault) = absurd fault
+
+-- no file of a load has more bytes than this
+pub files_small : FilesLaw → (asked : Asked) → IsAsked asked → (files : List (Vec ℕ Global))
+    → map (λ own. own.items) files
+    ≡ session_texts asked.number asked.sessions asked.orders
+    → AllByRecursion (λ (own : Vec ℕ Global). length own.items ≤ 20000000) files
+files_small law asked is files are = small files (λ place own at.
+    subst (λ (text : List ℕ). length text ≤ 20000000)
+    (sym (file_is asked place own.items (ap (λ l. slice_get l place) (sym are)
+    ∙ map_at (λ own. own.items) files place own at)))
+    (few place (omega (
+      arith,
+      slice_get_within files place own at,
+      files_many asked files are,
+      is.most,
+    )))) where
+      few : (session : ℕ) → session < 100 → length (input_of asked session) ≤ 20000000
+      few session below =
+          omega (arith, law.size asked.number asked.orders session is.most_orders below,
+          is.most_orders)
+
+      small : (all : List (Vec ℕ Global))
+          → ((place : ℕ) (own : Vec ℕ Global) → slice_get all place ≡ Some own
+          → length own.items ≤ 20000000)
+          → AllByRecursion (λ (own : Vec ℕ Global). length own.items ≤ 20000000) all
+      small [] each = tt
+      small (own ∷ all) each =
+          (each 0 own refl, small all (λ place o at. each (suc place) o at))

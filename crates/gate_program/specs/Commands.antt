@@ -1,0 +1,21 @@
+-- What a call of the gate did, by its words.
+use Rattle.std.specs.Prelude.{◌≡◌, ℕ, List, Option, Some, None, ◌⊎◌}
+use Rattle.screen_kit.specs.Screens.{ScreenValue}
+use Rattle.gate_program.specs.Gate.{HasNoForm, RunWent}
+use Rattle.gate_program.specs.Loads.{LoadWent}
+use Rattle.gate_program.specs.Run.{PortsValue}
+use Rattle.gate_program.specs.Words.{Command, command_of}
+use Rattle.gate_program.specs.Words.Command.{Run, Make}
+
+-- the way of a command
+abbrev pub CommandWent : List (List ℕ) → Option Command → List (List ScreenValue) → PortsValue
+    → PortsValue → ℕ → Type 0
+CommandWent words None sets before after status = HasNoForm words before after status
+CommandWent words (Some (Run run)) sets before after status = RunWent run sets before after status
+CommandWent words (Some (Make asked)) sets before after status = LoadWent asked before after status
+
+-- The call, with a set of screens for each session, answered 8 for want of memory, or went the way
+-- of its words.
+abbrev pub GateRun : List (List ℕ) → List (List ScreenValue) → PortsValue → PortsValue → ℕ → Type 0
+GateRun words sets before after status =
+    (status ≡ 8) ⊎ CommandWent words (command_of words) sets before after status

@@ -1,0 +1,70 @@
+//! The text that is told of sessions that have ended.
+ghost use Rattle.std.specs.Prelude.{◌≡◌, ◌^◌, ◌*◌, ◌≤◌, ◌<◌, length, map, All, IfOk, count_by};
+ghost use Rattle.gate_program.specs.Statuses.{number_of};
+ghost use Rattle.gate_program.specs.Telling.{is_read, reads_of, told_of};
+ghost use Rattle.gate_program.specs.Totals.{HaveTotals};
+ghost use Rattle.gate_program.specs.Words.{session_most};
+
+use crate::status::Status;
+use crate::told::Told;
+use crate::totals::totals_text;
+use fold_law::Memory;
+use limit_table::Limits;
+use make_load::{Counts, summary_text};
+use risk_journal::{Act, End, Journal};
+use std::alloc::Global;
+use std::thread::Threads;
+
+/// How many reads a session made.
+fn count_reads(acts: &[Act]) -> u32
+    requires { length acts.now < 2 ^ 32 }
+    ensures { result ≡ count_by is_read acts.now }
+{
+    acts.iter()
+        .filter(|act| matches!(act, Act::Read { .. }))
+        .count() as u32
+}
+
+/// How many reads all sessions made.
+fn count_all_reads(acts: &[Vec<Act>]) -> u64
+    requires few { length acts.now ≤ session_most }
+    requires acts { All (λ own. length own.items < 2 ^ 32) acts.now }
+    ensures { result ≡ reads_of (map (λ own. own.items) acts.now) }
+{
+    let mut reads = 0;
+    for own in acts {
+        reads += u64::from(count_reads(own.as_slice()));
+    }
+    reads
+}
+
+/// The text that is told of sessions that ended with this journal, these ends and this status.
+pub(crate) fn text_after<R: Threads + Sync>(
+    rt: &R,
+    alloc: Global,
+    limits: &Limits,
+    told: &Told,
+    journal: &Journal,
+    ends: &[End],
+    status: Status,
+) -> Result<Vec<u8>, Memory>
+    requires few { length journal.now.acts.items ≤ session_most }
+    requires ends { length ends.now ≡ length journal.now.acts.items }
+    requires acts { All (λ own. length own.items < 2 ^ 32) journal.now.acts.items }
+    requires lines { HaveTotals (length journal.now.acts.items)
+        (map (λ own. own.items) journal.now.lines.items) }
+    ensures { IfOk result (λ text. text.items ≡ told_of told.now limits.now
+        (map (λ own. own.items) journal.now.acts.items) ends.now
+        (map (λ own. own.items) journal.now.lines.items) (number_of status)) }
+{
+    match (told, status) {
+        (Told::Summary(asked, counts), Status::Done) => {
+            let counts = Counts {
+                reads: count_all_reads(&journal.acts),
+                ..*counts
+            };
+            summary_text(alloc, asked, &counts)
+        }
+        _ => totals_text(rt, alloc, limits, journal, ends, status),
+    }
+}
