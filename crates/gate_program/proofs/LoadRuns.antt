@@ -19,16 +19,21 @@ use Rattle.gate_program.specs.declared.names.Outputs.{Outputs}
 use Rattle.gate_program.specs.declared.status.Status.{Status}
 use Rattle.gate_program.specs.declared.status.Status.TheVariants as status
 use Rattle.gate_program.specs.CommandOf.{IsAsked}
-use Rattle.gate_program.specs.Limits.{is_served}
-use Rattle.gate_program.specs.Loads.{LoadWent, input_of, load_run}
+use Rattle.gate_program.specs.Limits.{AreLimits, is_served}
+use Rattle.gate_program.specs.Loads.{LoadWent, counts_of, input_of, load_folder, load_run}
 use Rattle.gate_program.specs.Names.{AreNames}
-use Rattle.gate_program.specs.Objects.{ObjectsValue}
+use Rattle.gate_program.specs.Finish.{HasEnded}
+use Rattle.gate_program.specs.Objects.{ObjectsValue, HasCreated}
+use Rattle.gate_program.specs.Telling.{told_of}
+use Rattle.gate_program.specs.declared.told.Told.{Told}
+use Rattle.gate_program.specs.declared.told.Told.TheVariants as told
 use Rattle.gate_program.specs.Run.{PortsValue, set_of}
 use Rattle.gate_program.specs.Stages.{GivesNoLimits, HasUnmade}
 use Rattle.gate_program.specs.Statuses.{number_of, told_text}
 use Rattle.gate_program.specs.Words.{RunWords, session_most, venue_name}
-use Rattle.gate_program.proofs.Lists.{map_at}
-use Rattle.gate_program.proofs.Made.{FilesLaw}
+use Rattle.gate_program.proofs.Lists.{map_at, mapped_at}
+use Rattle.gate_program.proofs.Histories.{AdmissionLaws}
+use Rattle.gate_program.proofs.Made.{FilesLaw, load_went}
 use Rattle.gate_program.proofs.Ran.{silent, shown}
 
 -- the names of outputs to venues, from one on
@@ -128,7 +133,7 @@ gives_limits P status.ReadFault file fault = absurd fault
 gives_limits P status.WriteFault file fault = absurd fault
 
 -- an output of a load could not be made
-pub unmade : (asked : Asked) (t0 : Option Texts) (r0 w0 : List ℕ → ℕ) (t1 : Option Texts)
+unmade : (asked : Asked) (t0 : Option Texts) (r0 w0 : List ℕ → ℕ) (t1 : Option Texts)
     (r1 w1 : List ℕ → ℕ) (s : Status)
     → HasUnmade (load_run asked) (silent t0 r0 w0) (silent t1 r1 w1) s
     → (number_of s ≡ 8)
@@ -174,3 +179,66 @@ files_small law asked is files are = small files (λ place own at.
       small [] each = tt
       small (own ∷ all) each =
           (each 0 own refl, small all (λ place o at. each (suc place) o at))
+
+-- a run of no limit file whose sessions go by these names is the load's
+pub run_is : (run : RunWords) (asked : Asked) → run.limits ≡ [] → run.out ≡ load_folder
+    → run.sessions ≡ map (venue_name load_folder) (range_with_len 0 asked.sessions)
+    → run ≡ load_run asked
+run_is run asked limits out sessions =
+    ap (λ (l : List ℕ). as_run l run.out run.sessions) limits
+    ∙ ap (λ (o : List ℕ). as_run [] o run.sessions) out
+    ∙ ap (λ (names : List (List ℕ)). as_run [] load_folder names) sessions where
+      as_run : List ℕ → List ℕ → List (List ℕ) → RunWords
+      as_run l o names = record { limits = l; out = o; sessions = names }
+
+-- what is left of each input is the session's file
+pub lefts_are : {X : Type 0} (f : X → ObjectsValue) (left : X → List ℕ)
+    → ((x : X) → (f x).left ≡ Some (left x)) → (all : List X) (asked : Asked)
+    → map left all ≡ session_texts asked.number asked.sessions asked.orders
+    → (session : ℕ) (own : ObjectsValue) → slice_get (map f all) session ≡ Some own
+    → own.left ≡ Some (input_of asked session)
+lefts_are f left same all asked are session own is =
+    let (x, at, one) = mapped_at f all session own is in
+    ap (λ (o : ObjectsValue). o.left) (sym one) ∙ same x
+    ∙ ap (λ (text : List ℕ). Some text) (file_is asked session (left x)
+    (ap (λ (l : List (List ℕ)). slice_get l session) (sym are) ∙ map_at left all session x at))
+
+-- a load whose sessions got their outputs under its names, and ended, went its way
+pub run_went : {S : Type 0} (faults : S → ℕ) → ((s : S) → faults s ≡ 0) → (asked : Asked)
+    → IsAsked asked → FilesLaw → (limits : Limits) (sets : List (List ScreenValue))
+    → sets ≡ replicate session_most [] → (what : Told)
+    → what ≡ told.Summary asked (counts_of asked) → (run : RunWords) → run ≡ load_run asked
+    → (t0 : Option Texts) (r0 w0 : List ℕ → ℕ) (t1 : Option Texts) (r1 w1 : List ℕ → ℕ)
+    (t2 : Option Texts) (r2 w2 : List ℕ → ℕ) (objects : List ObjectsValue) (text : List ℕ)
+    (status : ℕ) → HasCreated run (silent t0 r0 w0) (silent t1 r1 w1) objects
+    → length objects ≡ asked.sessions
+    → ((session : ℕ) (own : ObjectsValue) → slice_get objects session ≡ Some own
+    → own.left ≡ Some (input_of asked session))
+    → AreLimits limit_text limits → AdmissionLaws
+    → (status ≡ 8) ⊎ HasEnded faults (told_of what limits) limits sets run (silent t1 r1 w1)
+    (silent t2 r2 w2) objects text status
+    → (status ≡ 8) ⊎ LoadWent asked (shown t0 r0 w0 []) (shown t2 r2 w2 text) status
+run_went faults none asked is law limits sets no_sets what what_is run run_is_load t0 r0 w0 t1 r1 w1
+    t2 r2 w2 objects text status created many lefts limits_are laws (inl memory) = inl memory
+run_went faults none asked is law limits sets no_sets what what_is run run_is_load t0 r0 w0 t1 r1 w1
+    t2 r2 w2 objects text status created many lefts limits_are laws (inr ended) =
+    load_went faults none asked is law limits sets
+    (λ session below. no_set sets session no_sets (omega (arith, below, is.most)))
+    t0 r0 w0 t1 r1 w1 t2 r2 w2 objects text status
+    (subst (λ (r : RunWords). HasCreated r (silent t0 r0 w0) (silent t1 r1 w1) objects) run_is_load
+    created) many lefts
+    (subst (λ (r : RunWords). HasEnded faults (told_of (told.Summary asked (counts_of asked)) limits)
+    limits sets r (silent t1 r1 w1) (silent t2 r2 w2) objects text status) run_is_load
+    (subst (λ (w : Told). HasEnded faults (told_of w limits) limits sets run (silent t1 r1 w1)
+    (silent t2 r2 w2) objects text status) what_is ended))
+    limits_are laws (load_many asked)
+
+-- the same of an output that could not be made
+pub unmade_run : (asked : Asked) (run : RunWords) → run ≡ load_run asked
+    → (t0 : Option Texts) (r0 w0 : List ℕ → ℕ) (t1 : Option Texts)
+    (r1 w1 : List ℕ → ℕ) (s : Status) → HasUnmade run (silent t0 r0 w0) (silent t1 r1 w1) s
+    → (number_of s ≡ 8)
+    ⊎ LoadWent asked (shown t0 r0 w0 []) (shown t1 r1 w1 (told_text s)) (number_of s)
+unmade_run asked run same t0 r0 w0 t1 r1 w1 s fault =
+    unmade asked t0 r0 w0 t1 r1 w1 s
+    (subst (λ (r : RunWords). HasUnmade r (silent t0 r0 w0) (silent t1 r1 w1) s) same fault)
