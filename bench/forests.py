@@ -6,7 +6,7 @@ usage: forests.py [PAIRS [REPETITIONS]]        100,000 pairs a thread, 7 repetit
 Each thread sets its own component of an array and reads the whole, on one array that all share ("one") or each
 on an array of its own ("own"). Six programs do so:
 
-forest        a forest of `f_array`, with as many trees as threads: a post sets the thread's component and climbs
+forest        a forest of `f_array`, with as many trees as threads: a post sets the thread's component and ascends
               to the root, a read loads the root. Each pass keeps its calls and installs, with room for 500 pairs
               taken at a time.
 kept tree     the same words and steps in plain Rust, where each thread keeps its calls and installs too.

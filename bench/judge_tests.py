@@ -7,8 +7,8 @@ The run is typed in: session 0's buy of 60 @ 10.00 is sent, session 1's is refus
 """
 import unittest
 
-from model.frames import framed
 from model.judge import Wrong, judge_run
+from rows import text
 
 LIMITS = "firm,,1000,,,\naccount,ACC,100000,,,\nsymbol,XYZ,100000,1,12,100000\n"
 JOURNAL = """kind,session,a,b,c,d
@@ -51,11 +51,6 @@ tree 2 symbol XYZ posts 3 root 600 limit 100000
 tree 3 halt - posts 0 root 0 limit 0
 status 0
 """
-
-
-def text(bars):
-    """The frame of a body with bars for SOH and T for the time."""
-    return framed(bars.replace("|", "\x01").replace("=T\x01", "=20240102-10:00:00\x01").encode())
 
 
 TERMS = "1=ACC|55=XYZ|54=1|38=60|40=2|44=10.00|60=T|"

@@ -5,7 +5,7 @@ usage: replay.py [TREES [POSTS [REPETITIONS [WORK ..]]]]
 4 trees, 16,000 posts, 3 repetitions and all works where no more is said
 
 The record is that of a forest of `f_array` with so many trees and 32 passes, each of them on a thread of its own,
-that makes so many posts in each tree. A post climbs five levels and wins at most one install at each. So by the
+that makes so many posts in each tree. A post ascends five levels and wins at most one install at each. So by the
 numbers above there are 2,048,000 posts, and about 10 million installs, in memory. There are three works:
 
 record      the posts, and the close that gives the record; no history is made.

@@ -50,16 +50,21 @@ def made(number):
     return limits, [loads.session(dice, session, messages) for session in range(sessions)]
 
 
-def run(program, folder, limits, inputs):
-    """Runs the program in a folder. Gives what `judge_run` takes behind the inputs."""
+def call(program, folder, limits, inputs, **more):
+    """Runs the program in a folder. Gives the call that is done, and the folder of its outputs."""
     out = os.path.join(folder, "out")
     os.mkdir(out)
     names = [write(folder, f"s{number:02}.fix", data) for number, data in enumerate(inputs)]
     words = [program, "run", write(folder, "limits.csv", limits.encode()), out] + names
-    done = subprocess.run(words, capture_output=True, text=True, check=False)
-    venues = [read(out, f"s{number:02}.venue") for number in range(len(inputs))]
-    clients = [read(out, f"s{number:02}.client") for number in range(len(inputs))]
-    return venues, clients, read(out, "journal.csv").decode(), done.stdout, done.returncode
+    return subprocess.run(words, capture_output=True, check=False, **more), out
+
+
+def results(done, out, sessions):
+    """What `judge_run` takes behind the inputs."""
+    venues = [read(out, f"s{number:02}.venue") for number in range(sessions)]
+    clients = [read(out, f"s{number:02}.client") for number in range(sessions)]
+    journal = read(out, "journal.csv").decode()
+    return venues, clients, journal, done.stdout.decode(), done.returncode
 
 
 def overlaps(acts):
@@ -116,7 +121,8 @@ def main():
         limits, inputs = made(asked.seed * 1_000_003 + number)
         with tempfile.TemporaryDirectory() as folder:
             try:
-                count(counts, judge_run(limits, inputs, *run(asked.gate, folder, limits, inputs)))
+                done, out = call(asked.gate, folder, limits, inputs)
+                count(counts, judge_run(limits, inputs, *results(done, out, len(inputs))))
             except (Wrong, OSError) as wrong:
                 if asked.keep:
                     shutil.copytree(folder, asked.keep)

@@ -25,6 +25,8 @@ def is_form(words: list[str]) -> bool:
 
 def write_report(limits: Path, out: Path, sessions: list[Path]) -> None:
     """Reads the run and writes both files; where it can't be done neither changes."""
+    if not out.is_dir():
+        raise Unreadable(f"{out} is no folder: the OUT of a run is needed")
     table, html = out / "requests.csv", out / "report.html"
     halves = [path.with_name(path.name + ".half") for path in (table, html)]
     try:
@@ -45,7 +47,8 @@ def main(words: list[str]) -> int:
     """The status: 0 written, 2 the words are no form, 3 a file can't be read or written or isn't
     what it should be, 4 the files don't belong together."""
     if not is_form(words):
-        print(USAGE, file=sys.stderr)
+        print("gate report: the words of a run are needed, without `run`: a limit file, its OUT "
+              "and its sessions; `gate --help` tells more", USAGE, sep="\n", file=sys.stderr)
         return NO_FORM
     limits, out, *sessions = map(Path, words)
     try:

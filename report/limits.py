@@ -1,5 +1,6 @@
 """The limit file: the trees of a run, each with its limit."""
 
+import codecs
 import csv
 import io
 import re
@@ -61,7 +62,9 @@ def read_limits(data: bytes) -> Limits:
 
 
 def rows_of(data: bytes) -> list[tuple[int, list[str]]]:
-    """The rows that aren't empty, counted from 1, each of six columns."""
+    """The rows that aren't empty, counted from 1, each of six columns. A byte order mark before
+    them is passed over."""
+    data = data.removeprefix(codecs.BOM_UTF8)
     text = io.StringIO(data.decode("latin-1"), newline="")
     try:
         rows = [row for row in csv.reader(text) if row]

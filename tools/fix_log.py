@@ -3,7 +3,7 @@ without something before them on their line."""
 import re
 
 BEGIN = re.compile(rb"8=FIXT?\.[0-9]\.[0-9](?:SP[0-9])?")
-SEPARATOR = re.compile(rb"(\^A|<SOH>|\\x01|\\u0001|[^0-9A-Za-z]{1,3})9=")
+SEPARATOR = re.compile(rb"(\^A|<SOH>|\\x01|\\u0001|[^0-9A-Za-z]{1,3})9=[0-9]")
 SOH = b"\x01"
 
 
@@ -49,22 +49,17 @@ def messages(data):
 
 
 def messages_of(line, number):
-    """The messages that stand in one line."""
-    begins = [begin.start() for begin in BEGIN.finditer(line)]
-    for begin, end in zip(begins, [*begins[1:], len(line)]):
-        text = with_soh(line[begin:end])
-        if text is not None:
-            yield Message(text, number)
+    """The messages that stand in one line. A message begins with fields 8 and 9."""
+    begins = [one for one in BEGIN.finditer(line) if SEPARATOR.match(line, one.end())]
+    ends = [one.start() for one in begins[1:]] + [len(line)]
+    for begin, end in zip(begins, ends):
+        yield Message(with_soh(line[begin.start() : end]), number)
 
 
 def with_soh(text):
-    """A message with SOH in place of what separates its fields, up to its CheckSum. None where it
-    has no field 9."""
+    """A message with SOH in place of what separates its fields, up to its CheckSum."""
     begin = BEGIN.match(text)
-    mark = SEPARATOR.match(text, begin.end())
-    if mark is None:
-        return None
-    separator = mark.group(1)
+    separator = SEPARATOR.match(text, begin.end()).group(1)
     whole = re.compile(rb".*?" + re.escape(separator) + rb"10=[0-9]*", re.DOTALL).match(
         text, begin.end()
     )

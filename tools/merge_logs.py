@@ -18,15 +18,14 @@ sys.dont_write_bytecode = True
 sys.path.insert(0, os.path.dirname(os.path.realpath(__file__)))
 
 from fix_log import messages  # noqa: E402
-from session_from_log import tell  # noqa: E402
+from session_from_log import tell, usage  # noqa: E402
 
 TIME = re.compile(rb"([0-9]{8}-[0-9]{2}:[0-9]{2}:[0-9]{2})(?:\.([0-9]{1,9}))?")
 
 
 def main(words):
     if len(words) != 3:
-        print(__doc__, file=sys.stderr, end="")
-        return 2
+        return usage(__doc__, words)
     *logs, session = words
     try:
         if os.path.exists(session) and any(os.path.samefile(log, session) for log in logs):

@@ -4,11 +4,11 @@ fields.
 
 usage: session_from_log.py LOG SESSION
 
-LOG is text with at most some messages on a line: with `|`, `^A`, `;` or SOH between fields, and
+LOG is text with any number of messages on a line: with `|`, `^A`, `;` or SOH between fields, and
 with anything before a message on its line, as a time. SESSION is written anew, a message a line.
 The status is 0 where each message's BodyLength and CheckSum fit, 1 where one's don't (it is
-written all the same, and the gate says what it makes of it), and 2 where LOG can't be read or
-SESSION can't be written.
+written all the same, and the gate says what it makes of it) or there is no message, and 2 where
+LOG can't be read or SESSION can't be written.
 """
 import os
 import sys
@@ -21,8 +21,7 @@ from fix_log import messages  # noqa: E402
 
 def main(words):
     if len(words) != 2:
-        print(__doc__, file=sys.stderr, end="")
-        return 2
+        return usage(__doc__, words)
     log, session = words
     try:
         if os.path.exists(session) and os.path.samefile(log, session):
@@ -38,6 +37,13 @@ def main(words):
     return tell(log, found, without)
 
 
+def usage(text, words):
+    """Tells how the tool is called: on standard output where that was asked for, with 0."""
+    asked = words in (["--help"], ["-h"])
+    print(text, file=sys.stdout if asked else sys.stderr, end="")
+    return 0 if asked else 2
+
+
 def tell(log, found, without):
     """Says what was found, and which messages aren't sound."""
     lines = f", {len(without)} lines without one: {shortened(without)}" if without else ""
@@ -45,7 +51,7 @@ def tell(log, found, without):
     faults = [(message.line, message.fault()) for message in found if message.fault()]
     for line, fault in faults:
         print(f"{log}, line {line}: {fault}", file=sys.stderr)
-    return 1 if faults else 0
+    return 1 if faults or not found else 0
 
 
 def shortened(numbers, most=8):

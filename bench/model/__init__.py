@@ -1,8 +1,9 @@
 """The gate once more, plainly: what docs/FORMATS.md says, as short functions of whole bytes.
 
 frames      frames and their fields         messages    what a frame says, and its first field fault
-limits      a limit file                    book        orders and what they may cost
+limits      a limit file, its first fault   book        orders and what they may cost
 screens     the program's three screens     answers     the messages that are written
 session     one session: input and reads in, acts and two streams out
-journal     the text of a journal, read     judge       whether a run is legal, and the model's
+journal     the text of a journal, read     judge       whether a run is legal, and the model's,
+                                                        also of sessions that ended early
 """

@@ -1,7 +1,7 @@
 """Whether a journal is legal and admits within its limits, and whether a run is the model's."""
 from .journal import Fault, read_journal
 from .limits import Limits
-from .session import run_session
+from .session import marks_of, run_session
 
 
 class Wrong(Exception):
@@ -97,6 +97,20 @@ def judge_session(number, limits, data, acts, venue, client):
     demand(model.venue.data == venue, "the venue's stream", number)
     demand(model.client.data == client, "the client's stream", number)
     return end
+
+
+def judge_early(number, limits, data, acts, venue, client):
+    """The acts of a session that a fault or want of memory ended are those of a number of first
+    frames; its streams hold their messages, the last of them whole, in part or not at all."""
+    reads = [act[2:] for act in acts if act[0] == "read"]
+    model, marks = marks_of(limits, data, reads)
+    streams = ((model.venue.data, venue, 1), (model.client.data, client, 2))
+    for before, behind in zip([marks[0]] + marks, marks):
+        are_acts = len(acts) == behind[0] + 1 and acts[:-1] == model.acts[:behind[0]]
+        if are_acts and all(before[at] <= len(found) <= behind[at] and wanted.startswith(found)
+                            for wanted, found, at in streams):
+            return
+    raise Wrong("no number of first frames gives the acts and streams", number, acts)
 
 
 def totals_of(limits, acts, lines, ends, status):

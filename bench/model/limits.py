@@ -1,11 +1,87 @@
-"""A limit file: the rows, and the trees that they make. A file that isn't one raises."""
+"""A limit file: its rows and the trees that they make; of a text that is none, its first fault."""
 import csv
+import re
 from collections import namedtuple
 
-from .messages import read_price
+from .messages import Form, Range, read_id, read_price
 
 Symbol = namedtuple("Symbol", "limit low high size")
 QUOTA = 50_000
+MOST_BYTES = 1_048_576
+SHAPE, KIND, NUMBER, NAME, REPEATED, NO_FIRM, TOO_MANY, BAND = range(1, 9)
+# Of each kind: whether it has a name, whether it has a band and a size, its limit's least and most,
+# and how many rows there may be.
+Kind = namedtuple("Kind", "is_named is_banded least most rows")
+KINDS = {
+    "firm": Kind(False, False, 0, 999_999_999_999, 1),
+    "account": Kind(True, False, 0, 999_999_999_999, 100),
+    "symbol": Kind(True, True, 0, 999_999_999_999, 400),
+    "trip": Kind(False, False, 1, 1_000_000, 1),
+    "quota": Kind(False, False, 1, 200_000, 1),
+    "repeat": Kind(False, False, 0, 64, 1),
+    "off": Kind(True, False, 0, 1_000_000_000, 16),
+}
+SIZES = (1, 1_000_000_000)
+
+
+def is_number(text, least, most):
+    """1 to 12 digits, within bounds."""
+    return bool(re.fullmatch(r"[0-9]{1,12}", text)) and least <= int(text) <= most
+
+
+def is_price(text):
+    """A price as in an order."""
+    try:
+        return read_price(text.encode()) > 0
+    except (Form, Range):
+        return False
+
+
+def is_name(text):
+    """1 to 64 bytes of 32 to 126."""
+    try:
+        return bool(read_id(text.encode()))
+    except (Form, Range):
+        return False
+
+
+def fault_of_row(row, before):
+    """The first fault of a row behind rows of these kinds and names; None where it has none."""
+    if len(row) != 6:
+        return SHAPE
+    word, name, limit, low, high, size = row
+    kind = KINDS.get(word)
+    if not kind:
+        return KIND
+    if (name and not kind.is_named) or ((low or high or size) and not kind.is_banded):
+        return SHAPE
+    are_numbers = is_number(limit, kind.least, kind.most)
+    if kind.is_banded:
+        are_numbers &= is_price(low) and is_price(high) and is_number(size, *SIZES)
+    if not are_numbers:
+        return NUMBER
+    if kind.is_named and not is_name(name):
+        return NAME
+    if (word, name) in before:
+        return REPEATED
+    if sum(own == word for own, _ in before) == kind.rows:
+        return TOO_MANY
+    is_band = not kind.is_banded or read_price(low.encode()) <= read_price(high.encode())
+    return None if is_band else BAND
+
+
+def first_fault(text):
+    """The number of a text's first fault and its row, from 1 and 0 for the whole; None of a limit
+    file."""
+    if len(text.encode()) > MOST_BYTES:
+        return TOO_MANY, 0
+    before = []
+    for number, row in enumerate(filter(None, csv.reader(text.split("\n"))), 1):
+        fault = fault_of_row(row, before)
+        if fault:
+            return fault, number
+        before.append(tuple(row[:2]))
+    return None if ("firm", "") in before else (NO_FIRM, 0)
 
 
 class Limits:
@@ -14,7 +90,7 @@ class Limits:
     def __init__(self, text):
         self.firm, self.trip, self.quota, self.repeat = None, None, QUOTA, 0
         self.accounts, self.symbols, self.off = {}, {}, []
-        for kind, name, limit, low, high, size in csv.reader(text.splitlines()):
+        for kind, name, limit, low, high, size in filter(None, csv.reader(text.split("\n"))):
             self.take(kind, name.encode(), int(limit), low, high, size)
         self.account_places = {name: place for place, name in enumerate(self.accounts)}
         self.symbol_places = {name: place for place, name in enumerate(self.symbols)}

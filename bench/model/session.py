@@ -208,17 +208,42 @@ class Session:
         return None
 
 
-def run_session(limits, data, reads, screens=None):
-    """Takes a whole input. The session, with its acts and streams, and its end as (word, place)."""
-    session = Session(limits, own_screens(limits) if screens is None else screens, reads)
-    goes_on, data = len(data) > INPUT_MOST, data[:INPUT_MOST]
+def take_frames(session, data):
+    """Takes the frames of bytes, one after another; yields behind each of them, and gives what
+    stands behind the last."""
     found = next_frame(data, 0)
     while isinstance(found, Frame):
         session.take(found.fields)
         session.frame += 1
+        yield session.frame
         found = next_frame(data, found.end)
-    word, place = found
-    if goes_on and word in ("whole", "cut"):
+    return found
+
+
+def run_session(limits, data, reads, screens=None):
+    """Takes a whole input. The session, with its acts and streams, and its end as (word, place)."""
+    session = Session(limits, own_screens(limits) if screens is None else screens, reads)
+    word, place = yield_of(take_frames(session, data[:INPUT_MOST]))
+    if len(data) > INPUT_MOST and word in ("whole", "cut"):
         word, place = "long", INPUT_MOST if word == "whole" else place
     session.acts.append(("ended", ENDS[word], place))
     return session, (word, place)
+
+
+def yield_of(steps):
+    """What a generator gives behind all that it yields."""
+    while True:
+        try:
+            next(steps)
+        except StopIteration as end:
+            return end.value
+
+
+def marks_of(limits, data, reads):
+    """The session that takes an input's frames, and how long its acts and its two streams are
+    before the first of them and behind each."""
+    session = Session(limits, own_screens(limits), reads)
+    marks = [(0, 0, 0)]
+    for _ in take_frames(session, data[:INPUT_MOST]):
+        marks.append((len(session.acts), len(session.venue.data), len(session.client.data)))
+    return session, marks

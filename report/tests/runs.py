@@ -1,4 +1,4 @@
-"""Runs for the tests: the three examples with what a run of each leaves, worked out by hand."""
+"""Runs for the tests: the examples with what a run of each leaves, worked out by hand."""
 
 import shutil
 from pathlib import Path
@@ -142,7 +142,10 @@ FIRM_STREAMS = {
     "s03.venue": b"", "s03.client": refusal(1, "BETA2", "d1", 0, "BETA", "XYZ", "10", "HALT"),
 }
 
+DAY = EXAMPLES / "day" / "expected"
 RUNS = {
+    "day": (("session",), (DAY / "journal.csv").read_text(),
+            {stream: (DAY / stream).read_bytes() for stream in ("s00.venue", "s00.client")}),
     "first": (("session",), FIRST_JOURNAL, FIRST_STREAMS),
     "desk": (("session",), DESK_JOURNAL, DESK_STREAMS),
     "firm": (("alpha1", "beta1", "alpha2", "beta2"), FIRM_JOURNAL, FIRM_STREAMS),

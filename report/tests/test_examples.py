@@ -1,4 +1,4 @@
-"""The reports of the three examples, field by field, as their READMEs tell the runs."""
+"""The reports of the examples, field by field, as their READMEs tell the runs."""
 
 import base64
 import csv
@@ -82,6 +82,23 @@ class Examples(unittest.TestCase):
                          price,
                          *rest, "NewOrderSingle"]
                 self.assertEqual(row, whole, f"{name}, {order_id}")
+
+    def test_the_day(self):
+        """The day's table, with cancels, replaces and reports, which was checked by hand."""
+        self.written("day")
+        self.assertEqual((self.out / "requests.csv").read_bytes(),
+                         (TOP / "examples" / "day" / "expected" / "requests.csv").read_bytes())
+
+    def test_limit_files_that_are_spelled_in_other_ways(self):
+        """A byte order mark, CR for LF, quotes, and empty lines change nothing."""
+        words = example("first", self.out)
+        text = Path(words[0]).read_text()
+        words[0] = str(self.out / "limits.csv")
+        for name, data in (("mark", "\ufeff" + text), ("CR", text.replace("\n", "\r\r")),
+                           ("quotes", text.replace("ACC", '"ACC"'))):
+            Path(words[0]).write_bytes(data.encode())
+            with quiet() as said:
+                self.assertEqual(main(words), DONE, f"{name}: {said.getvalue()}")
 
     def test_trees(self):
         """How far each limit was used: tree, limit, highest sent, used, highest posted, at the end,

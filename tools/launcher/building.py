@@ -4,11 +4,11 @@ import os
 import re
 import shutil
 import subprocess
-import sys
 import tempfile
 import time
 
-from launcher.say import say
+from launcher.processes import hand_on
+from launcher.say import say, write
 from launcher.usage import KIT
 
 PROGRAM = "gate_program"
@@ -16,8 +16,9 @@ READ = ("src", "specs", "proofs")
 
 BEGINS = """\
 proving and building the program. From nothing that takes about {minutes} minutes on
-four processors; later only what was changed is proved again. Each crate is named as it is begun."""
-MINUTES = 30
+four processors at 2.7 GHz; later only what was changed is proved again. Each crate is named as it
+is begun."""
+MINUTES = 15
 
 NO_KIT = f"""\
 the program isn't built, and `rt` isn't on the PATH. It is the command of the Rattle kit, {KIT}:
@@ -36,7 +37,7 @@ def program_of(top):
     """The path of the built program, built anew where that is due. None where it can't be had,
     which was told."""
     named = os.environ.get("GATE_PROGRAM")
-    if named is not None:
+    if named:
         return named if is_program(named) else missing(named)
     crate = os.path.join(top, "crates", PROGRAM)
     program = os.path.join(crate, "out", PROGRAM)
@@ -48,7 +49,7 @@ def is_program(path):
 
 
 def missing(named):
-    say(f"GATE_PROGRAM is {named}, where no program is")
+    say(f"GATE_PROGRAM is {named}, and there is no program there that can be run")
     return None
 
 
@@ -59,7 +60,7 @@ def is_built(top, program):
 
 def is_due(top):
     """Whether a run would have to build first."""
-    if os.environ.get("GATE_PROGRAM") is not None:
+    if os.environ.get("GATE_PROGRAM"):
         return False
     return not is_built(top, os.path.join(top, "crates", PROGRAM, "out", PROGRAM))
 
@@ -145,8 +146,14 @@ def build_once(top, crate, program):
             stdout=subprocess.DEVNULL,
             stderr=subprocess.PIPE,
         )
-        tell_progress(proving.stderr, log, len(crates(top)))
-        proving.wait()
+        hand_on(proving)
+        try:
+            tell_progress(proving.stderr, log, len(crates(top)))
+        except KeyboardInterrupt:
+            os.remove(kept.name)
+            raise
+        finally:
+            proving.wait()
     if is_program(program):
         os.remove(kept.name)
         return True
@@ -178,5 +185,5 @@ def tell_failure(path):
     lines = [line for line in read_text(path).splitlines() if not line.endswith(": proved")]
     say("the program could not be built. The last messages of `rt`:")
     for line in lines[-20:]:
-        print(f"  {line}", file=sys.stderr)
+        write(f"  {line}")
     say(f"all of them are in {path}")

@@ -56,6 +56,31 @@ def why_not_written(path):
     return None
 
 
+def make_folder(path):
+    """Makes a folder where there is none, with those above it; the ones that it made, lowest
+    first."""
+    missing, made, path = [], [], os.path.abspath(path)
+    while not os.path.lexists(path):
+        missing.append(path)
+        path = os.path.dirname(path)
+    try:
+        for folder in reversed(missing):
+            os.mkdir(folder)
+            made.insert(0, folder)
+    except OSError:
+        pass
+    return made
+
+
+def drop_empty(folders):
+    """Takes folders away again in which nothing is."""
+    try:
+        for folder in folders:
+            os.rmdir(folder)
+    except OSError:
+        pass
+
+
 def is_full(folder):
     """Whether the file system of this folder has no room left."""
     try:

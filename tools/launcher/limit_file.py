@@ -72,7 +72,9 @@ def shape(row, _):
     count = len(row.columns)
     if count != len(COLUMNS):
         columns = f"{count} column" + ("" if count == 1 else "s")
-        return 1, f"it has {columns}: a row has six, " + ", ".join(COLUMNS)
+        other = next((one for one in (b";", b"\t", b"|") if row.text.count(one) == 5), None)
+        more = f". Between columns is a comma, and not {shown(other)}" if other else ""
+        return 1, f"it has {columns}: a row has six, " + ", ".join(COLUMNS) + more
     return None
 
 

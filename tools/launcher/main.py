@@ -1,29 +1,27 @@
 """One call of the launcher, from its words to its status."""
 import os
-import signal
 import subprocess
 import sys
 
 from launcher.building import is_due, program_of
-from launcher.files import why_not_read
+from launcher.files import drop_empty, make_folder, why_not_read
 from launcher.outputs import left_over, marks
+from launcher.processes import hand_on
 from launcher.reasons import reasons
-from launcher.say import name, say
+from launcher.say import name, put, say
 from launcher.usage import HELP, USAGE, version
 from launcher.words import read_run
 
-NO_PROGRAM, MALFORMED, UNREAD = 1, 2, 5
+DONE, NO_PROGRAM, MALFORMED, UNREAD = 0, 1, 2, 5
 
 
 def main(top, words):
     """Does what the words ask for; the status of the call."""
     try:
-        if words and words[0] in ("--help", "-h"):
-            print(HELP.format(top=top), end="")
-            return 0
+        if {"--help", "-h"}.intersection(words[:2]):
+            return put(HELP.format(top=top), DONE)
         if words and words[0] == "--version":
-            print(version(top))
-            return 0
+            return put(version(top), DONE)
         if words and words[0] == "report":
             return report(top, words[1:])
         return run(top, words)
@@ -36,14 +34,12 @@ def run(top, words):
     asked, fault = read_run(words)
     if fault:
         say(f"{fault}. Nothing was read or written; `gate --help` tells more")
-        print(USAGE)
-        return MALFORMED
+        return put(USAGE, MALFORMED)
     if is_due(top):
         unread = next(((path, why) for path in asked.inputs() if (why := why_not_read(path))), None)
         if unread:
             say(f"{name(unread[0])} can't be read: {unread[1]}. Nothing was built or written")
-            print("read fault")
-            return UNREAD
+            return put("read fault", UNREAD)
     program = program_of(top)
     return run_program(program, words, asked) if program else NO_PROGRAM
 
@@ -59,30 +55,28 @@ def report(top, words):
 
 def run_program(program, words, asked):
     """Runs the program, and says why where its status isn't 0, and what lies in OUT of an earlier
-    run."""
-    try:
-        os.makedirs(asked.out, exist_ok=True)
-    except OSError:
-        pass  # The program says that it can't write there, and `reasons` why.
+    run. Where OUT can't be made the program says that it can't write there, and `reasons` why."""
+    made = make_folder(asked.out)
     before = marks(asked.out)
     try:
         status = status_of([program, *words])
+        if status != 0:
+            for line in reasons(asked, status, before):
+                say(line)
+        tell_left_over(asked, before, status)
+        return status if status >= 0 else 128 - status
     except OSError as error:
-        say(f"{program} can't be started: {error.strerror}")
+        say(f"{program} can't be started: {(error.strerror or str(error)).lower()}")
         return NO_PROGRAM
-    if status != 0:
-        for line in reasons(asked, status, before):
-            say(line)
-    tell_left_over(asked, before, status)
-    return status if status >= 0 else 128 - status
+    finally:
+        drop_empty(made)
 
 
 def status_of(command):
     """The status of a command, which gets this call's input and output, and what would end this
     call."""
     started = subprocess.Popen(command)
-    for number in (signal.SIGTERM, signal.SIGHUP):
-        signal.signal(number, lambda got, _: started.send_signal(got))
+    hand_on(started)
     while True:
         try:
             return started.wait()

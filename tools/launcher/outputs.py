@@ -2,19 +2,21 @@
 run."""
 import os
 import re
+import stat
 
 OUTPUT = re.compile(r"s\d\d\.(?:venue|client)|journal\.csv|report\.html|requests\.csv")
 
 
 def marks(out):
-    """Each output in this folder, with what changes when it is written."""
+    """Each output in this folder that is a plain file, with what changes when it is written."""
     found = {}
     for name in names(out):
         try:
             file = os.stat(os.path.join(out, name))
         except OSError:
             continue
-        found[name] = (file.st_ino, file.st_size, file.st_mtime_ns, file.st_ctime_ns)
+        if stat.S_ISREG(file.st_mode):
+            found[name] = (file.st_ino, file.st_size, file.st_mtime_ns, file.st_ctime_ns)
     return found
 
 

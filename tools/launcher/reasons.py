@@ -13,6 +13,9 @@ from launcher.say import name
 ENDED = re.compile(r"ended,([0-9]+),([1-6]),([0-9]*),,\n")
 ENDS = {"1": "cut", "2": "broken", "3": "long", "4": "read", "5": "write", "6": "memory"}
 
+# How many outputs that can't be written are named.
+MOST_NAMED = 3
+
 
 def reasons(run, status, before):
     """The lines for standard error about a run that ended with this status. `before` are the marks
@@ -138,21 +141,31 @@ def of_reads(run, before):
 
 
 def of_writes(run, before):
-    """The files that can't be written, or the sessions that ended so, or else standard output."""
-    unwritten = [(path, why_not_written(path)) for path in run.outputs()]
-    lines = [f"{name(path)} can't be written: {why}" for path, why in unwritten if why]
+    """The files that can't be written, or the sessions that ended so, or else the journal, or else
+    standard output, which comes last."""
+    unwritten = [(path, why) for path in run.outputs() if (why := why_not_written(path))]
+    lines = [f"{name(path)} can't be written: {why}" for path, why in unwritten[:MOST_NAMED]]
+    if len(unwritten) > MOST_NAMED:
+        lines.append(f"nor can {len(unwritten) - MOST_NAMED} more outputs")
     if was_written(run, before):
         lines += [
             line for session, end in ends(run, before) for line in of_session(run, session, end)
         ]
     if lines:
         return lines
-    full = room(run.out)
-    return [
-        f"{name(run.out)}: {full}"
-        if full
-        else "standard output couldn't be written: it is closed or full"
-    ]
+    if not was_written(run, before):
+        which = f"{name(run.journal())}, or an output of a session, couldn't be written"
+        return [which + because(room(run.out))]
+    if not is_whole(run):
+        return [f"{name(run.journal())} couldn't be written whole" + because(room(run.out))]
+    return ["standard output couldn't be written: it is closed or full"]
+
+
+def is_whole(run):
+    """Whether each session has ended in the journal."""
+    with open(run.journal(), encoding="ascii", errors="replace") as journal:
+        ended = {line.split(",")[1] for line in journal if line.startswith("ended,")}
+    return ended == {str(session) for session in range(len(run.sessions))}
 
 
 def of_memory(run, _):

@@ -74,24 +74,24 @@ def told(path, end):
     """The lines for standard error about a file that ended so."""
     with open(path, "rb") as file:
         before = file.read(end.place)
-        rest = file.read(2 * LONGEST_BODY)
+        rest = file.read(min(2 * LONGEST_BODY, MOST - end.place))
     line = 1 + before.count(b"\n")
     lines = [f"{path}, byte {counted(end.place)}, line {counted(line)}: {WHAT[end.kind]}"]
     if rest:
-        lines.append(f"there stands {shown(rest)}")
+        lines.append(f"from there the file has {shown(rest)}")
     return [*lines, cause(end, rest)]
 
 
 WHAT = {
     "cut": "the file ends within a message",
-    "broken": "no message of FIX 4.4 stands here",
+    "broken": "no message of FIX 4.4 begins here",
     "long": "the message, or the file, is too long",
 }
 
 
 def cause(end, rest):
     """What is likely the cause."""
-    if end.place >= MOST:
+    if end.kind == "long" and not has_long_body(rest):
         return f"only the first {counted(MOST)} bytes of a file are read: split it at a message"
     for likely in (
         packed,
@@ -101,6 +101,7 @@ def cause(end, rest):
         no_length,
         too_long,
         wrong_length,
+        no_last_separator,
         wrong_tail,
         cut_short,
     ):
@@ -124,7 +125,7 @@ def separator(rest):
     found = re.match(rb"8=FIXT?\.[0-9.]*[0-9]([^\x01]{1,6}?)9=", rest)
     if not found:
         return None
-    return f"{shown(found.group(1))} stands where SOH (byte 1) has to: {RECIPE}"
+    return f"{shown(found.group(1))} is where SOH (byte 1) has to be: {RECIPE}"
 
 
 def other_version(rest):
@@ -140,7 +141,7 @@ def prefix(rest):
     if not found or found.start() == 0:
         return None
     before = shown(line[: found.start()])
-    return f"{before} stands before the message, as in a log with times: {RECIPE}"
+    return f"{before} comes before the message, as in a log with times: {RECIPE}"
 
 
 def no_length(rest):
@@ -169,9 +170,14 @@ def right_length(rest):
     return tail.start() + 1 - body
 
 
+def has_long_body(rest):
+    head = head_of(rest)
+    return head is not None and head[0] > LONGEST_BODY
+
+
 def too_long(rest):
     head = head_of(rest)
-    if not head or head[0] <= LONGEST_BODY:
+    if not has_long_body(rest):
         return None
     right = right_length(rest)
     if right is not None and right <= LONGEST_BODY:
@@ -187,6 +193,14 @@ def wrong_length(rest):
     return f"BodyLength (9) is {head[0]}, and {right} would be right"
 
 
+def no_last_separator(rest):
+    """A message of its right length whose CheckSum has no SOH behind it, as in many logs."""
+    head = head_of(rest)
+    if not head or not re.match(rb"\x0110=[0-9]{3}(?![0-9\x01])", rest[head[1] + head[0] - 1 :]):
+        return None
+    return f"SOH (byte 1) is missing behind CheckSum (10), at the end of the message: {RECIPE}"
+
+
 def wrong_tail(rest):
     """A body of its right length with no CheckSum of three digits behind it."""
     head = head_of(rest)
@@ -196,7 +210,7 @@ def wrong_tail(rest):
     if tail.startswith(b"10="):
         return f"CheckSum (10) is {shown(tail[3:].split(bytes([1]))[0])}: it has to be three digits"
     return (
-        f"no CheckSum (10) stands {head[0]} bytes behind BodyLength (9), "
+        f"no CheckSum (10) comes {head[0]} bytes behind BodyLength (9), "
         "and none follows before the next message"
     )
 
@@ -209,5 +223,5 @@ def cut_short(rest):
     lacks = head[1] + head[0] + 7 - len(rest)
     if lacks <= 0:
         return None
-    missing = "1 byte" if lacks == 1 else f"{counted(lacks)} bytes"
-    return f"{missing} of the message that begins here are missing"
+    missing = "1 byte is missing" if lacks == 1 else f"{counted(lacks)} bytes are missing"
+    return f"{missing} of the message that begins here"

@@ -15,7 +15,7 @@ usage: gate run LIMITS OUT SESSION...
 Reads a limit file and 1 to 32 session files in FIX 4.4, sends each order on or refuses it, and
 writes OUT/s00.venue and OUT/s00.client for the first session, s01 for the second and so on, and
 OUT/journal.csv. OUT is made where it isn't there. The program is proved and built first, where that
-is due. `report`, with the words of a run that has ended, writes OUT/report.html and
+has to be. `report`, with the words of a run that has ended, writes OUT/report.html and
 OUT/requests.csv about it.
 
 status of a run
@@ -23,11 +23,18 @@ status of a run
   1  the program couldn't be built or started
   2  the command line is malformed, or names one file twice; nothing was read or written
   3  the limit file has a fault
-  4  a session file ends within a message, or something stands in it that is no message
+  4  a session file ends within a message, or something in it is no message
   5  a file couldn't be read
   6  a file, or standard output, couldn't be written
   8  out of memory
   9  the limit file has a row that isn't served yet
+  128 and the number of a signal, where one ended the program
+
+status of a report
+  0  both files were written
+  2  the command line is malformed
+  3  a file can't be read or written, or isn't a limit file or a journal
+  4  the files don't belong to one run
 
 To try it: ./gate run examples/first/limits.csv out/first examples/first/session.fix
 A log with `|` for SOH or with time prefixes: tools/session_from_log.py makes a session file of it,
@@ -37,8 +44,7 @@ GATE_PROGRAM=PATH runs the program at PATH and builds nothing.
 documents, in {top}
   README.md          what it is, and where to begin
   docs/FORMATS.md    limit files, messages, the journal, statuses
-  docs/CLAIMS.md     what is proved
-"""
+  docs/CLAIMS.md     what is proved"""
 
 
 def version(top):

@@ -2,7 +2,7 @@
 import os
 
 from launcher.files import first_pair, identity
-from launcher.say import name
+from launcher.say import listed, name
 
 SESSIONS = 32
 
@@ -67,7 +67,7 @@ def wrong_number(words):
     """Whether there are too few words or too many, or None."""
     if len(words) < 4:
         missing = ("a limit file", "a folder for the outputs", "a session file")[len(words) - 1 :]
-        return "`run` lacks " + " and ".join(missing)
+        return "`run` lacks " + listed(missing)
     count = len(words) - 3
     if count > SESSIONS:
         return f"{count} sessions were given: a run takes 1 to {SESSIONS}"

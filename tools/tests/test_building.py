@@ -4,8 +4,10 @@ import os
 import shutil
 import subprocess
 import sys
+import time
 import unittest
 
+from launcher.building import MINUTES
 from tests.places import FAKE, TOP, InFolder
 
 # Proves two crates, as `rt run` tells it, and puts the program where it belongs. With BREAK it
@@ -30,6 +32,14 @@ if os.environ.get("EDIT") and not os.path.exists("../../edited"):
 os.makedirs("out", exist_ok=True)
 open("out/gate_program", "w").write({FAKE!r})
 os.chmod("out/gate_program", 0o755)
+"""
+
+# Says something, and then goes on for a long time.
+WAITING_RT = f"""#!{sys.executable}
+import sys, time
+print("this far", file=sys.stderr, flush=True)
+open("up", "w").close()
+time.sleep(60)
 """
 
 
@@ -71,7 +81,7 @@ class Building(InFolder):
         self.assertEqual((status, out), (0, "ran\n"))
         self.says(
             error,
-            "about 30 minutes on",
+            f"about {MINUTES} minutes on",
             "gate: proving low (crate 1, of at most 2)",
             "gate: low: 2 functions proved,",
         )
@@ -145,7 +155,18 @@ class Building(InFolder):
         self.assertEqual(self.run_gate(env={"GATE_PROGRAM": self.program}), (0, "ran\n", ""))
         status, _, error = self.run_gate(env={"GATE_PROGRAM": self.path("none")})
         self.assertEqual((status, self.built()), (1, 0))
-        self.says(error, "where no program is")
+        self.says(error, "there is no program there that can be run")
+
+    def test_a_program_that_can_not_be_started(self):
+        os.chmod(self.write("words", "no program\n"), 0o755)
+        status, out, error = self.run_gate(env={"GATE_PROGRAM": self.path("words")})
+        self.assertEqual((status, out), (1, ""))
+        self.says(error, "words can't be started: exec format error")
+        self.assertFalse(os.path.exists(self.path("out")))
+
+    def test_an_empty_name_of_a_program_is_none(self):
+        self.assertEqual(self.run_gate(env={"GATE_PROGRAM": ""})[0], 0)
+        self.assertEqual(self.built(), 1)
 
     def test_a_report_is_made_by_the_script_beside_and_needs_no_program(self):
         self.write(
@@ -159,6 +180,26 @@ class Building(InFolder):
             (status, out, error), (4, f"limits.csv out a.fix {os.path.basename(self.folder)}\n", "")
         )
         self.assertEqual(self.built(), 0)
+
+    def test_what_ends_the_launcher_ends_what_builds(self):
+        os.chmod(self.write("bin/rt", WAITING_RT), 0o755)
+        call = {
+            **os.environ, "PATH": f"{self.path('bin')}:{os.environ['PATH']}", "TMPDIR": self.folder
+        }
+        call.pop("GATE_PROGRAM", None)
+        started = subprocess.Popen(
+            [os.path.join(self.top, "gate"), "run", "limits.csv", "out", "a.fix"],
+            cwd=self.folder, env=call, stdout=subprocess.PIPE, stderr=subprocess.PIPE,
+        )
+        while not os.path.exists(self.path("copy/crates/gate_program/up")):
+            self.assertIsNone(started.poll())
+            time.sleep(0.02)
+        started.terminate()
+        _, error = started.communicate(timeout=30)
+        self.assertEqual(started.returncode, 1)
+        self.says(
+            error.decode(), "the program could not be built", "  this far", "/gate-build-", ".log"
+        )
 
     def test_what_ends_the_launcher_ends_the_program(self):
         waiting = self.write(

@@ -1,9 +1,12 @@
-"""The documents: links lead somewhere, the files and edits that they name are there."""
+"""The documents: links lead somewhere, and the files, edits and calls that they name are there."""
 import os
 import re
 import unittest
 
+from launcher.building import MINUTES
+from launcher.usage import KIT
 from tests.places import TOP
+from tests.sources import edits_of, sources, text, uses
 
 LINK = re.compile(r"\]\(([^)\s]+)\)")
 
@@ -15,11 +18,6 @@ def documents():
         for name in names:
             if name.endswith(".md"):
                 yield os.path.relpath(os.path.join(folder, name), TOP)
-
-
-def text(path):
-    with open(os.path.join(TOP, path), encoding="utf-8") as file:
-        return file.read()
 
 
 def anchors(path):
@@ -61,6 +59,44 @@ class Documents(unittest.TestCase):
                 with self.subTest(word):
                     self.assertTrue(word in edits or word in crates)
 
+    def test_each_edit_stands_in_its_crates_table(self):
+        for crate in sorted(os.listdir(os.path.join(TOP, "crates"))):
+            edits = os.path.join(TOP, "crates", crate, "must-fail")
+            named = claims(text(os.path.join("crates", crate, "README.md")))
+            for edit in os.listdir(edits) if os.path.isdir(edits) else ():
+                with self.subTest(crate, edit=edit):
+                    self.assertIn(f"`{edit.removesuffix('.edit')}`", named)
+
+    def test_each_name_in_a_table_of_claims_is_in_the_sources(self):
+        for crate, below in uses().items():
+            here = "".join(map(sources, [crate, *below]))
+            for row in re.findall(
+                r"^\|(.*\|.*)\|.*\|$", claims(text(f"crates/{crate}/README.md")), re.M
+            ):
+                for name in names_in(row):
+                    with self.subTest(crate, name=name):
+                        self.assertTrue(re.search(rf"\b{name}\b", here))
+
+    def test_each_name_in_the_clause_of_gate_is_in_the_sources(self):
+        here = "".join(map(sources, ["gate_program", *uses()["gate_program"]]))
+        for row in re.findall(r"^\| \d+ \|.*\|(.*)\|.*\|$", text("docs/CLAIMS.md"), re.M):
+            for name in names_in(row):
+                with self.subTest(name):
+                    self.assertTrue(re.search(rf"\b{name}\b", here))
+
+    def test_each_law_is_a_call_of_its_crate(self):
+        laws = text("docs/CLAIMS.md").split("## The laws that carry it")[1].split("\n## ")[0]
+        crates = os.listdir(os.path.join(TOP, "crates"))
+        for row in re.findall(r"^\|.*\|(.*)\|$", laws, re.M)[2:]:
+            named = re.findall(r"`(?:\w+::)?(\w+)`", row)
+            calls = "".join(sources(crate) for crate in named if crate in crates)
+            edits = [name for crate in named if crate in crates for name in edits_of(crate)]
+            for word in named:
+                with self.subTest(word):
+                    self.assertTrue(
+                        word in crates or word in edits or re.search(rf"\b{word}\b", calls)
+                    )
+
     def test_the_files_that_the_architecture_names_are_there(self):
         table = text("docs/ARCHITECTURE.md").split("| To change | Files, in order |")[1]
         crate = None
@@ -70,6 +106,44 @@ class Documents(unittest.TestCase):
             elif re.fullmatch(r"(?:src|specs)/\w+\.(?:rt|antt)", word):
                 with self.subTest(crate, file=word):
                     self.assertTrue(os.path.exists(os.path.join(TOP, "crates", crate, word)))
+
+    def test_the_scripts_that_documents_name_are_there(self):
+        for document in documents():
+            for path in re.findall(r"\b(?:tools|bench|report)/[\w/]+\.py\b", text(document)):
+                with self.subTest(document, path=path):
+                    self.assertTrue(os.path.exists(os.path.join(TOP, path)))
+
+    def test_each_row_of_a_table_has_as_many_cells_as_its_head(self):
+        for document in documents():
+            width = None
+            for line in re.sub(r"^```.*?^```", "", text(document), flags=re.M | re.S).splitlines():
+                cells = len(re.findall(r"(?<!\\)\|", line)) if line.startswith("|") else None
+                with self.subTest(document, row=line):
+                    self.assertIn(width, (None, cells or width))
+                width = cells
+
+    def test_the_screen_of_the_page_is_the_one_that_is_proved(self):
+        page = text("docs/SCREENS.md")
+        for path, begin in (
+            ("specs/FirstOrders.antt", "-- 100 exactly where"),
+            ("src/first_orders.rt", "impl Screen for FirstOrders {"),
+        ):
+            proved = text(f"crates/screen_kit/{path}")
+            with self.subTest(path):
+                self.assertTrue(proved[proved.index(begin) :] in page)
+        for line in re.findall(r"^ +set\.push\(.*$", page, re.M)[:-1]:
+            with self.subTest(line):
+                self.assertTrue(line in text("crates/gate_program/src/sets.rt"))
+
+    def test_the_kit_and_the_minutes_are_those_of_the_launcher(self):
+        self.assertTrue(f"`{KIT}`" in text("README.md"))
+        self.assertTrue(f"about {MINUTES} minutes on four processors" in text("README.md"))
+
+
+def names_in(row):
+    """The names in code type in a row of a table, without paths of files."""
+    words = [word for word in re.findall(r"`([^`]+)`", row) if "/" not in word]
+    return re.findall(r"[A-Za-z_]\w*", " ".join(words))
 
 
 def claims(readme):

@@ -3,14 +3,16 @@ what it writes.
 
 With one session each byte of a run is determined; with several it isn't, and then only the files
 that are read are compared here. The program is that of GATE_PROGRAM, or the one in
-crates/gate_program/out."""
+crates/gate_program/out. Where there is none, and TRY is set, the day is run by `rt try`, which
+compiles the program without a proof."""
+import csv
 import os
 import re
 import subprocess
 import unittest
 
 from launcher.building import is_built, is_program
-from tests.places import TOP, InFolder
+from tests.places import TOP, InFolder, soh
 from tests.test_reasons import ENDS, FAULTS
 
 EXAMPLES = os.path.join(TOP, "examples")
@@ -44,7 +46,24 @@ def shown(data):
     ]
 
 
+def first_page():
+    """The limits, the order, its forward and the journal of the first page."""
+    page = read("..", "README.md").decode().split("## One order in, its forward out")[1]
+    return re.findall(r"^```\n(.*?)^```$", page, re.M | re.S)[:4]
+
+
 class Readmes(InFolder):
+    def test_the_first_page_has_the_stored_run(self):
+        limits, order, _, _ = first_page()
+        data = os.path.join(TOP, "crates/gate_program/data")
+        stored = [read(data, name) for name in sorted(os.listdir(data))]
+        self.assertIn(limits.encode(), stored)
+        self.assertIn(soh(order.strip()), stored)
+
+    def test_the_first_page_has_the_totals_of_the_first_example(self):
+        totals = next(block for block in blocks("first") if block.startswith("session 0"))
+        self.assertTrue(totals in read("..", "README.md").decode())
+
     def test_each_example_has_an_out_of_its_own(self):
         for name in sorted(os.listdir(EXAMPLES)):
             with self.subTest(name):
@@ -106,6 +125,25 @@ def history(journal, tree):
     return roots, reads
 
 
+@unittest.skipUnless(os.environ.get("TRY") and not built(), "TRY isn't set, or Runs has it")
+class Tried(InFolder):
+    """The day, as `rt try` runs it."""
+
+    def test_the_day(self):
+        os.makedirs(self.path("out"))
+        day = os.path.join(EXAMPLES, "day")
+        limits, session = (os.path.join(day, name) for name in ("limits.csv", "session.fix"))
+        words = [limits, self.path("out"), session]
+        done = subprocess.run(
+            ["rt", "try", "--", "run", *words], cwd=os.path.join(TOP, "crates/gate_program"),
+            capture_output=True, stdin=subprocess.DEVNULL,
+        )
+        self.assertEqual(done.returncode, 0, done.stderr.decode(errors="replace")[-2000:])
+        self.says(done.stdout.decode(), read("day", "expected", "stdout").decode())
+        for name in ("journal.csv", "s00.venue", "s00.client"):
+            self.assertEqual(self.read(f"out/{name}"), read("day", "expected", name), name)
+
+
 @unittest.skipUnless(built(), "the program isn't built")
 class Runs(InFolder):
     """Runs of the built program."""
@@ -124,6 +162,16 @@ class Runs(InFolder):
         self.assertEqual(self.run_example("day"), read("day", "expected", "stdout").decode())
         for name in ("journal.csv", "s00.venue", "s00.client"):
             self.assertEqual(self.read(f"out/{name}"), read("day", "expected", name), name)
+
+    def test_the_order_of_the_first_page(self):
+        limits, order, forward, journal = first_page()
+        self.write("limits.csv", limits)
+        self.write("a.fix", soh(order.strip()))
+        self.assertEqual(
+            self.gate("run", "limits.csv", "out", "a.fix", env={"GATE_PROGRAM": built()})[0], 0
+        )
+        self.assertEqual(self.read("out/s00.venue"), soh(forward.strip()))
+        self.assertEqual(self.read("out/journal.csv").decode(), journal)
 
     def test_the_totals_and_journal_of_the_readmes(self):
         for name in ONE_SESSION:
@@ -148,19 +196,36 @@ class Runs(InFolder):
                     if block.startswith("8=FIX"):
                         self.assertLessEqual(set(block.splitlines()), there)
 
+    def test_the_reports_tell_what_the_totals_count(self):
+        for name in ONE_SESSION:
+            with self.subTest(name):
+                sent, refused = re.findall(r"sent (\d+) refused (\d+)", self.run_example(name))[0]
+                self.assertEqual(self.report_of(name, "session"), (int(sent), int(refused)))
+
+    def report_of(self, name, *sessions):
+        """How many requests the report of the run in `out` tells as sent and as refused. The report
+        is taken away again."""
+        words = [os.path.join(EXAMPLES, name, "limits.csv"), "out"]
+        words += [os.path.join(EXAMPLES, name, f"{one}.fix") for one in sessions]
+        status, _, error = self.gate("report", *words)
+        self.assertEqual((status, error), (0, ""))
+        self.says(self.read("out/report.html").decode(), "</html>")
+        rows = csv.DictReader(self.read("out/requests.csv").decode().splitlines())
+        outcomes = [row["outcome"] for row in rows]
+        for one in ("report.html", "requests.csv"):
+            os.remove(self.path(f"out/{one}"))
+        return outcomes.count("sent"), sum(one.startswith("refused: ") for one in outcomes)
+
     def test_the_firm_however_its_sessions_fall(self):
-        inputs = [
-            os.path.join(EXAMPLES, "firm", f"{name}.fix") for name in (
-                "alpha1", "beta1", "alpha2", "beta2"
-            )
-        ]
-        done = self.run_words(
-            "run", os.path.join(EXAMPLES, "firm", "limits.csv"), self.folder, *inputs
-        )
+        sessions = ("alpha1", "beta1", "alpha2", "beta2")
+        inputs = [os.path.join(EXAMPLES, "firm", f"{name}.fix") for name in sessions]
+        os.makedirs(self.path("out"))
+        done = self.run_words("run", os.path.join(EXAMPLES, "firm", "limits.csv"), "out", *inputs)
         self.assertEqual(done.returncode, 0)
         ended = re.findall(rb"session (\d) whole sent (\d) refused (\d) noted 0", done.stdout)
         self.assertEqual([int(sent) + int(refused) for _, sent, refused in ended], [1, 2, 3, 1])
-        roots, reads = history(self.read("journal.csv").decode(), tree=0)
+        self.assertEqual(sum(self.report_of("firm", *sessions)), 7)
+        roots, reads = history(self.read("out/journal.csv").decode(), tree=0)
         self.assertTrue(reads)
         self.assertEqual([roots[place] for place, _ in reads], [root for _, root in reads])
         self.assertLessEqual(roots[-1], 5000)

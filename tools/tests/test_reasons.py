@@ -32,6 +32,7 @@ FAULTS = [
         4,
         ["the column low is `2`", "in a row `quota` it stays empty"],
     ),
+    ("semicolons", "firm;;1;;;\n", 1, 1, 1, ["Between columns is a comma, and not `;`"]),
     ("a name of the firm", "firm,ACME,1,,,\n", 1, 1, 1, ["the column name is `ACME`"]),
     (
         "another kind",
@@ -125,9 +126,9 @@ ENDS = [
         ORDER + ORDER.replace(b"\x01", b"|"),
         "broken",
         136,
-        ["`|` stands where SOH (byte 1) has to", "session_from_log.py"],
+        ["`|` is where SOH (byte 1) has to be", "session_from_log.py"],
     ),
-    ("^A for SOH", ORDER.replace(b"\x01", b"^A"), "broken", 0, ["`^A` stands where SOH"]),
+    ("^A for SOH", ORDER.replace(b"\x01", b"^A"), "broken", 0, ["`^A` is where SOH"]),
     (
         "another version",
         frame(BODY, begin=b"8=FIX.4.2"),
@@ -140,7 +141,7 @@ ENDS = [
         ORDER + b"\n10:00:01 " + ORDER,
         "broken",
         137,
-        ["line 2", "`10:00:01 ` stands before the message", "session_from_log.py"],
+        ["line 2", "`10:00:01 ` comes before the message", "session_from_log.py"],
     ),
     (
         "a length too small",
@@ -196,12 +197,26 @@ ENDS = [
         ORDER + b"\r\n" + ORDER[:-10],
         "cut",
         138,
-        ["the file ends within a message", "10 bytes of the message"],
+        ["the file ends within a message", "10 bytes are missing of the message"],
+    ),
+    ("the last SOH is missing", ORDER[:-1], "cut", 0, ["SOH (byte 1) is missing behind CheckSum"]),
+    (
+        "no SOH behind a CheckSum",
+        ORDER[:-1] + b"\n" + ORDER[:-1] + b"\n",
+        "broken",
+        0,
+        ["SOH (byte 1) is missing behind CheckSum (10)", "session_from_log.py"],
     ),
     ("a head alone", ORDER + b"8=FIX", "cut", 136, ["the file ends in the head of a message"]),
     ("packed", b"\x1f\x8b\x08\x00", "broken", 0, ["the file is gzip"]),
     ("a mark", b"\xef\xbb\xbf" + ORDER, "broken", 0, ["byte order mark"]),
-    ("words", b"hello\n", "broken", 0, ["there stands `hello", "a message has to begin here"]),
+    (
+        "words",
+        b"hello\n",
+        "broken",
+        0,
+        ["from there the file has `hello", "a message has to begin here"],
+    ),
 ]
 
 
@@ -257,6 +272,12 @@ class SessionEnds(InFolder):
         _, _, error = self.gate(*RUN, status=4)
         self.says(error, "byte 33,554,432", "only the first 33,554,432 bytes of a file are read")
 
+    def test_a_message_that_goes_on_past_the_most(self):
+        self.write("a.fix", b"\n" * 33_554_400 + ORDER)
+        _, _, error = self.gate(*RUN, status=4)
+        self.says(error, "byte 33,554,400", "only the first 33,554,432 bytes of a file are read")
+        self.assertNotIn("CheckSum", error)
+
     def test_each_session_that_ended_early_is_named(self):
         self.write("b.fix", ORDER[:-1])
         self.write("c.fix", soh("8=FIX.4.4|9=x|"))
@@ -301,6 +322,25 @@ class OtherStatuses(InFolder):
         os.makedirs(self.path("out/s00.client"))
         self.says(self.told(6), "out/s00.client can't be written: it is a folder")
 
+    def test_many_outputs_that_can_not_be_written(self):
+        sessions = [f"{number}.fix" for number in range(5)]
+        for name in sessions:
+            self.write(name, ORDER)
+        error = self.told(6, "run", "limits.csv", "a.fix/out", *sessions)
+        self.assertEqual(error.count("can't be written"), 3)
+        self.says(error, "nor can 8 more outputs")
+
+    def test_outputs_that_are_no_plain_files(self):
+        os.makedirs(self.path("out"))
+        os.symlink("/dev/full", self.path("out/journal.csv"))
+        error = self.told(6)
+        self.says(error, "out/journal.csv, or an output of a session, couldn't be written")
+        self.assertNotIn("warning", error)
+
+    def test_a_journal_that_is_not_whole(self):
+        error = self.told(6, files={"journal.csv": "kind,session,a,b,c,d\npost,0,0,1,1000,\n"})
+        self.says(error, "out/journal.csv couldn't be written whole")
+
     def test_an_out_that_is_a_file(self):
         self.says(
             self.told(6, "run", "limits.csv", "a.fix/out", "a.fix"),
@@ -322,8 +362,9 @@ class OtherStatuses(InFolder):
         error = self.told(
             6, files={"journal.csv": "kind,session,a,b,c,d\nended,0,x,,,\nended,7,1,0,,\nended,0"}
         )
-        self.says(error, "standard output couldn't be written")
-        self.says(self.told(9, "run", "gone.csv", "out", "a.fix"), "the cause can't be found any more")
+        self.says(error, "out/journal.csv couldn't be written whole")
+        error = self.told(9, "run", "gone.csv", "out", "a.fix")
+        self.says(error, "the cause can't be found any more")
 
     def test_a_program_that_was_killed(self):
         status, _, error = self.gate(*RUN, signal=int(signal.SIGKILL))
@@ -361,6 +402,16 @@ class EarlierRuns(InFolder):
         self.write("limits.csv", "")
         _, _, error = self.gate(*RUN, status=3)
         self.says(error, "not written by this one: out/journal.csv", "fault 6")
+
+    def test_a_folder_that_nothing_was_written_to_is_not_left(self):
+        self.gate("run", "limits.csv", "deep/out", "a.fix", status=3)
+        self.assertFalse(os.path.exists(self.path("deep")))
+        os.makedirs(self.path("there"))
+        self.gate("run", "limits.csv", "there/out", "a.fix", status=5)
+        self.assertEqual(os.listdir(self.path("there")), [])
+        os.makedirs(self.path("there/out"))
+        self.gate("run", "limits.csv", "there/out", "a.fix", status=5)
+        self.assertEqual(os.listdir(self.path("there")), ["out"])
 
     def test_out_is_made(self):
         self.gate("run", "limits.csv", "deep/out", "a.fix", files={"journal.csv": "kind\n"})

@@ -8,6 +8,14 @@ from tests.places import ORDER, TOP, InFolder, soh
 
 LINE = ORDER.replace(b"\x01", b"|")
 
+
+def message(body, time=None):
+    """A message of this body, with a BodyLength and CheckSum that fit."""
+    body = soh(body + (f"52={time}|" if time else ""))
+    text = b"8=FIX.4.4\x019=" + str(len(body)).encode() + b"\x01" + body
+    return text + b"10=%03d\x01" % (sum(text) % 256)
+
+
 # A log, the messages that it has, and the lines without one.
 LOGS = [
     ("bars", LINE + b"\n", [ORDER], []),
@@ -28,16 +36,17 @@ LOGS = [
         [soh("8=FIX.4.2|9=5|35=0|10=161|")],
         [],
     ),
+    (
+        "a version in a text",
+        message("35=D|58=we speak 8=FIX.4.4 here|").replace(b"\x01", b"|"),
+        [message("35=D|58=we speak 8=FIX.4.4 here|")],
+        [],
+    ),
+    ("blanks round bars", ORDER.replace(b"\x01", b" | "), [ORDER], []),
+    ("the last separator is missing", LINE[:-1] + b"\n" + LINE[:-1], [ORDER] * 2, []),
     ("nothing", b"", [], []),
     ("no message", b"8=FIX.4.4 is what we speak\n", [], [1]),
 ]
-
-
-def message(body, time=None):
-    """A message of this body, with a BodyLength and CheckSum that fit."""
-    body = soh(body + (f"52={time}|" if time else ""))
-    text = b"8=FIX.4.4\x019=" + str(len(body)).encode() + b"\x01" + body
-    return text + b"10=%03d\x01" % (sum(text) % 256)
 
 
 class Recipes(InFolder):
@@ -85,6 +94,20 @@ class Recipes(InFolder):
         self.assertEqual(self.tool("merge_logs.py", "a.fix", "limits.csv")[0], 2)
         self.assertEqual(self.tool("merge_logs.py", "a.fix", "limits.csv", "limits.csv")[0], 2)
         self.assertEqual(self.read("a.fix"), ORDER)
+
+    def test_the_tools_tell_how_they_are_called(self):
+        for name in ("session_from_log.py", "merge_logs.py"):
+            for word in ("--help", "-h"):
+                told = subprocess.run(
+                    [os.path.join(TOP, "tools", name), word], cwd=self.folder, capture_output=True
+                )
+                self.assertEqual((told.returncode, told.stderr), (0, b""))
+                self.says(told.stdout.decode(), f"usage: {name} ", "The status is")
+
+    def test_a_log_without_a_message(self):
+        status, error = self.tool("session_from_log.py", "limits.csv", "made.fix")
+        self.assertEqual(status, 1)
+        self.says(error, "limits.csv: 0 messages, 3 lines without one: 1, 2, 3")
 
     def test_two_logs_are_merged_by_sending_time(self):
         first, second = message("35=D|11=a|", "20240102-10:00:00.5"), message(

@@ -1,6 +1,7 @@
 """The words of a call: what is refused before anything is built, read or written."""
 import os
 import re
+import subprocess
 import unittest
 
 from tests.places import TOP, InFolder
@@ -15,7 +16,7 @@ MALFORMED = [
     (
         "run alone",
         ["run"],
-        "`run` lacks a limit file and a folder for the outputs and a session file",
+        "`run` lacks a limit file, a folder for the outputs and a session file",
     ),
     (
         "33 sessions",
@@ -35,7 +36,7 @@ MALFORMED = [
         "would overwrite",
     ),
     ("limits that are the journal", ["run", "out/journal.csv", "out", "a.fix"], "would overwrite"),
-    ("no UTF-8", ["run", "limits.csv", "out", b"a\xff.fix"], "word 4 isn't UTF-8"),
+    ("no UTF-8", ["run", "limits.csv", "out", b"a\xff.fix"], "word 4 isn't UTF-8: a\\xff.fix"),
 ]
 
 
@@ -65,10 +66,12 @@ class Words(InFolder):
         self.assertEqual(found, {USAGE.rstrip()})
 
     def test_help_has_a_line_for_each_status(self):
-        for word in ("--help", "-h"):
-            status, out, error = self.gate(word, env={"GATE_PROGRAM": None, "PATH": self.bare()})
+        for words in (["--help"], ["-h"], ["run", "--help"], ["report", "-h"]):
+            status, out, error = self.gate(*words, env={"GATE_PROGRAM": None, "PATH": self.bare()})
             self.assertEqual((status, error), (0, ""))
-            self.assertEqual(re.findall(r"^  ([0-9])  ", out, re.M), list("01234568") + ["9"])
+            of_run, of_report = out.split("status of a run\n")[1].split("status of a report\n")
+            self.assertEqual(re.findall(r"^  ([0-9]+) ", of_run, re.M), [*"012345689", "128"])
+            self.assertEqual(re.findall(r"^  ([0-9]+) ", of_report, re.M), [*"0234"])
             self.says(
                 out,
                 "docs/FORMATS.md",
@@ -77,6 +80,27 @@ class Words(InFolder):
                 "session_from_log.py",
                 "GATE_PROGRAM",
             )
+
+    def test_standard_output_that_can_not_be_written(self):
+        for words in (["--help"], ["--version"], ["run"]):
+            for end in (">/dev/full", ">&-"):
+                with self.subTest(words, end=end):
+                    done = subprocess.run(
+                        ["sh", "-c", f'exec "$@" {end}', "sh", os.path.join(TOP, "gate"), *words],
+                        capture_output=True,
+                    )
+                    self.assertEqual(done.returncode, 6)
+                    self.says(done.stderr.decode(), "standard output couldn't be written: ")
+                    self.assertNotIn("Traceback", done.stderr.decode())
+
+    def test_standard_error_that_can_not_be_written(self):
+        for end in ("2>&-", "2>/dev/full"):
+            with self.subTest(end):
+                done = subprocess.run(
+                    ["sh", "-c", f'exec "$@" {end}', "sh", os.path.join(TOP, "gate"), "run"],
+                    capture_output=True,
+                )
+                self.assertEqual((done.returncode, done.stdout.decode()), (2, USAGE))
 
     def test_version_has_the_commit_and_the_kit(self):
         status, out, _ = self.gate("--version")

@@ -1,6 +1,7 @@
+pub mod Hands
+pub mod Tapes
+pub mod Legs
+pub mod Asking
 pub mod Admission
-pub mod Asks
-pub mod Calls
 pub mod Lowering
-pub mod Posting
-pub mod Verdicts
+pub mod Admitted

@@ -2,9 +2,8 @@
 
 use risk_board::Seen;
 
-/// The most calls that an admission makes on the hand of the sums: three posts, three reads, and three
-/// posts back. On the hand of the halt tree it makes one at most.
-pub const MOST_CALLS: u32 = 9;
+/// The most calls that an admission makes: three posts, four reads, and three posts back.
+pub const MOST_CALLS: u32 = 10;
 
 /// What an order asks of its three trees, in the order firm, account, symbol. Values and limits are in
 /// whole currency units.

@@ -1,29 +1,59 @@
-//! The post of a lower value.
-ghost use Rattle.std.specs.Prelude.{◌≡◌, ◌≤◌, ◌<◌, ◌↔◌, IsTrue, IsFalse};
-ghost use Rattle.admit_core.specs.Calls.{with_calls};
-ghost use Rattle.admit_core.specs.Lowering.{is_stuck, calls_of_lowering};
+//! Posting lower values.
+ghost use Rattle.std.specs.Prelude.{◌≡◌, ◌≤◌, ◌<◌, All};
+ghost use Rattle.risk_journal.specs.ActLists.{last_post};
+ghost use Rattle.admit_core.specs.Hands.{IsAfter, IsOver};
+ghost use Rattle.admit_core.specs.Legs.{legs_of, AreRowsOf};
+ghost use Rattle.admit_core.specs.Lowering.{lowered_to, lowering};
 
+use crate::hands::Hands;
+use crate::rows::OrderRows;
+use limit_table::Limits;
 use risk_board::Hand;
 
-/// Posts what a session's orders are worth in a tree now, where that is less than before. False exactly
-/// where it is less and no post is left; then, and where nothing falls, no call is made. No root is
-/// read: what falls is within every limit that it was within before.
-pub fn lower<H: Hand>(sum: &mut H, tree: u32, old: u64, new: u64) -> bool
-    requires tree { tree < (H.meaning sum.old).trees }
-    requires lower { new ≤ old }
-    requires capped { old ≤ (H.meaning sum.old).cap }
-    requires spare { 1 ≤ (H.meaning sum.old).spare }
-    ensures stuck { IsFalse result ↔ IsTrue (is_stuck (H.meaning sum.old) tree old new) }
-    ensures calls { H.meaning sum.new
-        ≡ with_calls (calls_of_lowering (H.meaning sum.old) tree old new) (H.meaning sum.old) }
-    ensures origin { H.SameOrigin sum.old sum.new }
+/// Posts a value that is below what was last posted in a tree of sums, where a post is left there.
+/// False exactly where none is left for it. No root is read: what falls is within every limit that it
+/// was within before.
+pub fn lower<H: Hand, M: Hand>(hands: &mut Hands<H, M>, tree: u32, value: u64) -> bool
+    requires tree { tree < hands.old.halt_tree }
+    requires lower { value ≤ last_post tree hands.old.acts }
+    requires room { 1 ≤ hands.old.room }
+    ensures after { IsAfter H.SameOrigin M.SameOrigin hands.old hands.new 1 }
+    ensures lowered { record { done = result; acts = hands.new.acts }
+        ≡ lowered_to hands.old.quota tree value hands.old.acts }
 {
-    if new == old {
+    if value == hands.last(tree) {
         return true;
     }
-    if sum.left(tree) == 0 {
+    if hands.left(tree) == 0 {
         return false;
     }
-    sum.post(tree, new);
+    hands.post(tree, value);
     true
+}
+
+/// Posts each of the three values, of the firm, the account and the symbol of these rows, that is
+/// below what was last posted in its tree, where a post is left there. False exactly where none is
+/// left for one of them. No root is read. The three legs are named in three clauses, which makes the
+/// head longer than others.
+pub fn lower_all<H: Hand, M: Hand>(
+    hands: &mut Hands<H, M>,
+    limits: &Limits,
+    rows: &OrderRows,
+    values: &[u64; 3],
+) -> bool
+    requires over { IsOver limits.now hands.old }
+    requires rows { AreRowsOf limits.now rows.now }
+    requires lower { All (λ leg. leg.new ≤ leg.old)
+        (legs_of limits.now rows.now hands.old.acts values.now) }
+    requires room { 3 ≤ hands.old.room }
+    ensures after { IsAfter H.SameOrigin M.SameOrigin hands.old hands.new 3 }
+    ensures acts { hands.new.acts ≡ (lowering limits.now
+        (legs_of limits.now rows.now hands.old.acts values.now) hands.old.acts).acts }
+    ensures done { result ≡ (lowering limits.now
+        (legs_of limits.now rows.now hands.old.acts values.now) hands.old.acts).done }
+{
+    let firm_done = lower(hands, 0, values[0]);
+    let account_done = lower(hands, limits.account_tree(rows.account), values[1]);
+    let symbol_done = lower(hands, limits.symbol_tree(rows.symbol), values[2]);
+    firm_done & account_done & symbol_done
 }

@@ -1,41 +1,438 @@
-//! What no clause says: that `admit` runs over plain boards with ample memory, and that its verdicts are
-//! those of orders worked by hand, over four trees of sums and one of the largest.
+//! What no clause says: that the calls are made over plain boards with ample memory, and that their
+//! answers and acts are those of values worked by hand, over five trees of sums and a halt tree.
 ghost use Rattle.std.specs.Prelude.{◌≡◌, ◌<◌, ◌≤◌, length, IfOk};
-ghost use Rattle.fold_law.specs.declared.limits.TheConstants.{LEAF};
+ghost use Rattle.admit_core.specs.declared.ask.TheConstants.{MOST_CALLS};
+ghost use Rattle.admit_core.specs.Hands.{IsOver};
 
-use crate::{Ask, MOST_CALLS, Outcome, Verdict, admit, lower, trip};
-use fold_law::{Fold, LEAF, Max, QUOTA, Sum};
+use crate::{
+    Ask, Hands, MOST_CALLS, OrderRows, Outcome, Verdict, admit, ask_all, is_above_last, lower_all,
+    trip,
+};
+use fold_law::{Fold, LEAF, Max, Memory, QUOTA, Sum};
+use limit_table::{Limits, read_limits};
 use risk_board::{Hand, PlainBoard, Seen};
+use risk_journal::{Act, End};
 use std::alloc::Global;
 use std::process::Abort;
 use std::test::*;
 
-/// A first order of session 0, whose trees are 0, 2 and 3 of four. Session 1 has posted once in each.
+/// Accounts A and B have the trees 1 and 2, symbols X and Y the trees 3 and 4, and the halt tree is 5.
+/// With what session 1 has posted, 600, 500 and 50 are at the limits of the firm, of B and of Y.
+const NINE_POSTS: &[u8] =
+    b"firm,,1100,,,\naccount,A,0,,,\naccount,B,800,,,\nsymbol,X,0,1,12,100000\nsymbol,Y,150,1,12,100000\nquota,,9,,,\n";
+
+/// The same with three posts of a session in each tree.
+const THREE_POSTS: &[u8] =
+    b"firm,,1100,,,\naccount,A,0,,,\naccount,B,800,,,\nsymbol,X,0,1,12,100000\nsymbol,Y,150,1,12,100000\nquota,,3,,,\n";
+
+/// The account B and the symbol Y.
+const ROWS: OrderRows = OrderRows {
+    account: 1,
+    symbol: 1,
+};
+
+/// What session 1 has posted in the trees of sums.
+const OTHERS: [u64; 5] = [500, 9, 300, 7, 100];
+
+/// What is called, and its answer.
+#[derive(Clone, Copy)]
+enum Called {
+    /// With these limits in place of the file's.
+    Admit([u64; 3], Outcome),
+    Ask(Verdict),
+    LowerAll(bool),
+    IsAboveLast(bool),
+    /// Before any other call.
+    Trip,
+}
+
+/// An act that is told: its tree, its index or stamp, and its value. The place of a read is told as 0.
+#[derive(Clone, Copy, Debug, PartialEq, Eq)]
+enum Short {
+    Post(u32, u32, u64),
+    Read(u32, u32, u64),
+}
+
+/// Values that are handed in after those of the rows before, the acts that are told of them, and what
+/// is kept as last posted then.
 #[derive(Clone, Copy)]
 struct Row {
     name: &'static str,
-    quota: u32,
-    others: [u64; 4],
-    /// What session 1 has posted in the halt tree.
-    halts: &'static [u64],
-    new: [u64; 3],
-    limits: [u64; 3],
-    want: Outcome,
-    /// How many posts session 0 has left in each of the four trees afterwards.
-    left: [u32; 4],
+    called: Called,
+    values: [u64; 3],
+    acts: &'static [Short],
+    lasts: [u64; 5],
 }
 
-/// What is wanted where the roots were read: each after the two posts in its tree.
-const fn read(verdict: Verdict, halt: Seen, roots: [u64; 3]) -> Outcome {
-    Outcome {
-        verdict,
-        halt,
-        roots: [seen(2, roots[0]), seen(2, roots[1]), seen(2, roots[2])],
+/// The first order, which is sent.
+const AT_THE_LIMITS: Row = Row {
+    name: "each root at its limit",
+    called: Called::Ask(Verdict::Sent),
+    values: [600, 500, 50],
+    acts: &[
+        Short::Post(0, 1, 600),
+        Short::Post(2, 1, 500),
+        Short::Post(4, 1, 50),
+        Short::Read(5, 0, 0),
+        Short::Read(0, 2, 1100),
+        Short::Read(2, 2, 800),
+        Short::Read(4, 2, 150),
+    ],
+    lasts: [600, 0, 500, 0, 50],
+};
+
+const ASKED: [Row; 6] = [
+    AT_THE_LIMITS,
+    Row {
+        name: "the firm's root above, and the symbol's",
+        called: Called::Ask(Verdict::Firm),
+        values: [601, 500, 51],
+        acts: &[
+            Short::Post(0, 2, 601),
+            Short::Post(2, 2, 500),
+            Short::Post(4, 2, 51),
+            Short::Read(5, 0, 0),
+            Short::Read(0, 3, 1101),
+            Short::Read(2, 3, 800),
+            Short::Read(4, 3, 151),
+            Short::Post(0, 3, 600),
+            Short::Post(2, 3, 500),
+            Short::Post(4, 3, 50),
+        ],
+        ..AT_THE_LIMITS
+    },
+    Row {
+        name: "the account's root above, and the symbol's",
+        called: Called::Ask(Verdict::Account),
+        values: [600, 501, 51],
+        acts: &[
+            Short::Post(0, 4, 600),
+            Short::Post(2, 4, 501),
+            Short::Post(4, 4, 51),
+            Short::Read(5, 0, 0),
+            Short::Read(0, 5, 1100),
+            Short::Read(2, 5, 801),
+            Short::Read(4, 5, 151),
+            Short::Post(0, 5, 600),
+            Short::Post(2, 5, 500),
+            Short::Post(4, 5, 50),
+        ],
+        ..AT_THE_LIMITS
+    },
+    Row {
+        name: "the symbol's root above",
+        called: Called::Ask(Verdict::Symbol),
+        values: [1, 2, 51],
+        acts: &[
+            Short::Post(0, 6, 1),
+            Short::Post(2, 6, 2),
+            Short::Post(4, 6, 51),
+            Short::Read(5, 0, 0),
+            Short::Read(0, 7, 501),
+            Short::Read(2, 7, 302),
+            Short::Read(4, 7, 151),
+            Short::Post(0, 7, 600),
+            Short::Post(2, 7, 500),
+            Short::Post(4, 7, 50),
+        ],
+        ..AT_THE_LIMITS
+    },
+    Row {
+        name: "two posts left",
+        called: Called::Ask(Verdict::Sent),
+        values: [1, 2, 3],
+        acts: &[
+            Short::Post(0, 8, 1),
+            Short::Post(2, 8, 2),
+            Short::Post(4, 8, 3),
+            Short::Read(5, 0, 0),
+            Short::Read(0, 9, 501),
+            Short::Read(2, 9, 302),
+            Short::Read(4, 9, 103),
+        ],
+        lasts: [1, 0, 2, 0, 3],
+    },
+    Row {
+        name: "one post left",
+        called: Called::Ask(Verdict::Quota),
+        values: [1, 2, 4],
+        acts: &[],
+        lasts: [1, 0, 2, 0, 3],
+    },
+];
+
+const ADMITTED: [Row; 2] = [
+    Row {
+        name: "all three roots above",
+        called: Called::Admit(
+            [1099, 799, 149],
+            Outcome {
+                verdict: Verdict::Firm,
+                halt: Seen { stamp: 0, value: 0 },
+                roots: [
+                    Seen {
+                        stamp: 2,
+                        value: 1100,
+                    },
+                    Seen {
+                        stamp: 2,
+                        value: 800,
+                    },
+                    Seen {
+                        stamp: 2,
+                        value: 150,
+                    },
+                ],
+            },
+        ),
+        values: [600, 500, 50],
+        acts: &[
+            Short::Post(0, 1, 600),
+            Short::Post(2, 1, 500),
+            Short::Post(4, 1, 50),
+            Short::Read(5, 0, 0),
+            Short::Read(0, 2, 1100),
+            Short::Read(2, 2, 800),
+            Short::Read(4, 2, 150),
+            Short::Post(0, 2, 0),
+            Short::Post(2, 2, 0),
+            Short::Post(4, 2, 0),
+        ],
+        lasts: [0; 5],
+    },
+    Row {
+        name: "one post left for an admission",
+        called: Called::Admit(
+            [1100, 800, 150],
+            Outcome {
+                verdict: Verdict::Quota,
+                halt: Seen { stamp: 0, value: 0 },
+                roots: [Seen { stamp: 0, value: 0 }; 3],
+            },
+        ),
+        values: [600, 500, 50],
+        acts: &[],
+        lasts: [0; 5],
+    },
+];
+
+const HALTED: [Row; 1] = [Row {
+    name: "session 1 has halted",
+    called: Called::Ask(Verdict::Halt),
+    values: [601, 500, 50],
+    acts: &[
+        Short::Post(0, 1, 601),
+        Short::Post(2, 1, 500),
+        Short::Post(4, 1, 50),
+        Short::Read(5, 1, 1),
+        Short::Read(0, 2, 1101),
+        Short::Read(2, 2, 800),
+        Short::Read(4, 2, 150),
+        Short::Post(0, 2, 0),
+        Short::Post(2, 2, 0),
+        Short::Post(4, 2, 0),
+    ],
+    lasts: [0; 5],
+}];
+
+const TRIPPED: [Row; 2] = [
+    Row {
+        name: "the session trips the halt tree",
+        called: Called::Trip,
+        values: [0; 3],
+        acts: &[Short::Post(5, 1, 1)],
+        lasts: [0; 5],
+    },
+    Row {
+        name: "the session has halted itself",
+        called: Called::Ask(Verdict::Halt),
+        values: [1, 2, 3],
+        acts: &[
+            Short::Post(0, 1, 1),
+            Short::Post(2, 1, 2),
+            Short::Post(4, 1, 3),
+            Short::Read(5, 1, 1),
+            Short::Read(0, 2, 501),
+            Short::Read(2, 2, 302),
+            Short::Read(4, 2, 103),
+            Short::Post(0, 2, 0),
+            Short::Post(2, 2, 0),
+            Short::Post(4, 2, 0),
+        ],
+        lasts: [0; 5],
+    },
+];
+
+const LOWERED: [Row; 7] = [
+    AT_THE_LIMITS,
+    Row {
+        name: "nothing falls",
+        called: Called::LowerAll(true),
+        values: [600, 500, 50],
+        acts: &[],
+        lasts: [600, 0, 500, 0, 50],
+    },
+    Row {
+        name: "all fall",
+        called: Called::LowerAll(true),
+        values: [400, 400, 40],
+        acts: &[
+            Short::Post(0, 2, 400),
+            Short::Post(2, 2, 400),
+            Short::Post(4, 2, 40),
+        ],
+        lasts: [400, 0, 400, 0, 40],
+    },
+    Row {
+        name: "the account's falls",
+        called: Called::LowerAll(true),
+        values: [400, 300, 40],
+        acts: &[Short::Post(2, 3, 300)],
+        lasts: [400, 0, 300, 0, 40],
+    },
+    Row {
+        name: "no post left for the account's",
+        called: Called::LowerAll(false),
+        values: [200, 200, 20],
+        acts: &[Short::Post(0, 3, 200), Short::Post(4, 3, 20)],
+        lasts: [200, 0, 300, 0, 20],
+    },
+    Row {
+        name: "no post left, and none needed",
+        called: Called::LowerAll(true),
+        values: [200, 300, 20],
+        acts: &[],
+        lasts: [200, 0, 300, 0, 20],
+    },
+    Row {
+        name: "no post left for any",
+        called: Called::LowerAll(false),
+        values: [0, 0, 0],
+        acts: &[],
+        lasts: [200, 0, 300, 0, 20],
+    },
+];
+
+/// Whether one of these values is above what the first order has posted.
+const fn compared(name: &'static str, values: [u64; 3], is_above: bool) -> Row {
+    Row {
+        name,
+        called: Called::IsAboveLast(is_above),
+        values,
+        acts: &[],
+        ..AT_THE_LIMITS
     }
 }
 
-const fn seen(stamp: u32, value: u64) -> Seen {
-    Seen { stamp, value }
+/// An act in short, if it is a post or a read whose place is told as 0.
+fn short_of(act: &Act) -> Option<Short> {
+    match *act {
+        Act::Post { tree, index, value } => Some(Short::Post(tree, index, value)),
+        Act::Read {
+            tree,
+            stamp,
+            place: 0,
+            value,
+        } => Some(Short::Read(tree, stamp, value)),
+        _ => None,
+    }
+}
+
+/// Compares the acts of a row.
+fn compares(rt: &impl Abort, row: &Row, acts: &[Act]) {
+    let name = row.name;
+    assert_eq!(rt; acts.len(), row.acts.len(), "{name}: acts");
+    for (act, want) in acts.iter().zip(row.acts) {
+        assert_eq!(rt; short_of(act), Some(*want), "{name}");
+    }
+}
+
+/// Makes the row's call, and compares its answer.
+fn answers<H: Hand, M: Hand>(rt: &impl Abort, hands: &mut Hands<H, M>, limits: &Limits, row: &Row)
+    requires over { IsOver limits.now hands.old }
+    requires account { 1 < length limits.now.accounts }
+    requires symbol { 1 < length limits.now.symbols }
+    requires room { MOST_CALLS ≤ hands.old.room }
+    ensures over { IsOver limits.now hands.new }
+{
+    let Row { name, values, .. } = row;
+    let is_above = is_above_last(hands, limits, &ROWS, values);
+    match row.called {
+        Called::Admit(most, want) => {
+            assert!(rt;
+                values[0] <= LEAF && values[1] <= LEAF && values[2] <= LEAF,
+                "{name}: values in range"
+            );
+            let ask = Ask {
+                trees: [0, 2, 4],
+                old: [hands.last(0), hands.last(2), hands.last(4)],
+                new: *values,
+                limits: most,
+            };
+            assert_eq!(rt; admit(hands, &ask), want, "{name}");
+        }
+        Called::Ask(verdict) => {
+            assert!(rt;
+                values[0] <= LEAF && values[1] <= LEAF && values[2] <= LEAF,
+                "{name}: values in range"
+            );
+            assert_eq!(rt; ask_all(hands, limits, &ROWS, values), verdict, "{name}");
+        }
+        Called::LowerAll(done) => {
+            assert!(rt; !is_above, "{name}: none above");
+            assert_eq!(rt; lower_all(hands, limits, &ROWS, values), done, "{name}");
+        }
+        Called::IsAboveLast(want) => assert_eq!(rt; is_above, want, "{name}"),
+        Called::Trip => {
+            assert!(rt; hands.acts().is_empty(), "{name}: the first call");
+            trip(hands);
+        }
+    }
+}
+
+/// Makes the row's call, and compares.
+fn calls<H: Hand, M: Hand>(
+    rt: &impl Abort,
+    hands: &mut Hands<H, M>,
+    limits: &Limits,
+    row: &Row,
+) -> Result<(), Fail>
+    requires over { IsOver limits.now hands.old }
+    requires account { 1 < length limits.now.accounts }
+    requires symbol { 1 < length limits.now.symbols }
+    ensures over { IsOver limits.now hands.new }
+{
+    let from = hands.acts().len();
+    hands.reserve(MOST_CALLS)?;
+    answers(rt, hands, limits, row);
+    assert!(rt; from <= hands.acts().len(), "no act is lost");
+    compares(rt, row, &hands.acts()[from..]);
+    for (tree, last) in row.lasts.iter().enumerate() {
+        assert!(rt; (tree as u32) < limits.halt_tree(), "a tree of sums");
+        assert_eq!(rt; hands.last(tree as u32), *last, "{}: last posted", row.name);
+    }
+    Ok(())
+}
+
+/// Makes the rows' calls with hands that have made none.
+fn calls_all<H: Hand, M: Hand>(
+    rt: &impl Abort,
+    mut hands: Hands<H, M>,
+    limits: &Limits,
+    rows: &[Row],
+) -> Result<(), Fail>
+    requires over { IsOver limits.now hands }
+    requires account { 1 < length limits.now.accounts }
+    requires symbol { 1 < length limits.now.symbols }
+{
+    for row in rows {
+        calls(rt, &mut hands, limits, row)?;
+    }
+    let count = hands.acts().len();
+    let ended = hands.end(End::Whole);
+    assert!(rt; count < ended.acts.len(), "the end is told");
+    assert_eq!(rt; ended.acts[count], Act::Ended { end: End::Whole });
+    Ok(())
 }
 
 /// Has session 1 post these values in the first trees, and gives back the board.
@@ -55,7 +452,7 @@ fn post_other<F: Fold>(
     for (tree, value) in values.iter().enumerate() {
         hand.reserve(1)?;
         assert!(rt;
-            tree < 4 && hand.left(tree as u32) > 0 && *value <= F::CAP,
+            tree < 5 && hand.left(tree as u32) > 0 && *value <= F::CAP,
             "a post is left, of a value in range"
         );
         hand.post(tree as u32, *value);
@@ -63,162 +460,74 @@ fn post_other<F: Fold>(
     Ok(hand.give_back())
 }
 
-/// Runs the row's order, and compares.
-fn runs(rt: &impl Abort, alloc: Global, row: &Row) -> Result<(), Fail> {
-    let Row { name, new, .. } = row;
+/// Makes the rows' calls over plain boards on which session 1 has posted.
+fn runs(
+    rt: &impl Abort,
+    alloc: Global,
+    limits: &Limits,
+    halts: &[u64],
+    rows: &[Row],
+) -> Result<(), Fail> {
+    assert!(rt; limits.quota() <= QUOTA && halts.len() <= 1, "in range");
     assert!(rt;
-        1 <= row.quota && row.quota <= QUOTA && row.halts.len() <= 1,
-        "{name}: in range"
+        limits.accounts().len() == 2 && limits.symbols().len() == 2,
+        "two accounts and two symbols"
     );
+    let sums = PlainBoard::<Sum>::open(alloc, limits.halt_tree(), 2, limits.quota())?;
+    let sums = post_other(rt, sums, &OTHERS)?;
+    let halt = post_other(rt, PlainBoard::<Max>::open(alloc, 1, 2, 1)?, halts)?;
     assert!(rt;
-        new[0] <= LEAF && new[1] <= LEAF && new[2] <= LEAF,
-        "{name}: values in range"
+        sums.calls(0).is_empty() && halt.calls(0).is_empty(),
+        "session 0 has made no call"
     );
-    let sums = post_other(
-        rt,
-        PlainBoard::<Sum>::open(alloc, 4, 2, row.quota)?,
-        &row.others,
-    )?;
-    let halts = post_other(rt, PlainBoard::<Max>::open(alloc, 1, 2, 1)?, row.halts)?;
-    assert!(rt;
-        sums.calls(0).is_empty() && halts.calls(0).is_empty(),
-        "{name}: session 0 has made no call"
-    );
-    let mut sum = sums.hand(0);
-    let mut halt = halts.hand(0);
-    sum.reserve(MOST_CALLS)?;
-    halt.reserve(1)?;
-    let ask = Ask {
-        trees: [0, 2, 3],
-        old: [0; 3],
-        new: *new,
-        limits: row.limits,
-    };
-    let outcome = admit(&mut sum, &mut halt, &ask);
-    assert_eq!(rt; outcome, row.want, "{name}");
-    let left = [sum.left(0), sum.left(1), sum.left(2), sum.left(3)];
-    assert_eq!(rt; left, row.left, "{name}: posts left");
-    Ok(())
+    match Hands::open(alloc, limits, sums.hand(0), halt.hand(0)) {
+        Ok(hands) => calls_all(rt, hands, limits, rows),
+        Err(_) => Err(Fail::from(Memory)),
+    }
 }
 
-const OTHERS: [u64; 4] = [500, 9, 300, 100];
-
-const NEW: [u64; 3] = [600, 500, 50];
-
-const ROOTS: [u64; 3] = [1100, 800, 150];
-
-/// A row in which nobody has halted, and posts are left.
-const fn not_halted(name: &'static str, limits: [u64; 3], verdict: Verdict, left: [u32; 4]) -> Row {
-    Row {
-        name,
-        quota: 5,
-        others: OTHERS,
-        halts: &[],
-        new: NEW,
-        limits,
-        want: read(verdict, seen(0, 0), ROOTS),
-        left,
+/// Reads the limits, and makes the rows' calls.
+fn runs_by(
+    rt: &impl Abort,
+    alloc: Global,
+    text: &[u8],
+    halts: &[u64],
+    rows: &[Row],
+) -> Result<(), Fail> {
+    let limits = read_limits(alloc, text);
+    assert!(rt; limits.is_ok(), "a limit file");
+    match limits {
+        Ok(limits) => runs(rt, alloc, &limits, halts, rows),
+        Err(_) => Ok(()),
     }
 }
 
 #[test]
-fn the_first_root_above_decides(rt: HostRuntime) -> Result<(), Fail> {
-    let sent = [4, 5, 4, 4];
-    let refused = [3, 5, 3, 3];
+fn orders_are_asked_for_within_the_quota(rt: HostRuntime) -> Result<(), Fail> {
+    runs_by(&rt, rt.alloc(), NINE_POSTS, &[], &ASKED)?;
+    runs_by(&rt, rt.alloc(), NINE_POSTS, &[1], &HALTED)?;
+    runs_by(&rt, rt.alloc(), NINE_POSTS, &[], &TRIPPED)
+}
+
+#[test]
+fn an_admission_tells_the_roots_that_it_read(rt: HostRuntime) -> Result<(), Fail> {
+    runs_by(&rt, rt.alloc(), THREE_POSTS, &[], &ADMITTED)
+}
+
+#[test]
+fn what_falls_is_posted_where_a_post_is_left(rt: HostRuntime) -> Result<(), Fail> {
+    runs_by(&rt, rt.alloc(), THREE_POSTS, &[], &LOWERED)
+}
+
+#[test]
+fn values_are_compared_with_the_last_posts(rt: HostRuntime) -> Result<(), Fail> {
     let rows = [
-        not_halted("each at its limit", ROOTS, Verdict::Sent, sent),
-        not_halted("the firm's", [1099, 800, 150], Verdict::Firm, refused),
-        not_halted("the account's", [1100, 799, 150], Verdict::Account, refused),
-        not_halted("the symbol's", [1100, 800, 149], Verdict::Symbol, refused),
-        not_halted("the last two", [1100, 799, 149], Verdict::Account, refused),
-        not_halted("all three", [0, 0, 0], Verdict::Firm, refused),
+        AT_THE_LIMITS,
+        compared("none above", [600, 500, 50], false),
+        compared("the firm's above", [601, 0, 0], true),
+        compared("the account's above", [600, 501, 50], true),
+        compared("the symbol's above", [600, 500, 51], true),
+        compared("all below", [50, 50, 0], false),
     ];
-    for row in rows.iter() {
-        runs(&rt, rt.alloc(), row)?;
-    }
-    Ok(())
-}
-
-/// A row in which session 1 has tripped the halt tree.
-const fn halted(name: &'static str, limits: [u64; 3]) -> Row {
-    Row {
-        halts: &[1],
-        want: read(Verdict::Halt, seen(1, 1), ROOTS),
-        ..not_halted(name, limits, Verdict::Halt, [3, 5, 3, 3])
-    }
-}
-
-#[test]
-fn the_halt_root_and_the_quota_come_first(rt: HostRuntime) -> Result<(), Fail> {
-    let none = Outcome {
-        verdict: Verdict::Quota,
-        halt: seen(0, 0),
-        roots: [seen(0, 0); 3],
-    };
-    let rows = [
-        halted("halted, within the limits", ROOTS),
-        halted("halted, above the limits", [0, 0, 0]),
-        Row {
-            quota: 2,
-            ..not_halted(
-                "two posts left in each tree",
-                ROOTS,
-                Verdict::Sent,
-                [1, 2, 1, 1],
-            )
-        },
-        Row {
-            quota: 1,
-            want: none,
-            ..not_halted("one post left in each tree", ROOTS, Verdict::Quota, [1; 4])
-        },
-    ];
-    for row in rows.iter() {
-        runs(&rt, rt.alloc(), row)?;
-    }
-    Ok(())
-}
-
-/// A name, the value before, the value now, the answer, and how many of two posts are left.
-type Fall = (&'static str, u64, u64, bool, u32);
-
-/// Lowers by each row in turn, in the first tree.
-fn falls<H: Hand>(rt: &impl Abort, sum: &mut H, rows: &[Fall]) -> Result<(), Fail>
-    requires trees { 0 < (H.meaning sum.old).trees }
-    requires cap { (H.meaning sum.old).cap ≡ LEAF }
-{
-    for (name, old, new, answer, left) in rows {
-        assert!(rt;
-            new <= old && *old <= LEAF && sum.spare() > 0,
-            "{name}: values in range, and room"
-        );
-        assert_eq!(rt; lower(sum, 0, *old, *new), *answer, "{name}");
-        assert_eq!(rt; sum.left(0), *left, "{name}: posts left");
-    }
-    Ok(())
-}
-
-#[test]
-fn what_falls_is_posted(rt: HostRuntime) -> Result<(), Fail> {
-    let rows = [
-        ("nothing falls", 600, 600, true, 2),
-        ("less than before", 600, 200, true, 1),
-        ("nothing is left of it", 200, 0, true, 0),
-        ("no post is left", 600, 200, false, 0),
-        ("no post is left, and none needed", 600, 600, true, 0),
-    ];
-    let board = PlainBoard::<Sum>::open(rt.alloc(), 1, 1, 2)?;
-    let mut sum = board.hand(0);
-    sum.reserve(5)?;
-    falls(&rt, &mut sum, &rows)
-}
-
-#[test]
-fn a_trip_is_read(rt: HostRuntime) -> Result<(), Fail> {
-    let board = PlainBoard::<Max>::open(rt.alloc(), 1, 1, 1)?;
-    let mut halt = board.hand(0);
-    halt.reserve(2)?;
-    trip(&mut halt);
-    assert_eq!(rt; halt.read(0), seen(1, 1));
-    Ok(())
+    runs_by(&rt, rt.alloc(), THREE_POSTS, &[], &rows)
 }

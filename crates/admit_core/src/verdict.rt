@@ -1,13 +1,15 @@
 //! The verdict of the roots that were read.
 ghost use Rattle.std.specs.Prelude.{◌≡◌};
-ghost use Rattle.admit_core.specs.Verdicts.{verdict_of};
+ghost use Rattle.admit_core.specs.Admission.{roots_read};
+ghost use Rattle.admit_core.specs.Asking.{verdict_of};
+ghost use Rattle.admit_core.specs.Legs.{legs_asked};
 
 use crate::ask::{Ask, Verdict};
 use risk_board::Seen;
 
 /// The halt root comes first, then the first of the three roots that is above its limit.
 pub(crate) fn decide(ask: &Ask, halt: &Seen, roots: &[Seen; 3]) -> Verdict
-    ensures { result ≡ verdict_of ask.now halt.now roots.now }
+    ensures { result ≡ verdict_of (legs_asked ask.now) (roots_read halt.now roots.now) }
 {
     if halt.value > 0 {
         return Verdict::Halt;

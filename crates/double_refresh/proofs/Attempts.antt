@@ -1,5 +1,5 @@
 -- From the climb before a call of a try to the climb after it.
-use Rattle.std.proofs.Common.{◌≡◌, ℕ, suc, Some, refl, sym, ap, ◌∙◌}
+use Rattle.std.proofs.Common.{◌≡◌, ℕ, Some, refl, sym, ap, ◌∙◌}
 use Rattle.stamp_word.specs.Word.{stamp_in}
 use Rattle.node_rule.specs.declared.view.View.TheVariants.{Session}
 use Rattle.node_rule.specs.declared.view.Stage.{Stage}
@@ -8,11 +8,10 @@ use Rattle.node_rule.specs.declared.view.Track.{Track}
 use Rattle.node_rule.specs.declared.view.Try.{Try}
 use Rattle.node_rule.specs.declared.view.Ascent.{Ascent}
 use Rattle.node_rule.specs.declared.view.Plan.{Plan}
-use Rattle.node_rule.specs.Views.{try_of, staged, try_at, with_left, with_right, risen, installed}
-use Rattle.node_rule.specs.Steps.{after_stage, parent_stage, left_stage, right_stage, after_win, after_loss, ascent_lost, install_of}
+use Rattle.node_rule.specs.Views.{try_of, staged, try_at, with_left, with_right}
+use Rattle.node_rule.specs.Steps.{after_stage, parent_stage, left_stage, right_stage, ascent_lost}
 use Rattle.node_rule.specs.Standing.{Standing, KeepsSeat, IsFresh, HasLostOnce, HasTry, HasFullTry, HasLoaded}
-use Rattle.double_refresh.specs.Refreshing.{Wins, Loses}
-use Rattle.node_rule.proofs.OnWay.{win_is}
+use Rattle.double_refresh.specs.Refreshing.{Loses}
 
 pub left_try : (stage : Stage) (y : Try) (found : ℕ) → try_of stage ≡ Some y
     → try_of (left_stage stage found) ≡ Some (with_left y found)
@@ -40,7 +39,7 @@ pub staged_view : (old new : Standing) (track : Track) (x : Ascent) (f : Stage �
 staged_view old new track x f same e v = v ∙ (ap (after_stage f) e
     ∙ ap (λ (p : Plan). Session p.levels track (Some (staged x (f x.stage)))) (sym same))
 
-module _ (old left right new : Standing) (track : Track) (x : Ascent) (y : Try) (l r : ℕ)
+module _ (old left right : Standing) (track : Track) (x : Ascent) (y : Try) (l r : ℕ)
     (e : old.view ≡ Session old.plan.levels track (Some x)) (h : try_of x.stage ≡ Some y)
     (left_plan : left.plan ≡ old.plan) (right_plan : right.plan ≡ left.plan)
     (left_is : left.view ≡ after_stage (λ s. left_stage s l) old.view)
@@ -61,42 +60,6 @@ module _ (old left right new : Standing) (track : Track) (x : Ascent) (y : Try) 
       × (try_of (right_stage (left_stage x.stage l) r) ≡ Some
       (record { parent = parent; left = Some left'; right = Some right' }))
   full_hand = (y.parent, l, r, right_hand)
-
-  levels : right.plan.levels ≡ old.plan.levels
-  levels = ap (λ (p : Plan). p.levels) (right_plan ∙ left_plan)
-
-  pub wins : new.view ≡ after_win right.view → Wins old new
-  wins w = (
-    track,
-    x,
-    install_of loaded (with_right (with_left y l) r),
-    suc (stamp_in y.parent),
-    e,
-    w ∙ (ap after_win right_view ∙ (win_is right.plan.levels track loaded
-        (right_stage (left_stage x.stage l) r) (with_right (with_left y l) r) right_hand
-        ∙ ap (λ (n : ℕ). Session n (installed track
-        (install_of loaded (with_right (with_left y l) r)))
-        (risen x (suc (stamp_in y.parent)))) levels)),
-  )
-
-  lost_same : (found : ℕ) (stage : Stage) → try_of stage ≡ Some y
-      → ascent_lost (staged x (right_stage (left_stage stage l) r)) found
-      (right_stage (left_stage stage l) r) ≡ ascent_lost (staged x stage) found stage
-  lost_same found Fresh t = absurd (cc)
-  lost_same found (First z) t = refl
-  lost_same found (Lost s) t = refl
-  lost_same found (Second s z) t = refl
-
-  pub loses : (found : ℕ) → new.view ≡ after_loss found right.view → Loses old new
-  loses found w = (
-    track,
-    x,
-    found,
-    e,
-    w ∙ (ap (after_loss found) right_view
-        ∙ (ap (Session right.plan.levels track) (lost_same found x.stage h)
-        ∙ ap (λ (n : ℕ). Session n track (ascent_lost x found x.stage)) levels)),
-  )
 
 -- a try in hand is still one once the left child is loaded
 pub left_keeps_try : (old new : Standing) → KeepsSeat old new → HasTry old
@@ -119,10 +82,10 @@ full_try old left right left_kept right_kept tried left_loaded right_loaded =
       staged x (right_stage (left_stage x.stage l) r),
       (
         tried.1.0,
-        right_view old left right right tried.1.0 x tried.2.0 l r tried.1.1 tried.2.1 left_kept.1
+        right_view old left right tried.1.0 x tried.2.0 l r tried.1.1 tried.2.1 left_kept.1
             right_kept.1 left_loaded.1 right_loaded.1,
       ),
-      full_hand old left right right tried.1.0 x tried.2.0 l r tried.1.1 tried.2.1 left_kept.1
+      full_hand old left right tried.1.0 x tried.2.0 l r tried.1.1 tried.2.1 left_kept.1
           right_kept.1 left_loaded.1 right_loaded.1,
     )
 

@@ -5,8 +5,14 @@ use Rattle.node_rule.specs.declared.view.Track.{Track}
 use Rattle.node_rule.specs.declared.view.Install.{Install}
 use Rattle.node_rule.specs.declared.view.Ascent.{Ascent}
 use Rattle.node_rule.specs.Views.{installed, risen}
-use Rattle.node_rule.specs.Steps.{ascent_lost}
+use Rattle.node_rule.specs.Steps.{ascent_lost, after_stage, left_stage, right_stage}
 use Rattle.node_rule.specs.Standing.{Standing}
+
+-- some words were loaded as the children, and the stage is the one with both
+abbrev pub HasLoadedBoth : Standing → Standing → Type 0
+HasLoadedBoth old new =
+    (left right : ℕ)
+    × (new.view ≡ after_stage (λ stage. right_stage (left_stage stage left) right) old.view)
 
 -- one install more, and the ascent is at the parent
 abbrev pub Wins : Standing → Standing → Type 0

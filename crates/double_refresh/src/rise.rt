@@ -1,13 +1,31 @@
 //! One or two tries at the parent of an ascent's node.
 ghost use Rattle.std.specs.Prelude.{◌≡◌, ℕ, ◌+◌, ◌≤◌};
 ghost use Rattle.std.specs.Bool.{OnTrue, OnFalse};
-ghost use Rattle.node_rule.specs.Standing.{IsOf, KeepsSeat, IsFresh, HasTry};
-ghost use Rattle.double_refresh.specs.Refreshing.{Wins, Loses, Rises};
+ghost use Rattle.node_rule.specs.Standing.{IsOf, KeepsSeat, IsFresh, HasTry, HasFullTry};
+ghost use Rattle.double_refresh.specs.Refreshing.{HasLoadedBoth, Wins, Loses, Rises};
 
 use fold_law::Fold;
 use node_rule::{Climb, Words};
 use stamp_word::Steps;
 use std::sync::ledger::Ledger;
+
+// Loads both children for the try in hand.
+pub(crate) fn load_children<F: Fold, L: Ledger>(
+    words: &Words<F>,
+    climb: &mut Climb<F>,
+    steps: &mut Steps<L>,
+)
+    requires table { IsOf words.now climb.old }
+    requires stage { HasTry climb.old }
+    ensures table { KeepsSeat climb.old climb.new }
+    ensures full { HasFullTry climb.new }
+    ensures view { HasLoadedBoth climb.old climb.new }
+    ensures own_steps { climb.new.steps ≡ climb.old.steps + 2 }
+    ensures steps { steps.new ≡ steps.old + 2 }
+{
+    words.load_left(climb, steps);
+    words.load_right(climb, steps);
+}
 
 // The rest of a try: the children are loaded, and the parent's word is exchanged.
 pub(crate) fn attempt<F: Fold, L: Ledger>(
@@ -23,8 +41,7 @@ pub(crate) fn attempt<F: Fold, L: Ledger>(
     ensures own_steps { climb.new.steps ≡ climb.old.steps + 3 }
     ensures steps { steps.new ≡ steps.old + 3 }
 {
-    words.load_left(climb, steps);
-    words.load_right(climb, steps);
+    load_children(words, climb, steps);
     words.exchange(climb, steps)
 }
 

@@ -3,16 +3,14 @@
 ghost use Rattle.std.specs.Prelude.{◌≡◌, [], ◌≤◌, ◌<◌, IfSome};
 ghost use Rattle.std.specs.Bool.{OnTrue, OnFalse};
 ghost use Rattle.fold_law.specs.declared.limits.TheConstants.{LEAF};
-ghost use Rattle.node_rule.specs.declared.view.View.TheVariants.{Keeper};
-ghost use Rattle.node_rule.specs.Own.{IsSession};
-ghost use Rattle.node_rule.specs.Standing.{IsOf, KeepsTable, KeepsSeat};
+ghost use Rattle.node_rule.specs.Standing.{IsOf, IsKeeperOf, KeepsTable, KeepsSeat};
 ghost use Rattle.node_rule.specs.Standing.{IsIdle, IsFresh, HasTry};
 ghost use Rattle.double_refresh.specs.Refreshing.{Wins, Loses, Rises};
 
 use crate::refresh;
-use crate::rise::attempt;
+use crate::rise::{attempt, load_children};
 use fold_law::Sum;
-use node_rule::{Climb, Words};
+use node_rule::{Climb, KeeperSeat, Words};
 use risk_board::{Call, Seen};
 use stamp_word::{Shape, Steps, count_steps, stamp_of, value_of};
 use std::alloc::Global;
@@ -34,7 +32,6 @@ struct Told {
 }
 
 fn tells(climb: &Climb<Sum>) -> Told
-    requires session { IsSession climb.now.view }
     requires tree { 1 < climb.now.plan.trees }
 {
     Told {
@@ -83,8 +80,7 @@ fn attempt_beside<L: Ledger>(
     ensures won { OnTrue result (Wins late.old late.new) }
     ensures lost { OnFalse result (Loses late.old late.new) }
 {
-    words.load_left(late, steps);
-    words.load_right(late, steps);
+    load_children(words, late, steps);
     refresh(words, early, steps);
     words.exchange(late, steps)
 }
@@ -110,18 +106,18 @@ fn refresh_beside<L: Ledger>(
     (false, attempt(words, late, steps))
 }
 
-// A session posts and climbs to the root.
-fn climb_once(words: &Words<Sum>, climb: Climb<Sum>, value: u64) -> Option<(Climb<Sum>, Told)>
+// A session posts, and its post ascends to the root.
+fn ascend_once(words: &Words<Sum>, climb: Climb<Sum>, value: u64) -> Option<(Climb<Sum>, Told)>
     requires table { IsOf words.now climb }
     requires idle { IsIdle climb }
     requires plan { (words.now.plan.levels ≡ 1) × (1 < words.now.plan.trees) }
     requires capped { value ≤ LEAF }
     ensures { IfSome result (λ r. IsOf words.now r.0 × IsIdle r.0) }
 {
-    climb_counted::<Brand>(words, climb, value, Blank::new(1))
+    ascend_counted::<Brand>(words, climb, value, Blank::new(1))
 }
 
-fn climb_counted<L: Ledger>(
+fn ascend_counted<L: Ledger>(
     words: &Words<Sum>,
     mut climb: Climb<Sum>,
     value: u64,
@@ -146,8 +142,8 @@ fn climb_counted<L: Ledger>(
     Some((climb, at_leaf))
 }
 
-// Both sessions climb, each on a thread of its own.
-fn climb_both<R: Threads + Sync>(
+// Both sessions post, each on a thread of its own.
+fn ascend_both<R: Threads + Sync>(
     rt: &R,
     words: &Words<Sum>,
     first: Climb<Sum>,
@@ -159,12 +155,12 @@ fn climb_both<R: Threads + Sync>(
     ensures first { IfSome result.0 (λ r. IsOf words.now r.0 × IsIdle r.0) }
     ensures second { IfSome result.1 (λ r. IsOf words.now r.0 × IsIdle r.0) }
 {
-    let run_first = move || climb_once(words, first, 5);
-    let run_second = move || climb_once(words, second, 7);
+    let run_first = move || ascend_once(words, first, 5);
+    let run_second = move || ascend_once(words, second, 7);
     thread::join(rt, run_first, run_second)
 }
 
-// What two sessions met whose second climbs were beside each other.
+// What two sessions met whose second ascents were beside each other.
 #[derive(Drop)]
 struct Met {
     first: Climb<Sum>,
@@ -229,11 +225,12 @@ struct Left {
 
 fn close_both(
     words: Words<Sum>,
-    mut keeper: Climb<Sum>,
+    mut keeper: KeeperSeat<Sum>,
     first: Climb<Sum>,
     second: Climb<Sum>,
 ) -> Option<Left>
-    requires keeper { IsOf words keeper × (keeper.view ≡ Keeper keeper.plan.levels 2 []) }
+    requires keeper { IsKeeperOf words keeper }
+    requires given { (keeper.given ≡ 2) × (keeper.joined ≡ []) }
     requires first { IsOf words first × IsIdle first }
     requires second { IsOf words second × IsIdle second }
 {
@@ -259,14 +256,15 @@ fn close_both(
 #[derive(Drop)]
 struct Opened {
     words: Words<Sum>,
-    keeper: Climb<Sum>,
+    keeper: KeeperSeat<Sum>,
     first: Climb<Sum>,
     second: Climb<Sum>,
 }
 
 fn open_two(alloc: Global) -> Option<Opened>
-    ensures keeper { IfSome result (λ made. IsOf made.words made.keeper
-        × (made.keeper.view ≡ Keeper made.keeper.plan.levels 2 [])) }
+    ensures keeper { IfSome result (λ made. IsKeeperOf made.words made.keeper) }
+    ensures given { IfSome result (λ made.
+        (made.keeper.given ≡ 2) × (made.keeper.joined ≡ [])) }
     ensures first { IfSome result (λ made. IsOf made.words made.first × IsIdle made.first) }
     ensures second { IfSome result (λ made. IsOf made.words made.second × IsIdle made.second) }
     ensures plan { IfSome result (λ made. (made.words.plan.levels ≡ 1)
@@ -315,7 +313,7 @@ struct Outcome {
     left: Left,
 }
 
-// Each call at least once: first on two threads, and then of two climbs beside each other.
+// Each call at least once: first on two threads, and then of two ascents beside each other.
 fn run_both<R: Threads + Sync>(rt: &R, alloc: Global) -> Option<Outcome> {
     let Opened {
         words,
@@ -323,7 +321,7 @@ fn run_both<R: Threads + Sync>(rt: &R, alloc: Global) -> Option<Outcome> {
         first,
         second,
     } = open_two(alloc)?;
-    let (first, second) = climb_both(rt, &words, first, second);
+    let (first, second) = ascend_both(rt, &words, first, second);
     let (first, told_first) = first?;
     let (second, told_second) = second?;
     let Met {

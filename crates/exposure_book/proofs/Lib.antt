@@ -1,7 +1,7 @@
 pub mod Lowering
 pub mod Sums
 pub mod Kept
-pub mod Causes
 pub mod Inserted
 pub mod Lowered
+pub mod Outcomes
 mod Rows

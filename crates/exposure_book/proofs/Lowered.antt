@@ -1,21 +1,16 @@
 -- An order that counts for no more raises no sum.
-use Rattle.std.proofs.Common.{◌≡◌, ◌≤◌, ℕ, Bool, true, false, List, Option, Some}
-use Rattle.std.proofs.Common.{None, slice_get, set, sum_by, refl, sym, subst}
-use Rattle.std.proofs.Common.{arith, eqb, if◌then◌else◌, IfSome}
-use Rattle.fix_orders.specs.declared.message.Exec.{Exec}
+use Rattle.std.proofs.Common.{◌≡◌, ◌≤◌, ℕ, Bool, true, false, List, Some}
+use Rattle.std.proofs.Common.{slice_get, set, sum_by, sym, subst}
+use Rattle.std.proofs.Common.{arith, eqb, if◌then◌else◌}
 use Rattle.fix_orders.specs.declared.message.Report.{Report}
 use Rattle.fix_orders.specs.declared.message.CancelReject.{CancelReject}
 use Rattle.exposure_book.specs.declared.order.Order.{Order}
 use Rattle.exposure_book.specs.Orders.{exposure_of, Lowers}
 use Rattle.exposure_book.specs.Books.{BookValue, units_up, firm_sum}
-use Rattle.exposure_book.specs.Books.{place_of}
 use Rattle.exposure_book.specs.Totals.{most_exposure}
-use Rattle.exposure_book.specs.Reports.{RaisesNothing, outcome_with, outcome_at}
-use Rattle.exposure_book.specs.Reports.{outcome_of, outcome_by, outcome_of_report}
-use Rattle.exposure_book.specs.Reports.{outcome_of_reject_at, outcome_of_reject_by}
-use Rattle.exposure_book.specs.Reports.{outcome_of_reject, order_after, without_request}
+use Rattle.exposure_book.specs.Reports.{RaisesNothing, outcome_of_report, outcome_of_reject}
 use Rattle.exposure_book.proofs.Sums.{part-le-sum, sum-set, part_by}
-use Rattle.exposure_book.proofs.Lowering.{order_after_lowers, lowers_without_request}
+use Rattle.exposure_book.proofs.Outcomes.{report_comes, reject_comes}
 
 pub units_up-le : (m n : ℕ) → m ≤ n → units_up m ≤ units_up n
 units_up-le m n h = omega arith
@@ -65,50 +60,18 @@ same_raises_nothing orders = record {
   symbols = λ s. omega arith;
 }
 
-with_raises_nothing : (book : BookValue) (place : ℕ) (o : Order) (next : Option Order)
-    → slice_get book.orders place ≡ Some o → IfSome next (Lowers o)
-    → RaisesNothing book.orders (outcome_with book place next).orders
-with_raises_nothing book place o None found lowers = same_raises_nothing book.orders
-with_raises_nothing book place o (Some next) found lowers =
-    lowered_raises_nothing book.orders place o next found lowers
-
-at_raises_nothing : (book : BookValue) (id : List ℕ) (exec : Exec) (place : ℕ) (o : Option Order)
-    → slice_get book.orders place ≡ o
-    → RaisesNothing book.orders (outcome_at book id exec place o).orders
-at_raises_nothing book id exec place None found = same_raises_nothing book.orders
-at_raises_nothing book id exec place (Some o) found =
-    with_raises_nothing book place o (order_after id exec o) found (order_after_lowers o id exec)
-
-of_raises_nothing : (book : BookValue) (id : List ℕ) (exec : Exec) (place : Option ℕ)
-    → RaisesNothing book.orders (outcome_of book id exec place).orders
-of_raises_nothing book id exec None = same_raises_nothing book.orders
-of_raises_nothing book id exec (Some place) =
-    at_raises_nothing book id exec place (slice_get book.orders place) refl
-
-by_raises_nothing : (book : BookValue) (exec : Exec) (id : Option (List ℕ))
-    → RaisesNothing book.orders (outcome_by book exec id).orders
-by_raises_nothing book exec None = same_raises_nothing book.orders
-by_raises_nothing book exec (Some id) = of_raises_nothing book id exec (place_of id book.ids)
-
 pub report_raises_nothing : (book : BookValue) (report : Report)
     → RaisesNothing book.orders (outcome_of_report book report).orders
-report_raises_nothing book report = by_raises_nothing book report.exec report.id
-
-reject_at_raises_nothing : (book : BookValue) (id : List ℕ) (place : ℕ) (o : Option Order)
-    → slice_get book.orders place ≡ o
-    → RaisesNothing book.orders (outcome_of_reject_at book id place o).orders
-reject_at_raises_nothing book id place None found = same_raises_nothing book.orders
-reject_at_raises_nothing book id place (Some o) found =
-    with_raises_nothing book place o (Some (without_request id o)) found
-    (lowers_without_request o id)
-
-reject_by_raises_nothing : (book : BookValue) (id : List ℕ) (place : Option ℕ)
-    → RaisesNothing book.orders (outcome_of_reject_by book id place).orders
-reject_by_raises_nothing book id None = same_raises_nothing book.orders
-reject_by_raises_nothing book id (Some place) =
-    reject_at_raises_nothing book id place (slice_get book.orders place) refl
+report_raises_nothing book report =
+    report_comes book (λ outcome. RaisesNothing book.orders outcome.orders)
+    (same_raises_nothing book.orders) (same_raises_nothing book.orders)
+    (λ place old next found lowers. lowered_raises_nothing book.orders place old next found lowers)
+    report
 
 pub reject_raises_nothing : (book : BookValue) (reject : CancelReject)
     → RaisesNothing book.orders (outcome_of_reject book reject).orders
 reject_raises_nothing book reject =
-    reject_by_raises_nothing book reject.id (place_of reject.id book.ids)
+    reject_comes book (λ outcome. RaisesNothing book.orders outcome.orders)
+    (same_raises_nothing book.orders) (same_raises_nothing book.orders)
+    (λ place old next found lowers. lowered_raises_nothing book.orders place old next found lowers)
+    reject

@@ -34,7 +34,6 @@ book one = record {
   symbols = 1;
   orders = one ∷ [];
   ids = (codes "a1", 0) ∷ (codes "b1", 0) ∷ [];
-  room = 0;
 }
 
 -- the value of the firm

@@ -10,13 +10,17 @@ use Rattle.exposure_book.specs.declared.price.TheConstants.{UNIT}
 use Rattle.exposure_book.specs.Orders.{exposure_of}
 use Rattle.exposure_book.specs.Pendings.{is_same_id}
 
--- how many accounts and symbols there are; the orders, oldest first; every id that was committed,
--- oldest first, with the place of its order; and for how many more orders and ids there is room
+-- how many accounts and symbols there are; the orders, oldest first; and every id that was committed,
+-- oldest first, with the place of its order
 pub record BookValue : Type 0 where
   pub accounts : ℕ
   pub symbols : ℕ
   pub orders : List Order
   pub ids : List (List ℕ × ℕ)
+
+-- a book in memory: what it means, and for how many more orders and ids there is room
+pub record BookInMemory : Type 0 where
+  pub value : BookValue
   pub room : ℕ
 
 -- what an order counts for in the tree of an account
@@ -80,11 +84,10 @@ pair_of_order None = None
 pair_of_order (Some order) = Some (order.account, order.symbol)
 
 -- a book with no order
-abbrev pub empty_book : ℕ → ℕ → ℕ → BookValue
-empty_book accounts symbols room = record {
+abbrev pub empty_book : ℕ → ℕ → BookValue
+empty_book accounts symbols = record {
   accounts = accounts;
   symbols = symbols;
   orders = [];
   ids = [];
-  room = room;
 }

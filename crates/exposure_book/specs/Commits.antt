@@ -1,5 +1,5 @@
 -- A book after what was proposed is committed.
-use Rattle.std.specs.Prelude.{◌≡◌, ℕ, List, [], ◌∷◌, ◌++◌, length, Option, Some, None, slice_get}
+use Rattle.std.specs.Prelude.{ℕ, List, [], ◌∷◌, ◌++◌, length, Option, Some, None, slice_get}
 use Rattle.std.specs.Prelude.{slice_set}
 use Rattle.fix_orders.specs.declared.message.NewOrder.{NewOrder}
 use Rattle.fix_orders.specs.declared.message.Cancel.{Cancel}
@@ -62,10 +62,3 @@ with_cancel_pending request book = cancel_at request book (place_of request.orig
 abbrev pub with_replace_pending : Replace → Limits → BookValue → BookValue
 with_replace_pending request limits book =
     replaced_at request limits book (place_of request.orig book.ids)
-
--- one book has the accounts, symbols, orders and ids of the other; the room may differ
-pub record IsSameBook (one other : BookValue) : Type 0 where
-  pub accounts : other.accounts ≡ one.accounts
-  pub symbols : other.symbols ≡ one.symbols
-  pub orders : other.orders ≡ one.orders
-  pub ids : other.ids ≡ one.ids

@@ -1,11 +1,11 @@
 //! The book: the orders, their ids, and running totals beside them.
 ghost use Rattle.std.specs.Prelude.{◌≡◌, ◌+◌, ◌-◌, ◌≤◌, ◌<◌, ◌^◌, ◌++◌, [], ◌∷◌, length, IfOk};
-ghost use Rattle.std.specs.Prelude.{OnOk, IfSome, slice_set};
+ghost use Rattle.std.specs.Prelude.{OnOk, IfSome, slice_set, true};
 ghost use Rattle.std.specs.Prelude.{None, replicate};
 ghost use Rattle.exposure_book.specs.Books.{empty_book, place_of, order_with, pair_of_order};
 ghost use Rattle.exposure_book.specs.Books.{terms_of, proposal_of, units_up, firm_sum};
-ghost use Rattle.exposure_book.specs.Proposals.{capped};
-ghost use Rattle.exposure_book.specs.Commits.{IsSameBook, added, named};
+ghost use Rattle.exposure_book.specs.Proposals.{capped, is_within_cap};
+ghost use Rattle.exposure_book.specs.Commits.{added, named};
 ghost use Rattle.exposure_book.specs.Totals.{IsOrderAt, IsPlaced, Replaces, IsPartOf};
 ghost use Rattle.exposure_book.specs.Totals.{most_exposure};
 
@@ -20,7 +20,7 @@ use std::alloc::Global;
 use std::marker::Model;
 
 /// The orders of one session, oldest first, and every id that was committed. Contracts see them as
-/// lists, beside the numbers of accounts and symbols and the room for more.
+/// lists beside the numbers of accounts and symbols, and apart from that the room for more.
 #[derive(Drop)]
 pub struct Book {
     /// The orders, oldest first.
@@ -39,16 +39,18 @@ impl Model for Book {
     ghost use Rattle.std.specs.Prelude.{◌-◌, min, length, vec_len};
     ghost use Rattle.std.specs.Vec.{vec_capacity};
     ghost use Rattle.indexmap.specs.IndexMap.{spare};
-    ghost use Rattle.exposure_book.specs.Books.{BookValue};
+    ghost use Rattle.exposure_book.specs.Books.{BookInMemory};
     ghost use Rattle.exposure_book.specs.Totals.{AreKept};
 
-    ghost Value = { BookValue };
+    ghost Value = { BookInMemory };
 
     ghost view = { λ b. record {
-      accounts = length b.accounts.items;
-      symbols = length b.symbols.items;
-      orders = b.orders.items;
-      ids = b.ids.entries;
+      value = record {
+        accounts = length b.accounts.items;
+        symbols = length b.symbols.items;
+        orders = b.orders.items;
+        ids = b.ids.entries;
+      };
       room = min (vec_capacity b.orders - vec_len b.orders) (spare b.ids);
     } };
 
@@ -81,11 +83,12 @@ fn capped(firm: u128, account: u128, symbol: u128) -> Result<Proposal, BookFault
     requires firm { firm + UNIT < 2 ^ 128 }
     requires account { account + UNIT < 2 ^ 128 }
     requires symbol { symbol + UNIT < 2 ^ 128 }
-    ensures { result ≡ capped (record {
+    ensures value { result ≡ capped (record {
       firm = units_up firm;
       account = units_up account;
       symbol = units_up symbol;
     }) }
+    ensures within { IfOk result (λ values. is_within_cap values ≡ true) }
 {
     let most = u128::from(LEAF);
     let (firm, account, symbol) = (units(firm), units(account), units(symbol));
@@ -102,7 +105,7 @@ fn capped(firm: u128, account: u128, symbol: u128) -> Result<Proposal, BookFault
 impl Book {
     /// A book with no order, for so many accounts and symbols.
     pub fn new(alloc: Global, accounts: u32, symbols: u32) -> Result<Book, Memory>
-        ensures { IfOk result (IsSameBook (empty_book accounts symbols 0)) }
+        ensures { IfOk result (λ book. book.value ≡ empty_book accounts symbols) }
     {
         let accounts = zeros(alloc, accounts)?;
         let symbols = zeros(alloc, symbols)?;
@@ -118,7 +121,7 @@ impl Book {
     /// Makes room for one more id and order. Where that is refused, the room may have grown in
     /// part.
     pub fn reserve_one(&mut self) -> Result<(), Memory>
-        ensures same { IsSameBook self.old self.new }
+        ensures same { self.new.value ≡ self.old.value }
         ensures kept { self.old.room ≤ self.new.room }
         ensures ok { OnOk result (1 ≤ self.new.room) }
     {
@@ -130,9 +133,9 @@ impl Book {
 
     /// The account and the symbol of the order that has this id, None where no order has it.
     pub fn pair_of(&self, id: &IdText) -> Option<(u32, u32)>
-        ensures value { result ≡ pair_of_order (order_with self.now id.now) }
+        ensures value { result ≡ pair_of_order (order_with self.now.value id.now) }
         ensures placed { IfSome result (λ pair.
-            (pair.0 < self.now.accounts) × (pair.1 < self.now.symbols)) }
+            (pair.0 < self.now.value.accounts) × (pair.1 < self.now.value.symbols)) }
     {
         let place = self.place(&id.owned())?;
         let order = self.order(place);
@@ -141,26 +144,27 @@ impl Book {
 
     /// The place of the order that has this id.
     pub(crate) fn place(&self, id: &Id) -> Option<usize>
-        ensures value { result ≡ place_of id.now self.now.ids }
-        ensures within { IfSome result (λ place. place < length self.now.orders) }
+        ensures value { result ≡ place_of id.now self.now.value.ids }
+        ensures within { IfSome result (λ place. place < length self.now.value.orders) }
     {
         self.ids.get(&IdKey::new(id)).copied()
     }
 
     /// The order at this place.
     pub(crate) fn order(&self, place: usize) -> Order
-        requires { place < length self.now.orders }
-        ensures { IsOrderAt self.now place result }
+        requires { place < length self.now.value.orders }
+        ensures { IsOrderAt self.now.value place result }
     {
         self.orders[place]
     }
 
     /// The values of this order's three trees, were it at this place.
     pub(crate) fn values_with(&self, place: usize, next: &Order) -> Result<Proposal, BookFault>
-        requires place { Replaces self.now.orders place next.now }
+        requires place { Replaces self.now.value.orders place next.now }
         requires notional { next.now.notional < 2 ^ 63 }
-        ensures { result ≡ capped (proposal_of (slice_set self.now.orders place next.now)
-            next.now.account next.now.symbol) }
+        ensures value { result ≡ capped (proposal_of
+            (slice_set self.now.value.orders place next.now) next.now.account next.now.symbol) }
+        ensures within { IfOk result (λ values. is_within_cap values ≡ true) }
     {
         let old = self.order(place).exposure();
         let new = next.exposure();
@@ -173,10 +177,11 @@ impl Book {
 
     /// The values of this order's three trees, were it one more.
     pub(crate) fn values_with_one(&self, next: &Order) -> Result<Proposal, BookFault>
-        requires placed { IsPlaced self.now.accounts self.now.symbols next.now }
+        requires placed { IsPlaced self.now.value.accounts self.now.value.symbols next.now }
         requires notional { next.now.notional < 2 ^ 63 }
-        ensures { result ≡ capped (proposal_of (self.now.orders ++ next.now ∷ [])
+        ensures value { result ≡ capped (proposal_of (self.now.value.orders ++ next.now ∷ [])
             next.now.account next.now.symbol) }
+        ensures within { IfOk result (λ values. is_within_cap values ≡ true) }
     {
         let new = next.exposure();
         capped(
@@ -188,8 +193,8 @@ impl Book {
 
     /// The values of this order's three trees.
     pub(crate) fn terms(&self, order: &Order) -> Terms3
-        requires { IsPlaced self.now.accounts self.now.symbols order.now }
-        ensures { result ≡ terms_of self.now.orders order.now }
+        requires { IsPlaced self.now.value.accounts self.now.value.symbols order.now }
+        ensures { result ≡ terms_of self.now.value.orders order.now }
     {
         Terms3 {
             account: order.account,
@@ -202,9 +207,11 @@ impl Book {
 
     /// Puts this order in the place of the one that stands there.
     pub(crate) fn put(&mut self, place: usize, next: &Order)
-        requires place { Replaces self.old.orders place next.now }
-        requires capped { firm_sum (slice_set self.old.orders place next.now) ≤ most_exposure }
-        ensures { self.new ≡ record self.old { orders = slice_set self.old.orders place next.now } }
+        requires place { Replaces self.old.value.orders place next.now }
+        requires capped { firm_sum (slice_set self.old.value.orders place next.now) ≤ most_exposure }
+        ensures orders { self.new.value
+            ≡ record self.old.value { orders = slice_set self.old.value.orders place next.now } }
+        ensures room { self.new.room ≡ self.old.room }
     {
         let old = self.order(place).exposure();
         let new = next.exposure();
@@ -218,11 +225,11 @@ impl Book {
 
     /// Adds this order after the others, with its id.
     pub(crate) fn add(&mut self, next: &Order)
-        requires new { place_of next.now.current self.old.ids ≡ None }
-        requires placed { IsPlaced self.old.accounts self.old.symbols next.now }
-        requires capped { firm_sum (self.old.orders ++ next.now ∷ []) ≤ most_exposure }
+        requires new { place_of next.now.current self.old.value.ids ≡ None }
+        requires placed { IsPlaced self.old.value.accounts self.old.value.symbols next.now }
+        requires capped { firm_sum (self.old.value.orders ++ next.now ∷ []) ≤ most_exposure }
         requires room { 1 ≤ self.old.room }
-        ensures same { IsSameBook (added next.now self.old) self.new }
+        ensures book { self.new.value ≡ added next.now self.old.value }
         ensures room { self.old.room ≤ self.new.room + 1 }
     {
         let new = next.exposure();
@@ -239,10 +246,10 @@ impl Book {
 
     /// Adds this id as one of the order at this place.
     pub(crate) fn name(&mut self, id: &Id, place: usize)
-        requires new { place_of id.now self.old.ids ≡ None }
-        requires within { place < length self.old.orders }
+        requires new { place_of id.now self.old.value.ids ≡ None }
+        requires within { place < length self.old.value.orders }
         requires room { 1 ≤ self.old.room }
-        ensures same { IsSameBook (named id.now place self.old) self.new }
+        ensures book { self.new.value ≡ named id.now place self.old.value }
         ensures room { self.old.room ≤ self.new.room + 1 }
     {
         let _known = self.ids.insert(IdKey::new(id), place);

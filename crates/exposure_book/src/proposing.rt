@@ -1,9 +1,9 @@
 //! What a book answers to an order or a request that is proposed.
-ghost use Rattle.std.specs.Prelude.{◌≡◌, ◌<◌, ◌^◌, length, IfOk, slice_get, Some};
+ghost use Rattle.std.specs.Prelude.{◌≡◌, ◌<◌, ◌^◌, length, IfOk, slice_get, Some, true};
 ghost use Rattle.exposure_book.specs.Totals.{IsPlaced, Replaces};
 ghost use Rattle.exposure_book.specs.Proposals.{new_order, requested, is_of_order, with_replace};
 ghost use Rattle.exposure_book.specs.Proposals.{proposal_of_new, proposal_of_cancel};
-ghost use Rattle.exposure_book.specs.Proposals.{proposal_of_replace};
+ghost use Rattle.exposure_book.specs.Proposals.{proposal_of_replace, is_within_cap};
 
 use crate::answer::{BookFault, Proposal};
 use crate::book::Book;
@@ -36,8 +36,8 @@ fn is_of_order(request: &Replace, limits: &Limits, order: &Order) -> bool
     requires { IsPlaced (length limits.now.accounts) (length limits.now.symbols) order.now }
     ensures { result ≡ is_of_order request.now limits.now order.now }
 {
-    let account = &limits.accounts.rows()[order.account as usize].name;
-    let symbol = &limits.symbols.rows()[order.symbol as usize].name;
+    let account = &limits.accounts()[order.account as usize].name;
+    let symbol = &limits.symbols()[order.symbol as usize].name;
     let own_account = match &request.account {
         Some(name) => name.owned() == *account,
         None => true,
@@ -50,7 +50,7 @@ pub(crate) fn with_replace(request: &Replace, limits: &Limits, order: &Order) ->
     requires { IsPlaced (length limits.now.accounts) (length limits.now.symbols) order.now }
     ensures { result ≡ with_replace request.now limits.now order.now }
 {
-    let high = limits.symbols.rows()[order.symbol as usize].high;
+    let high = limits.symbols()[order.symbol as usize].high;
     Order {
         pending: Pending::Replace {
             id: request.id.owned(),
@@ -72,9 +72,10 @@ impl Book {
         symbol: u32,
         high: u64,
     ) -> Result<Proposal, BookFault>
-        requires account { account < self.now.accounts }
-        requires symbol { symbol < self.now.symbols }
-        ensures { result ≡ proposal_of_new self.now order.now account symbol high }
+        requires account { account < self.now.value.accounts }
+        requires symbol { symbol < self.now.value.symbols }
+        ensures value { result ≡ proposal_of_new self.now.value order.now account symbol high }
+        ensures within { IfOk result (λ values. is_within_cap values ≡ true) }
     {
         if self.place(&order.id.owned()).is_some() {
             return Err(BookFault::Duplicate);
@@ -85,7 +86,7 @@ impl Book {
     /// Whether this cancel may be sent: Duplicate, Unknown, Closed, Pending, and Unknown again
     /// where its OrigClOrdID (41) isn't the current id of its order, in this order.
     pub fn propose_cancel(&self, request: &Cancel) -> Result<(), BookFault>
-        ensures { result ≡ proposal_of_cancel self.now request.now }
+        ensures { result ≡ proposal_of_cancel self.now.value request.now }
     {
         match self.requested(&request.id.owned(), &request.orig.owned()) {
             Ok(_) => Ok(()),
@@ -96,9 +97,10 @@ impl Book {
     /// The values with this replace pending, in whole currency units. The faults are those of a
     /// cancel, and then Mismatch, Quantity and Cap, in this order.
     pub fn propose_replace(&self, request: &Replace, limits: &Limits) -> Result<Proposal, BookFault>
-        requires accounts { length limits.now.accounts ≡ self.now.accounts }
-        requires symbols { length limits.now.symbols ≡ self.now.symbols }
-        ensures { result ≡ proposal_of_replace self.now request.now limits.now }
+        requires accounts { length limits.now.accounts ≡ self.now.value.accounts }
+        requires symbols { length limits.now.symbols ≡ self.now.value.symbols }
+        ensures value { result ≡ proposal_of_replace self.now.value request.now limits.now }
+        ensures within { IfOk result (λ values. is_within_cap values ≡ true) }
     {
         let place = match self.requested(&request.id.owned(), &request.orig.owned()) {
             Ok(place) => place,
@@ -116,8 +118,8 @@ impl Book {
 
     /// The place of the order that a request with these ids may change, or what stands against it.
     fn requested(&self, id: &Id, orig: &Id) -> Result<usize, BookFault>
-        ensures value { result ≡ requested self.now id.now orig.now }
-        ensures within { IfOk result (λ place. place < length self.now.orders) }
+        ensures value { result ≡ requested self.now.value id.now orig.now }
+        ensures within { IfOk result (λ place. place < length self.now.value.orders) }
     {
         if self.place(id).is_some() {
             return Err(BookFault::Duplicate);

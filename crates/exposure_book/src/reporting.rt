@@ -15,36 +15,16 @@ impl Book {
     /// Applies an ExecutionReport (8) to the order that has its ClOrdID (11). Stray where it has
     /// none or no order has it, Over where it trades beyond the reserve; neither changes anything.
     pub fn apply(&mut self, report: &Report) -> Applied
-        ensures answer { result ≡ (outcome_of_report self.old report.now).answer }
-        ensures orders { self.new
-            ≡ record self.old { orders = (outcome_of_report self.old report.now).orders } }
-        ensures placed { IsPlacedAnswer self.old.accounts self.old.symbols result }
-        ensures stray { (result ≡ Applied.Stray) ↔ (reported_order self.old report.now.id ≡ None) }
+        ensures answer { result ≡ (outcome_of_report self.old.value report.now).answer }
+        ensures orders { self.new.value ≡ record self.old.value {
+          orders = (outcome_of_report self.old.value report.now).orders;
+        } }
+        ensures room { self.new.room ≡ self.old.room }
+        ensures placed { IsPlacedAnswer self.old.value.accounts self.old.value.symbols result }
+        ensures stray { (result ≡ Applied.Stray)
+            ↔ (reported_order self.old.value report.now.id ≡ None) }
         ensures over { (result ≡ Applied.Over)
-            ↔ IsSomeAnd (reported_order self.old report.now.id) (IsBeyond report.now.exec) }
-    {
-        self.take_report(report)
-    }
-
-    /// Applies an OrderCancelReject (9) to the order that has its ClOrdID (11). Stray where no
-    /// order has it, which changes nothing. Never Over.
-    pub fn apply_reject(&mut self, reject: &CancelReject) -> Applied
-        ensures answer { result ≡ (outcome_of_reject self.old reject.now).answer }
-        ensures orders { self.new
-            ≡ record self.old { orders = (outcome_of_reject self.old reject.now).orders } }
-        ensures placed { IsPlacedAnswer self.old.accounts self.old.symbols result }
-        ensures stray { (result ≡ Applied.Stray) ↔ (order_with self.old reject.now.id ≡ None) }
-        ensures never_over { result ≢ Applied.Over }
-    {
-        self.take_reject(reject)
-    }
-
-    /// What a report is answered, and the book after it.
-    fn take_report(&mut self, report: &Report) -> Applied
-        ensures answer { result ≡ (outcome_of_report self.old report.now).answer }
-        ensures orders { self.new
-            ≡ record self.old { orders = (outcome_of_report self.old report.now).orders } }
-        ensures placed { IsPlacedAnswer self.old.accounts self.old.symbols result }
+            ↔ IsSomeAnd (reported_order self.old.value report.now.id) (IsBeyond report.now.exec) }
     {
         let Some(id) = &report.id else {
             return Applied::Stray;
@@ -60,12 +40,18 @@ impl Book {
         }
     }
 
-    /// What a cancel reject is answered, and the book after it.
-    fn take_reject(&mut self, reject: &CancelReject) -> Applied
-        ensures answer { result ≡ (outcome_of_reject self.old reject.now).answer }
-        ensures orders { self.new
-            ≡ record self.old { orders = (outcome_of_reject self.old reject.now).orders } }
-        ensures placed { IsPlacedAnswer self.old.accounts self.old.symbols result }
+    /// Applies an OrderCancelReject (9) to the order that has its ClOrdID (11). Stray where no
+    /// order has it, which changes nothing. Never Over.
+    pub fn apply_reject(&mut self, reject: &CancelReject) -> Applied
+        ensures answer { result ≡ (outcome_of_reject self.old.value reject.now).answer }
+        ensures orders { self.new.value ≡ record self.old.value {
+          orders = (outcome_of_reject self.old.value reject.now).orders;
+        } }
+        ensures room { self.new.room ≡ self.old.room }
+        ensures placed { IsPlacedAnswer self.old.value.accounts self.old.value.symbols result }
+        ensures stray { (result ≡ Applied.Stray)
+            ↔ (order_with self.old.value reject.now.id ≡ None) }
+        ensures never_over { result ≢ Applied.Over }
     {
         let id = reject.id.owned();
         let Some(place) = self.place(&id) else {
@@ -77,13 +63,14 @@ impl Book {
 
     /// Puts an order that counts for no more in the place of this one.
     fn settle(&mut self, place: usize, order: &Order, next: &Order) -> Applied
-        requires order { IsOrderAt self.old place order.now }
+        requires order { IsOrderAt self.old.value place order.now }
         requires lowers { Lowers order.now next.now }
         ensures answer { result
-            ≡ Applied.Applied (terms_of (slice_set self.old.orders place next.now) next.now) }
-        ensures orders { self.new
-            ≡ record self.old { orders = slice_set self.old.orders place next.now } }
-        ensures placed { IsPlacedAnswer self.old.accounts self.old.symbols result }
+            ≡ Applied.Applied (terms_of (slice_set self.old.value.orders place next.now) next.now) }
+        ensures orders { self.new.value
+            ≡ record self.old.value { orders = slice_set self.old.value.orders place next.now } }
+        ensures room { self.new.room ≡ self.old.room }
+        ensures placed { IsPlacedAnswer self.old.value.accounts self.old.value.symbols result }
     {
         self.put(place, next);
         Applied::Applied(self.terms(next))

@@ -80,10 +80,10 @@ fn take_new(
     account: u32,
     symbol: u32,
 ) -> Result<Want, Fail>
-    requires accounts { book.old.accounts ≡ 2 }
-    requires symbols { book.old.symbols ≡ 2 }
-    ensures accounts { book.new.accounts ≡ 2 }
-    ensures symbols { book.new.symbols ≡ 2 }
+    requires accounts { book.old.value.accounts ≡ 2 }
+    requires symbols { book.old.value.symbols ≡ 2 }
+    ensures accounts { book.new.value.accounts ≡ 2 }
+    ensures symbols { book.new.value.symbols ≡ 2 }
 {
     assert!(rt; account < 2 && symbol < 2, "in range");
     book.reserve_one()?;
@@ -100,10 +100,10 @@ fn take_new(
 
 /// Proposes this cancel and commits it where it is taken.
 fn take_cancel(book: &mut Book, plain: &mut PlainBook, request: &Cancel) -> Result<Want, Fail>
-    requires accounts { book.old.accounts ≡ 2 }
-    requires symbols { book.old.symbols ≡ 2 }
-    ensures accounts { book.new.accounts ≡ 2 }
-    ensures symbols { book.new.symbols ≡ 2 }
+    requires accounts { book.old.value.accounts ≡ 2 }
+    requires symbols { book.old.value.symbols ≡ 2 }
+    ensures accounts { book.new.value.accounts ≡ 2 }
+    ensures symbols { book.new.value.symbols ≡ 2 }
 {
     book.reserve_one()?;
     match book.propose_cancel(request) {
@@ -126,12 +126,12 @@ fn take_replace(
     request: &Replace,
     limits: &Limits,
 ) -> Result<Want, Fail>
-    requires accounts { book.old.accounts ≡ 2 }
-    requires symbols { book.old.symbols ≡ 2 }
+    requires accounts { book.old.value.accounts ≡ 2 }
+    requires symbols { book.old.value.symbols ≡ 2 }
     requires account_rows { length limits.now.accounts ≡ 2 }
     requires symbol_rows { length limits.now.symbols ≡ 2 }
-    ensures accounts { book.new.accounts ≡ 2 }
-    ensures symbols { book.new.symbols ≡ 2 }
+    ensures accounts { book.new.value.accounts ≡ 2 }
+    ensures symbols { book.new.value.symbols ≡ 2 }
 {
     book.reserve_one()?;
     match book.propose_replace(request, limits) {
@@ -191,10 +191,10 @@ fn take_report(
     text: &[u8],
     exec: Exec,
 ) -> Result<Want, Fail>
-    requires accounts { book.old.accounts ≡ 2 }
-    requires symbols { book.old.symbols ≡ 2 }
-    ensures accounts { book.new.accounts ≡ 2 }
-    ensures symbols { book.new.symbols ≡ 2 }
+    requires accounts { book.old.value.accounts ≡ 2 }
+    requires symbols { book.old.value.symbols ≡ 2 }
+    ensures accounts { book.new.value.accounts ≡ 2 }
+    ensures symbols { book.new.value.symbols ≡ 2 }
 {
     let report = Report {
         head: head()?,
@@ -210,10 +210,10 @@ fn take_report(
 
 /// Applies a cancel reject, and has the plain book do the same.
 fn take_reject(book: &mut Book, plain: &mut PlainBook, text: &[u8]) -> Result<Want, Fail>
-    requires accounts { book.old.accounts ≡ 2 }
-    requires symbols { book.old.symbols ≡ 2 }
-    ensures accounts { book.new.accounts ≡ 2 }
-    ensures symbols { book.new.symbols ≡ 2 }
+    requires accounts { book.old.value.accounts ≡ 2 }
+    requires symbols { book.old.value.symbols ≡ 2 }
+    ensures accounts { book.new.value.accounts ≡ 2 }
+    ensures symbols { book.new.value.symbols ≡ 2 }
 {
     let reject = CancelReject {
         head: head()?,
@@ -231,12 +231,12 @@ fn take(
     limits: &Limits,
     step: Step,
 ) -> Result<Want, Fail>
-    requires accounts { book.old.accounts ≡ 2 }
-    requires symbols { book.old.symbols ≡ 2 }
+    requires accounts { book.old.value.accounts ≡ 2 }
+    requires symbols { book.old.value.symbols ≡ 2 }
     requires account_rows { length limits.now.accounts ≡ 2 }
     requires symbol_rows { length limits.now.symbols ≡ 2 }
-    ensures accounts { book.new.accounts ≡ 2 }
-    ensures symbols { book.new.symbols ≡ 2 }
+    ensures accounts { book.new.value.accounts ≡ 2 }
+    ensures symbols { book.new.value.symbols ≡ 2 }
 {
     match step {
         Step::Buy(own, quantity, price) => {
@@ -340,7 +340,7 @@ fn values_follow_each_message(rt: HostRuntime) -> Result<(), Fail> {
         return Err("limits")?;
     };
     assert!(&rt;
-        limits.accounts.rows().len() == 2 && limits.symbols.rows().len() == 2,
+        limits.accounts().len() == 2 && limits.symbols().len() == 2,
         "two of each"
     );
     for (name, steps) in SEQUENCES {

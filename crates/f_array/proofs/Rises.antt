@@ -1,5 +1,5 @@
 -- An ascent from level to level.
-use Rattle.std.proofs.Common.{◌≡◌, ◌≢◌, ℕ, suc, ◌/◌, ◌<◌, ◌≤◌, Bool, true, false, List, [], ◌∷◌, ◌++◌, Option, Some, None, refl, sym, ap, ◌∙◌, subst, ⊎_elim, arith}
+use Rattle.std.proofs.Common.{◌≡◌, ℕ, suc, ◌/◌, ◌<◌, ◌≤◌, Bool, true, false, List, [], ◌∷◌, ◌++◌, Some, None, refl, sym, ap, ◌∙◌, subst, ⊎_elim, arith}
 use Rattle.std.specs.Prelude.{IfSome, ◌==◌}
 use Rattle.std.proofs.lemmas.List.{append-nil, append_assoc, length-append}
 use Rattle.node_rule.specs.declared.view.View.{View}
@@ -9,11 +9,11 @@ use Rattle.node_rule.specs.declared.view.Install.{Install}
 use Rattle.node_rule.specs.declared.view.Ascent.{Ascent}
 use Rattle.node_rule.specs.declared.view.Plan.{Plan}
 use Rattle.node_rule.specs.Views.{ascent_of, pick, moved, risen, installed}
-use Rattle.node_rule.specs.Own.{node_in, IsBelowRoot}
-use Rattle.node_rule.specs.Standing.{Standing, KeepsSeat, IsFresh}
+use Rattle.node_rule.specs.Own.{IsBelowRoot}
+use Rattle.node_rule.specs.Standing.{Standing, KeepsSeat}
 use Rattle.double_refresh.specs.Refreshing.{Rises}
 use Rattle.f_array.specs.Passes.{with_installs}
-use Rattle.f_array.specs.Rising.{IsFreshAt, IsBegun, IsUp, HasRisen}
+use Rattle.f_array.specs.Rising.{IsFreshAt, IsBegun, IsUp}
 
 -- no level yet
 pub up_at_first : (c : Standing) → IsBegun c → IsUp c 0 c
@@ -30,50 +30,6 @@ up_at_first c h = record {
       (sym (append-nil h.0.trail));
   fresh = h.3;
 }
-
--- at a node other than the root there is an ascent, with nothing loaded for its parent
-pub up_is_fresh : (old mid : Standing) (height : ℕ) → IsUp old height mid
-    → node_in (ascent_of mid.view) ≢ 1 → IsFresh mid
-up_is_fresh old mid height up inner = of_ascent up.ascent up.now up.fresh
-  where
-    of_ascent : (ascent : Option Ascent)
-        → mid.view ≡ Session old.plan.levels (with_installs up.more up.track) ascent
-        → IsFreshAt height ascent → IsFresh mid
-    of_ascent None now fresh = absurd (inner (ap (λ (v : View). node_in (ascent_of v)) now))
-    of_ascent (Some x) now fresh = (
-      x,
-      (
-        with_installs up.more up.track,
-        now ∙ (λ i. Session (sym up.kept.1 i).levels (with_installs up.more up.track)
-            (Some (fresh.0 i))),
-      ),
-    )
-
--- at the root the ascent has risen
-pub up_has_risen : (old mid : Standing) (height : ℕ) → IsUp old height mid
-    → IfSome (ascent_of mid.view) (IsBelowRoot mid.plan) → node_in (ascent_of mid.view) ≡ 1
-    → HasRisen old mid
-up_has_risen old mid height up below root = of_ascent up.ascent up.now
-  where
-    of_ascent : (ascent : Option Ascent)
-        → mid.view ≡ Session old.plan.levels (with_installs up.more up.track) ascent
-        → HasRisen old mid
-    of_ascent None now = (
-      up.kept,
-      (
-        up.track,
-        up.before,
-        up.more,
-        up.was,
-        (let few = up.few in let reached = up.reached in omega arith),
-        now,
-      ),
-    )
-    of_ascent (Some x) now =
-        let low : 2 ≤ x.node =
-        (subst (λ (v : View). IfSome (ascent_of v) (IsBelowRoot mid.plan)) now below).0 in
-        let one : x.node ≡ 1 = sym (ap (λ (v : View). node_in (ascent_of v)) now) ∙ root in
-        absurd (omega arith)
 
 risen_is_fresh : (x : Ascent) (stamp height : ℕ) → suc x.height ≡ height
     → IsFreshAt height (risen x stamp)

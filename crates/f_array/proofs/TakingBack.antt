@@ -5,11 +5,10 @@ use Rattle.std.proofs.lemmas.List.{append_assoc, map-append}
 use mathlib.Core.Option.{some}
 use lib.ListN.{get_elem?}
 use Rattle.risk_board.specs.declared.hand.Call.{Call}
-use Rattle.node_rule.specs.declared.view.View.TheVariants.{Keeper, Session}
+use Rattle.node_rule.specs.declared.view.View.TheVariants.{Session}
 use Rattle.node_rule.specs.declared.view.Track.{Track}
 use Rattle.node_rule.specs.declared.view.Install.{Install}
-use Rattle.node_rule.specs.Steps.{keeper_after_join}
-use Rattle.node_rule.specs.Standing.{Forested, Standing, KeepsTable, IsIdle, AreListsOf}
+use Rattle.node_rule.specs.Standing.{Forested, Standing, Keeping, TakesBack, AreListsOf}
 use Rattle.f_array.specs.Passes.{PassValue, track_of, pass_of, IsPassOf}
 use Rattle.f_array.specs.Records.{Did, did_of, AreAllOf, HasTakenBack}
 
@@ -21,18 +20,19 @@ track_is_of_pass climb pass track is idle =
 
 -- the keeper has one session more back
 pub has_one_more_back : (given : ℕ) (taken : List PassValue) (pass : PassValue)
-    (climb keeper after : Standing) → pass_of climb ≡ pass → IsIdle climb
-    → HasTakenBack given taken keeper → KeepsTable keeper after
-    → after.view ≡ keeper_after_join keeper.view climb.view
+    (climb : Standing) (keeper after : Keeping) → pass_of climb ≡ pass
+    → HasTakenBack given taken keeper → TakesBack keeper climb after
     → HasTakenBack given (taken ++ pass ∷ []) after
-has_one_more_back given taken pass climb keeper after is idle back kept joined =
-    let track_is : idle.0 ≡ pass.track = track_is_of_pass climb pass idle.0 is idle.1 in
-    let tracks : map (λ (p : PassValue). p.track) taken ++ idle.0 ∷ []
+has_one_more_back given taken pass climb keeper after is back takes =
+    let track_is : takes.0 ≡ pass.track = track_is_of_pass climb pass takes.0 is takes.1 in
+    let tracks : map (λ (p : PassValue). p.track) taken ++ takes.0 ∷ []
     ≡ map (λ (p : PassValue). p.track) (taken ++ pass ∷ []) =
     ap (λ (t : Track). map (λ (p : PassValue). p.track) taken ++ t ∷ []) track_is
-    ∙ sym (map-append (λ (p : PassValue). p.track) taken (pass ∷ [])) in
-    joined ∙ ((λ i. keeper_after_join (back i) (idle.1 i))
-    ∙ (λ i. Keeper (sym kept.1 i).levels given (tracks i)))
+    ∙ sym (map-append (λ (p : PassValue). p.track) taken (pass ∷ [])) in (
+      ap (λ (k : Keeping). k.given) takes.2 ∙ back.0,
+      ap (λ (k : Keeping). k.joined) takes.2
+          ∙ (ap (λ (l : List Track). l ++ takes.0 ∷ []) back.1 ∙ tracks),
+    )
 
 -- the lists that a join gives are what the pass did
 pub did_is_of_pass : (climb : Standing) (pass : PassValue) (calls : List Call)

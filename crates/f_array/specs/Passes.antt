@@ -10,7 +10,7 @@ use Rattle.node_rule.specs.declared.view.Track.{Track}
 use Rattle.node_rule.specs.declared.view.Install.{Install}
 use Rattle.node_rule.specs.declared.view.Plan.{Plan}
 use Rattle.node_rule.specs.Views.{called, new_track}
-use Rattle.node_rule.specs.Standing.{Forested, Standing}
+use Rattle.node_rule.specs.Standing.{Forested, Standing, Keeping}
 
 -- the table of the pass's forest and its plan, what the session did, for how many calls there is
 -- room, and how many steps it made on the table's words
@@ -38,12 +38,12 @@ pass_of c = record {
 }
 
 -- the keeper has given so many numbers, and no session is back
-abbrev pub IsDealtUpTo : ℕ → Standing → Type 0
-IsDealtUpTo given c = c.view ≡ Keeper c.plan.levels given []
+abbrev pub IsDealtUpTo : ℕ → Keeping → Type 0
+IsDealtUpTo given keeper = (keeper.given ≡ given) × (keeper.joined ≡ [])
 
 -- the keeper has given all numbers
-abbrev pub IsAllGiven : Standing → Type 0
-IsAllGiven c = IsDealtUpTo c.plan.sessions c
+abbrev pub IsAllGiven : Keeping → Type 0
+IsAllGiven keeper = IsDealtUpTo keeper.plan.sessions keeper
 
 -- the pass is of this forest
 abbrev pub IsPassOf : Forested → PassValue → Type 0

@@ -8,7 +8,7 @@ use Rattle.node_rule.specs.declared.view.View.{View}
 use Rattle.node_rule.specs.declared.view.View.TheVariants.{Keeper}
 use Rattle.node_rule.specs.declared.view.Install.{Install}
 use Rattle.node_rule.specs.declared.view.Plan.{Plan}
-use Rattle.node_rule.specs.Standing.{Forested, Standing}
+use Rattle.node_rule.specs.Standing.{Forested, Keeping}
 use Rattle.f_array.specs.Passes.{PassValue, IsPassOf}
 
 -- the calls of a pass, and the installs that it won
@@ -31,9 +31,9 @@ abbrev pub IsShapeOf : Plan → Shape → Type 0
 IsShapeOf plan shape = (shape.levels ≡ plan.levels) × (shape.trees ≡ plan.trees)
 
 -- the keeper, which gave so many numbers, has back the sessions of these passes
-abbrev pub HasTakenBack : ℕ → List PassValue → Standing → Type 0
+abbrev pub HasTakenBack : ℕ → List PassValue → Keeping → Type 0
 HasTakenBack given passes keeper =
-    keeper.view ≡ Keeper keeper.plan.levels given (map (λ pass. pass.track) passes)
+    (keeper.given ≡ given) × (keeper.joined ≡ map (λ pass. pass.track) passes)
 
 -- the keeper's view once it has all sessions of these passes back
 abbrev pub final_view : Plan → List PassValue → View

@@ -1,6 +1,6 @@
 //! The forest is closed once every pass is back.
 ghost use Rattle.std.specs.Prelude.{◌≡◌, [], ◌∷◌, ◌≤◌, length, map, IfOk, All};
-ghost use Rattle.node_rule.specs.Standing.{IsOf};
+ghost use Rattle.node_rule.specs.Standing.{IsKeeperOf};
 ghost use Rattle.node_rule.specs.ValuePart.{IsKept};
 ghost use Rattle.f_array.specs.Passes.{IsPassOf};
 ghost use Rattle.f_array.specs.Records.{AreAllOf, did_of, IsShapeOf, HasTakenBack, final_view};
@@ -9,7 +9,7 @@ use crate::forest::Forest;
 use crate::pass::{Keeper, Pass};
 use crate::record::{PassRecord, Record};
 use fold_law::{Fold, Memory};
-use node_rule::{Climb, Words};
+use node_rule::{KeeperSeat, Words};
 use std::alloc::Global;
 
 impl<F: Fold> Forest<F> {
@@ -26,8 +26,8 @@ impl<F: Fold> Forest<F> {
             IsKept self.plan F.UNIT F.CAP F.join taken.words.items (view ∷ [])) }
     {
         let Forest { words, alloc } = self;
-        let Keeper { climb } = keeper;
-        let mut keeper = climb;
+        let Keeper { seat } = keeper;
+        let mut keeper = seat;
         let shape = words.shape();
         let Ok(passes) = take_back(&words, alloc, &mut keeper, passes) else {
             return Err(Memory);
@@ -47,13 +47,13 @@ impl<F: Fold> Forest<F> {
 fn take_back<F: Fold>(
     words: &Words<F>,
     alloc: Global,
-    keeper: &mut Climb<F>,
+    keeper: &mut KeeperSeat<F>,
     passes: Vec<Pass<F>>,
 ) -> Result<Vec<PassRecord>, Memory>
-    requires table { IsOf words.now keeper.old }
+    requires table { IsKeeperOf words.now keeper.old }
     requires none { HasTakenBack keeper.old.plan.sessions [] keeper.old }
     requires passes { All (IsPassOf words.now) passes.items }
-    ensures table { IfOk result (λ _. IsOf words.now keeper.new) }
+    ensures table { IfOk result (λ _. IsKeeperOf words.now keeper.new) }
     ensures taken { IfOk result (λ _.
         HasTakenBack keeper.old.plan.sessions passes.items keeper.new) }
     ensures did { IfOk result (λ did. did.items ≡ map did_of passes.items) }

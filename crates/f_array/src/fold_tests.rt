@@ -108,8 +108,8 @@ fn post_round(forest: &Forest<Sum>, pass: Pass<Sum>, round: u32) -> Pass<Sum>
     hand.give_back()
 }
 
-// An ascent for each round.
-fn climb_often(forest: &Forest<Sum>, mut pass: Pass<Sum>, rounds: u32) -> Pass<Sum>
+// A post for each round.
+fn post_often(forest: &Forest<Sum>, mut pass: Pass<Sum>, rounds: u32) -> Pass<Sum>
     requires forest { IsPassOf forest.now pass }
     requires tree { 1 ≤ pass.plan.trees }
     ensures { IsSamePass pass result }
@@ -120,8 +120,8 @@ fn climb_often(forest: &Forest<Sum>, mut pass: Pass<Sum>, rounds: u32) -> Pass<S
     pass
 }
 
-// Two sessions climb, each on a thread of its own.
-fn climb_both<R: Threads + Sync>(
+// Two sessions post, each on a thread of its own.
+fn post_both<R: Threads + Sync>(
     rt: &R,
     forest: &Forest<Sum>,
     left: Pass<Sum>,
@@ -132,13 +132,13 @@ fn climb_both<R: Threads + Sync>(
     requires right { IsPassOf forest.now right × (1 ≤ right.plan.trees) }
     ensures { IsSamePass left result }
 {
-    let run_left = move || climb_often(forest, left, rounds);
-    let run_right = move || climb_often(forest, right, rounds);
+    let run_left = move || post_often(forest, left, rounds);
+    let run_right = move || post_often(forest, right, rounds);
     thread::join(rt, run_left, run_right).0
 }
 
-// Four sessions climb, each on a thread of its own.
-fn climb_four<R: Threads + Sync>(
+// Four sessions post, each on a thread of its own.
+fn post_four<R: Threads + Sync>(
     rt: &R,
     forest: &Forest<Sum>,
     left: (Pass<Sum>, Pass<Sum>),
@@ -154,11 +154,11 @@ fn climb_four<R: Threads + Sync>(
     let run_left = move ||
         requires { (IsPassOf forest.now left.0 × (1 ≤ left.0.plan.trees))
             × (IsPassOf forest.now left.1 × (1 ≤ left.1.plan.trees)) }
-    { climb_both(rt, forest, left.0, left.1, rounds) };
+    { post_both(rt, forest, left.0, left.1, rounds) };
     let run_right = move ||
         requires { (IsPassOf forest.now right.0 × (1 ≤ right.0.plan.trees))
             × (IsPassOf forest.now right.1 × (1 ≤ right.1.plan.trees)) }
-    { climb_both(rt, forest, right.0, right.1, rounds) };
+    { post_both(rt, forest, right.0, right.1, rounds) };
     thread::join(rt, run_left, run_right).0
 }
 
@@ -185,8 +185,8 @@ fn read_root(forest: &Forest<Sum>, pass: Pass<Sum>) -> Option<u64>
     Some(hand.read(0).value)
 }
 
-// Four sessions climb one tree at once, and then one of them reads its root.
-fn climb_at_once<R: Threads + Sync>(rt: &R, alloc: Global, rounds: u32) -> Option<u64> {
+// Four sessions post to one tree at once, and then one of them reads its root.
+fn post_at_once<R: Threads + Sync>(rt: &R, alloc: Global, rounds: u32) -> Option<u64> {
     let Ok((forest, _, mut passes)) = Forest::<Sum>::open(alloc, Shape::of(4, 1), 4, 2000) else {
         return None;
     };
@@ -194,19 +194,19 @@ fn climb_at_once<R: Threads + Sync>(rt: &R, alloc: Global, rounds: u32) -> Optio
     let second = next_pass(&forest, &mut passes)?;
     let third = next_pass(&forest, &mut passes)?;
     let fourth = next_pass(&forest, &mut passes)?;
-    let pass = climb_four(rt, &forest, (first, second), (third, fourth), rounds);
+    let pass = post_four(rt, &forest, (first, second), (third, fourth), rounds);
     read_root(&forest, pass)
 }
 
 #[test]
 fn a_root_is_the_sum_of_the_last_posts(rt: HostRuntime) -> Result<(), Fail> {
-    let once = climb_at_once(&rt, rt.alloc(), 1);
-    assert_eq!(rt; once, Some(6), "one climb each: 0 to 3");
-    let often = climb_at_once(&rt, rt.alloc(), 2000);
+    let once = post_at_once(&rt, rt.alloc(), 1);
+    assert_eq!(rt; once, Some(6), "one post each: 0 to 3");
+    let often = post_at_once(&rt, rt.alloc(), 2000);
     assert_eq!(rt;
         often,
         Some(31_990),
-        "2000 climbs each, the last of 7996 to 7999"
+        "2000 posts each, the last of 7996 to 7999"
     );
     Ok(())
 }

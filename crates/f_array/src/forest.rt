@@ -3,14 +3,14 @@ ghost use Rattle.std.specs.Prelude.{◌≡◌, ℕ, suc, ◌+◌, ◌*◌, ◌-�
 ghost use Rattle.fold_law.specs.declared.limits.TheConstants.{SESSIONS, QUOTA};
 ghost use Rattle.stamp_word.specs.Places.{IsLeast};
 ghost use Rattle.node_rule.specs.Sums.{posts_in};
-ghost use Rattle.node_rule.specs.Standing.{plan_of, IsOf, IsIdle};
+ghost use Rattle.node_rule.specs.Standing.{plan_of, IsKeeperOf};
 ghost use Rattle.f_array.specs.Passes.{IsPassOf, new_passes, HasPostAdded, HasReadAdded, IsLatestIn};
 ghost use Rattle.f_array.specs.Passes.{IsDealtUpTo};
 
 use crate::pass::{Keeper, Pass};
 use crate::rise_up::rise_up;
 use fold_law::{Fold, Memory};
-use node_rule::{Climb, Words};
+use node_rule::{KeeperSeat, Words};
 use risk_board::Seen;
 use stamp_word::{Shape, Steps};
 use std::alloc::Global;
@@ -55,7 +55,7 @@ impl<F: Fold> Forest<F> {
         let Ok(passes) = deal(&words, alloc, &mut keeper, sessions) else {
             return Err(Memory);
         };
-        Ok((Forest { words, alloc }, Keeper { climb: keeper }, passes))
+        Ok((Forest { words, alloc }, Keeper { seat: keeper }, passes))
     }
 
     /// Sets the session's component of the tree: a store of its leaf, and an ascent to the root. It
@@ -98,13 +98,13 @@ impl<F: Fold> Forest<F> {
 fn deal<F: Fold>(
     words: &Words<F>,
     alloc: Global,
-    keeper: &mut Climb<F>,
+    keeper: &mut KeeperSeat<F>,
     sessions: u32,
 ) -> Result<Vec<Pass<F>>, Memory>
-    requires table { IsOf words.now keeper.old }
+    requires table { IsKeeperOf words.now keeper.old }
     requires all { sessions ≤ words.now.plan.sessions }
     requires none_given { IsDealtUpTo 0 keeper.old }
-    ensures table { IfOk result (λ _. IsOf words.now keeper.new) }
+    ensures table { IfOk result (λ _. IsKeeperOf words.now keeper.new) }
     ensures given { IfOk result (λ _. IsDealtUpTo sessions keeper.new) }
     ensures passes { IfOk result (λ passes. passes.items ≡ new_passes words.now sessions) }
 {

@@ -4,7 +4,7 @@ ghost use Rattle.node_rule.specs.Sums.{posts_in};
 ghost use Rattle.f_array.specs.Passes.{KeepsPass};
 
 use fold_law::{Fold, Memory};
-use node_rule::Climb;
+use node_rule::{Climb, KeeperSeat};
 use std::marker::Model;
 
 /// A session's pass. Contracts see its forest's table and plan, what the session did, for how many
@@ -28,7 +28,7 @@ impl<F: Fold> Model for Pass<F> {
 /// The keeper of a forest all of whose passes were given. Contracts see its forest's table and plan.
 #[derive(Drop)]
 pub struct Keeper<F: Fold> {
-    pub(crate) climb: Climb<F>,
+    pub(crate) seat: KeeperSeat<F>,
 }
 
 impl<F: Fold> Model for Keeper<F> {
@@ -37,9 +37,9 @@ impl<F: Fold> Model for Keeper<F> {
 
     ghost Value = { Forested };
 
-    ghost view = { λ k. record { table = k.climb.table; plan = k.climb.plan } };
+    ghost view = { λ k. record { table = k.seat.table; plan = k.seat.plan } };
 
-    ghost invariant = { λ k. IsAllGiven k.climb };
+    ghost invariant = { λ k. IsAllGiven k.seat };
 }
 
 impl<F: Fold> Pass<F> {

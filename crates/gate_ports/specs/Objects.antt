@@ -40,6 +40,24 @@ after_fetch {E} s (Err fault) room = record s {
   faults = one_more s.faults;
 }
 
+-- a source of which no call fails: the bytes left, the most of one call, whether the end was seen
+pub record SureState : Type 0 where
+  pub left : List ℕ
+  pub most : ℕ
+  pub is_ended : Bool
+
+-- such a source of which nothing was read
+abbrev pub new_sure_source : List ℕ → ℕ → SureState
+new_sure_source bytes most = record { left = bytes; most = most; is_ended = false }
+
+-- such a source after a fetch into a buffer of so many bytes
+abbrev pub after_sure_fetch : {E : Type 0} → SureState → Result ℕ E → ℕ → SureState
+after_sure_fetch {E} s (Ok count) room = record s {
+  left = drop count s.left;
+  is_ended = is_ended_after {E = E} s.is_ended (Ok count) room;
+}
+after_sure_fetch s (Err fault) room = s
+
 -- a sink: the bytes held, the most of one call, the numbers of the calls that fail, from 0, how
 -- many calls were made, how many failed, the name if it has one
 pub record SinkState : Type 0 where

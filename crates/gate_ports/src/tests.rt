@@ -3,13 +3,16 @@ ghost use Rattle.std.specs.Prelude.{◌≡◌};
 
 use crate::{
     Failed, Folder, MemFolder, MemSink, MemSource, PortFault, RealFolder, RealOut, Sink, Source,
-    give_all,
+    SureSource, give_all,
 };
 use std::alloc::Global;
 use std::test::*;
 
+/// What a call that fails is refused for.
+const FAILED: Option<PortFault> = Some(PortFault::Failed);
+
 /// Reads in small pieces up to the end, or up to a hundred pieces.
-fn read_in_pieces<S: Source>(alloc: Global, source: &mut S) -> Result<Vec<u8>, Fail>
+fn read_in_pieces<S: Source + Send>(alloc: Global, source: &mut S) -> Result<Vec<u8>, Fail>
     ensures name { S.name source.new ≡ S.name source.old }
 {
     let mut bytes = Vec::new(alloc);
@@ -46,6 +49,67 @@ fn a_folder_in_memory_gives_back_its_texts(rt: HostRuntime) -> Result<(), Fail> 
 }
 
 #[test]
+fn calls_on_a_folder_fail_by_name_and_number(rt: HostRuntime) -> Result<(), Fail> {
+    // The answers of the calls with the numbers 0 to 3.
+    const NAMES: [(&str, [Option<PortFault>; 4], [Option<PortFault>; 4]); 3] = [
+        (
+            "one",
+            [None, FAILED, None, None],
+            [FAILED, None, FAILED, None],
+        ),
+        ("two", [None; 4], [None, FAILED, None, None]),
+        ("three", [None; 4], [None; 4]),
+    ];
+    let alloc = rt.alloc();
+    let mut folder = MemFolder::new(alloc, 2);
+    folder.put("one", Vec::from_slice(alloc, b"abc")?)?;
+    folder.fail(crate::Fail::Open, "one", 1)?;
+    folder.fail(crate::Fail::Create, "one", 2)?;
+    folder.fail(crate::Fail::Create, "one", 0)?;
+    folder.fail(crate::Fail::Create, "two", 1)?;
+    folder.put("two", Vec::from_slice(alloc, b"d")?)?;
+    folder.put("three", Vec::from_slice(alloc, b"")?)?;
+    for (name, opened, made) in NAMES {
+        for want in opened {
+            assert_eq!(rt; folder.open(name).err(), want, "opens {name}");
+        }
+        for want in made {
+            assert_eq!(rt; folder.create(name).err(), want, "makes {name}");
+        }
+    }
+    Ok(())
+}
+
+#[test]
+fn calls_on_what_a_folder_hands_out_fail(rt: HostRuntime) -> Result<(), Fail> {
+    let alloc = rt.alloc();
+    let mut folder = MemFolder::new(alloc, 2);
+    folder.put("one", Vec::from_slice(alloc, b"abcde")?)?;
+    let mut before = folder.open("one")?;
+    folder.fail(crate::Fail::Fetch, "one", 1)?;
+    folder.fail(crate::Fail::Give, "one", 0)?;
+    assert_eq!(rt;
+        read_in_pieces(alloc, &mut before)?.as_slice(),
+        b"abcde".as_slice()
+    );
+    for name in ["the first source", "another"] {
+        let mut input = folder.open("one")?;
+        let mut piece = *b"...";
+        assert_eq!(rt; input.fetch(&mut piece), Ok(2), "{name}");
+        assert_eq!(rt; input.fetch(&mut piece), Err(Failed), "{name}");
+        assert_eq!(rt; piece.as_slice(), b"ab.".as_slice(), "{name}");
+        assert_eq!(rt; input.fetch(&mut piece), Ok(2), "{name}");
+    }
+    for name in ["the first sink", "another"] {
+        let mut output = folder.create("one")?;
+        assert_eq!(rt; output.give(b"xyz"), Err(PortFault::Failed), "{name}");
+        assert_eq!(rt; output.give(b"xyz"), Ok(2), "{name}");
+        assert_eq!(rt; output.bytes(), b"xy".as_slice(), "{name}");
+    }
+    Ok(())
+}
+
+#[test]
 fn listed_calls_of_a_source_fail(rt: HostRuntime) -> Result<(), Fail> {
     const CALLS: [(&str, Result<usize, Failed>, &[u8]); 5] = [
         ("the first piece", Ok(2), b"ab."),
@@ -62,6 +126,18 @@ fn listed_calls_of_a_source_fail(rt: HostRuntime) -> Result<(), Fail> {
         assert_eq!(rt; source.fetch(&mut piece), want, "{name}");
         assert_eq!(rt; piece.as_slice(), held, "{name}");
     }
+    Ok(())
+}
+
+#[test]
+fn a_sure_source_gives_all_its_bytes(rt: HostRuntime) -> Result<(), Fail> {
+    let alloc = rt.alloc();
+    let mut source = SureSource::new(Vec::from_slice(alloc, b"abcde")?, 2);
+    assert_eq!(rt;
+        read_in_pieces(alloc, &mut source)?.as_slice(),
+        b"abcde".as_slice()
+    );
+    assert_eq!(rt; source.fetch(&mut [0; 3]), Ok(0));
     Ok(())
 }
 

@@ -21,3 +21,4 @@ pub mod Ran
 pub mod Ways
 pub mod Sessions
 pub mod WholeInputs
+pub mod JournalPieces

@@ -20,7 +20,8 @@ use Rattle.gate_program.specs.Totals.{session_total, session_totals, tree_total,
 use Rattle.gate_program.specs.Totals.{or_zero, name_of, tree_names}
 use Rattle.gate_program.proofs.Lists.{take_one, map_at, there_still, behind}
 
-session_pushed : (ends : List End) (acts : List (List Act)) (end : End) (own : List Act)
+-- the totals of one session more
+pub session_pushed : (ends : List End) (acts : List (List Act)) (end : End) (own : List Act)
     → length ends ≡ length acts
     → session_totals (ends ++ end ∷ []) (acts ++ own ∷ [])
     ≡ session_totals ends acts ++ session_total end own ∷ []
@@ -30,29 +31,6 @@ session_pushed (first ∷ ends) [] end own same = absurd (omega arith)
 session_pushed (e ∷ ends) (a ∷ acts) end own same =
     ap (λ (l : List SessionTotal). session_total e a ∷ l)
     (session_pushed ends acts end own (omega arith))
-
--- the total of one session more
-pub one_session : (ends : List End) (acts : List (Vec Act Global)) (place : ℕ) (end : End)
-    (own : Vec Act Global) (all pushed : List SessionTotal) (total : SessionTotal)
-    (items : List Act)
-    → slice_get ends place ≡ Some end → slice_get acts place ≡ Some own
-    → all ≡ session_totals (take place ends) (map (λ a. a.items) (take place acts))
-    → pushed ≡ all ++ total ∷ [] → total ≡ session_total end items → items ≡ own.items
-    → length (take place ends) ≡ length (take place acts)
-    → pushed ≡ session_totals (take (place + 1) ends) (map (λ a. a.items) (take (place + 1) acts))
-one_session ends acts place end own all pushed total items at also so_far is total_is items_are same
-    =
-    is ∙ ap (λ (l : List SessionTotal). l ++ total ∷ []) so_far
-    ∙ ap (λ (t : SessionTotal). session_totals (take place ends)
-    (map (λ a. a.items) (take place acts)) ++ t ∷ [])
-    (total_is ∙ ap (session_total end) items_are)
-    ∙ sym (session_pushed (take place ends) (map (λ a. a.items) (take place acts)) end own.items
-    (same ∙ sym (length-map (take place acts) (λ a. a.items))))
-    ∙ sym (ap (λ (l : List End). session_totals l (map (λ a. a.items) (take (place + 1) acts)))
-    (take_one ends place end at)
-    ∙ ap (λ (l : List (List Act)). session_totals (take place ends ++ end ∷ []) l)
-    (ap (λ (l : List (Vec Act Global)). map (λ a. a.items) l) (take_one acts place own also)
-    ∙ map-append (λ (a : Vec Act Global). a.items) (take place acts) (own ∷ [])))
 
 tree_pushed : (limits : Limits) (sessions tree : ℕ) (lines : List (List Line)) (own : List Line)
     → tree_totals_from limits sessions tree (lines ++ own ∷ [])

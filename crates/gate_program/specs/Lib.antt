@@ -13,3 +13,4 @@ pub mod Objects
 pub mod Finish
 pub mod Room
 pub mod WholeInputs
+pub mod Pieces

@@ -11,6 +11,7 @@ use Rattle.risk_board.specs.History.{array_after, components_of}
 use Rattle.risk_journal.specs.declared.acts.Act.{Act}
 use Rattle.risk_journal.specs.declared.acts.Act.TheVariants as act
 use Rattle.risk_journal.specs.declared.acts.End.{End}
+use Rattle.risk_journal.specs.declared.acts.End.TheVariants as ending
 use Rattle.risk_journal.specs.declared.totals.SessionTotal.{SessionTotal}
 use Rattle.risk_journal.specs.declared.totals.TreeKind.{TreeKind}
 use Rattle.risk_journal.specs.declared.totals.TreeKind.TheVariants as kind
@@ -44,6 +45,17 @@ abbrev pub session_totals : List End → List (List Act) → List SessionTotal
 session_totals [] acts = []
 session_totals (end ∷ ends) [] = []
 session_totals (end ∷ ends) (own ∷ acts) = session_total end own ∷ session_totals ends acts
+
+-- there is a session with this number, and its acts can be counted
+pub record IsCountable (ends : List End) (acts : List (List Act)) (session : ℕ) : Type 0 where
+  pub ended : session < length ends
+  pub acted : session < length acts
+  pub few : length (slice_index_or acts session []) < 2 ^ 32
+
+-- the total of the session with this number
+abbrev pub total_at : List End → List (List Act) → ℕ → SessionTotal
+total_at ends acts session =
+    session_total (slice_index_or ends session ending.Whole) (slice_index_or acts session [])
 
 -- what a tree sums up: the firm's is the first, the accounts' and the symbols' follow
 abbrev pub kind_of : Limits → ℕ → TreeKind

@@ -105,7 +105,7 @@ fn finish_run<R: Threads + Sync, D: Folder>(
                 ends,
                 opened,
             };
-            finish(alloc, run, limits, names, finished, folder)
+            finish(rt, alloc, run, limits, names, finished, folder)
         }
         Err(Memory) => {
             close_sessions(run, &names.sessions, opened, folder);

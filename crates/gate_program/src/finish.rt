@@ -1,12 +1,15 @@
 //! The journal of a run, and what comes of the run behind it.
 ghost use Rattle.std.specs.Prelude.{◌≡◌, ◌^◌, ◌<◌, ◌≤◌, ◌⊎◌, length, map, All, string_bytes};
 ghost use Rattle.std.specs.Prelude.{OnOk, IsErrOf};
+ghost use Rattle.std.specs.Io.KnownBytes.{Appends};
 ghost use Rattle.limit_table.specs.Files.{IsHeldByFile};
 ghost use Rattle.gate_program.specs.CommandOf.{run_value};
 ghost use Rattle.gate_program.specs.Finish.{HasAnswer, HasStood, HasFinished};
 ghost use Rattle.gate_program.specs.Totals.{HaveTotals};
 ghost use Rattle.gate_program.specs.Names.{AreNames};
+ghost use Rattle.gate_ports.specs.Faults.{HasCause};
 ghost use Rattle.gate_program.specs.Objects.{objects_of, EachOwn};
+ghost use Rattle.gate_program.specs.Pieces.{joined};
 ghost use Rattle.gate_program.specs.Run.{Holds, WriteRose};
 ghost use Rattle.gate_program.specs.Stages.{folder_of, Went, ChangesOnly};
 ghost use Rattle.gate_program.specs.Statuses.{answer_number, answer_text};
@@ -15,20 +18,35 @@ ghost use Rattle.gate_program.specs.Words.{journal_name, session_most};
 use crate::close::close_sessions;
 use crate::names::Names;
 use crate::open::Opened;
+use crate::pieces::journal_pieces;
 use crate::status::{Answer, Status, standing};
 use crate::totals::totals_text;
 use crate::words::Run;
 use fold_law::Memory;
-use gate_ports::{Folder, PortFault, give_all};
+use gate_ports::{Folder, PortFault, Sink, give_all};
 use limit_table::Limits;
-use risk_journal::{End, Journal, write_journal};
+use risk_journal::{End, Journal};
 use std::alloc::Global;
+use std::thread::Threads;
 
-/// Creates a name, gives it these bytes and closes it.
-fn write_file<D: Folder>(name: &str, bytes: &[u8], folder: &mut D) -> Result<(), PortFault>
+/// Gives pieces, one after another.
+fn give_pieces<S: Sink>(sink: &mut S, pieces: &[Vec<u8>]) -> Result<(), PortFault>
+    ensures ok { OnOk result (Appends (S.held sink.old) (S.held sink.new) (joined pieces.now)) }
+    ensures cause { HasCause (S.faults sink.old) (S.faults sink.new)
+        (IsErrOf result PortFault.Failed) }
+    ensures name { S.name sink.new ≡ S.name sink.old }
+{
+    for piece in pieces {
+        give_all(sink, piece)?;
+    }
+    Ok(())
+}
+
+/// Creates a name, gives it these pieces and closes it.
+fn write_file<D: Folder>(name: &str, pieces: &[Vec<u8>], folder: &mut D) -> Result<(), PortFault>
     ensures went { Went (folder_of D.texts D.read_faults D.write_faults folder.old)
         (folder_of D.texts D.read_faults D.write_faults folder.new) }
-    ensures ok { OnOk result (Holds (D.texts folder.new) name.now bytes.now) }
+    ensures ok { OnOk result (Holds (D.texts folder.new) name.now (joined pieces.now)) }
     ensures others { ChangesOnly (D.texts folder.old) (D.texts folder.new) name.now }
     ensures cause { IsErrOf result PortFault.Failed
         → WriteRose (folder_of D.texts D.read_faults D.write_faults folder.old)
@@ -38,14 +56,15 @@ fn write_file<D: Folder>(name: &str, bytes: &[u8], folder: &mut D) -> Result<(),
         Ok(output) => output,
         Err(fault) => return Err(fault),
     };
-    let given = give_all(&mut output, bytes);
+    let given = give_pieces(&mut output, pieces);
     folder.close(name, output);
     given
 }
 
 /// What comes of a run whose sessions have ended. `refused` says whether its journal could not be
 /// written.
-fn answer_after(
+fn answer_after<R: Threads + Sync>(
+    rt: &R,
     alloc: Global,
     limits: &Limits,
     journal: &Journal,
@@ -66,7 +85,7 @@ fn answer_after(
     let status = standing(ends, refused);
     match status {
         Status::Memory => Answer::Stopped(status),
-        _ => match totals_text(alloc, limits, journal, ends, status) {
+        _ => match totals_text(rt, alloc, limits, journal, ends, status) {
             Ok(text) => Answer::Ended(status, text),
             Err(Memory) => Answer::Stopped(Status::Memory),
         },
@@ -74,7 +93,8 @@ fn answer_after(
 }
 
 /// Writes the journal of sessions that have ended.
-fn keep_journal<D: Folder>(
+fn keep_journal<R: Threads + Sync, D: Folder>(
+    rt: &R,
     alloc: Global,
     limits: &Limits,
     name: &str,
@@ -85,6 +105,7 @@ fn keep_journal<D: Folder>(
     requires held { IsHeldByFile limits.now }
     requires few { length journal.now.acts.items ≤ session_most }
     requires ends { length ends.now ≡ length journal.now.acts.items }
+    requires few_trees { length journal.now.lines.items < 2 ^ 32 }
     requires acts { All (λ own. length own.items < 2 ^ 32) journal.now.acts.items }
     requires lines { HaveTotals (length journal.now.acts.items)
         (map (λ own. own.items) journal.now.lines.items) }
@@ -97,13 +118,13 @@ fn keep_journal<D: Folder>(
         (map (λ own. own.items) journal.now.lines.items)
         (answer_text result) (answer_number result) }
 {
-    let text = match write_journal(alloc, journal) {
-        Ok(text) => text,
+    let pieces = match journal_pieces(rt, alloc, journal) {
+        Ok(pieces) => pieces,
         Err(Memory) => return Answer::Stopped(Status::Memory),
     };
-    match write_file(name, &text, folder) {
-        Ok(()) => answer_after(alloc, limits, journal, ends, false),
-        Err(PortFault::Failed) => answer_after(alloc, limits, journal, ends, true),
+    match write_file(name, &pieces, folder) {
+        Ok(()) => answer_after(rt, alloc, limits, journal, ends, false),
+        Err(PortFault::Failed) => answer_after(rt, alloc, limits, journal, ends, true),
         Err(PortFault::Memory) => Answer::Stopped(Status::Memory),
     }
 }
@@ -117,7 +138,8 @@ pub(crate) struct Finished<S, K> {
 }
 
 /// Closes sessions that have ended, and writes the journal.
-pub(crate) fn finish<D: Folder>(
+pub(crate) fn finish<R: Threads + Sync, D: Folder>(
+    rt: &R,
     alloc: Global,
     run: &Run,
     limits: &Limits,
@@ -130,6 +152,7 @@ pub(crate) fn finish<D: Folder>(
     requires names { AreNames run.now.out.now (length run.now.sessions.now)
         names.now.sessions.items }
     requires journal { string_bytes names.now.journal ≡ journal_name run.now.out.now }
+    requires few_trees { length finished.journal.lines.items < 2 ^ 32 }
     requires acts { All (λ own. length own.items < 2 ^ 32) finished.journal.acts.items }
     requires lines { HaveTotals (length finished.journal.acts.items)
         (map (λ own. own.items) finished.journal.lines.items) }
@@ -155,6 +178,7 @@ pub(crate) fn finish<D: Folder>(
     } = finished;
     close_sessions(run, &names.sessions, opened, folder);
     keep_journal(
+        rt,
         alloc,
         limits,
         names.journal.as_str(),

@@ -15,6 +15,7 @@ mod names;
 mod open;
 #[cfg(test)]
 mod order_rows;
+mod pieces;
 mod replay;
 #[cfg(test)]
 mod request_rows;

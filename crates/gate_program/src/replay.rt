@@ -8,6 +8,7 @@ ghost use Rattle.gate_program.specs.Totals.{HaveTotals};
 
 use crate::forests::{Forests, Passes, Records, close_forests};
 use fold_law::{Max, Memory, Sum};
+use fork_all::map_all;
 use risk_journal::{Act, Journal, set_places};
 use std::alloc::Global;
 use std::thread::Threads;
@@ -26,8 +27,9 @@ fn placed(acts: Vec<Act>, places: &[Vec<u32>]) -> Vec<Act>
     acts
 }
 
-/// The acts of all sessions with the places of their reads.
-fn all_placed(
+/// The acts of all sessions with the places of their reads, which are set side by side.
+fn all_placed<R: Threads + Sync>(
+    rt: &R,
     alloc: Global,
     acts: Vec<Vec<Act>>,
     places: &[Vec<u32>],
@@ -36,13 +38,14 @@ fn all_placed(
         ≡ map (map (placed_by (place_in (map (λ own. own.items) places.now))))
         (map (λ own. own.items) acts.items)) }
 {
-    let mut all = Vec::new(alloc);
-    for own in acts {
-        let Ok(()) = all.push(placed(own, places)) else {
-            return Err(Memory);
-        };
+    let place = |own: Vec<Act>| -> Vec<Act>
+        ensures { result.items
+            ≡ map (placed_by (place_in (map (λ own. own.items) places.entry.now))) own.items }
+    { placed(own, places) };
+    match map_all(rt, alloc, acts, &place) {
+        Ok(all) => Ok(all),
+        Err(_) => Err(Memory),
     }
-    Ok(all)
 }
 
 /// Replays each tree of both forests, side by side, and sets the place of each read to that of its
@@ -73,7 +76,7 @@ fn journal_of<R: Threads + Sync>(
     };
     add_histories::<R, Sum>(rt, alloc, &records.sums, &mut all)?;
     add_histories::<R, Max>(rt, alloc, &records.halts, &mut all)?;
-    let acts = all_placed(alloc, acts, &all.places)?;
+    let acts = all_placed(rt, alloc, acts, &all.places)?;
     Ok(Journal {
         acts,
         lines: all.lines,

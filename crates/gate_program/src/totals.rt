@@ -7,18 +7,21 @@ ghost use Rattle.session_engine.specs.Trees.{halt_tree, fold_of, limit_of};
 ghost use Rattle.gate_program.specs.Totals.{HasTotal, HaveTotals};
 ghost use Rattle.gate_program.specs.Statuses.{number_of};
 ghost use Rattle.gate_program.specs.Totals.{is_sent, is_refused, is_noted, session_total};
-ghost use Rattle.gate_program.specs.Totals.{session_totals, kind_of, name_of, or_zero, tree_total};
+ghost use Rattle.gate_program.specs.Totals.{session_totals, total_at, IsCountable, kind_of, name_of, or_zero, tree_total};
 ghost use Rattle.gate_program.specs.Totals.{tree_totals_from, totals_of};
 ghost use Rattle.gate_program.specs.Words.{session_most};
 
 use crate::status::Status;
 use fold_law::{Max, Memory, Sum, whole};
+use fork_all::map_all;
 use limit_table::Limits;
 use risk_board::{Line, components};
 use risk_journal::{
     Act, End, Id64, Journal, SessionTotal, Totals, TreeKind, TreeTotal, write_totals,
 };
 use std::alloc::Global;
+use std::thread::Threads;
+use trail_replay::numbers;
 
 /// How many orders were sent.
 fn count_sent(acts: &[Act]) -> u32
@@ -63,25 +66,28 @@ fn session_total(end: End, acts: &[Act]) -> SessionTotal
     }
 }
 
-/// The totals of sessions with these ends and acts.
-fn session_totals(
+/// The totals of sessions with these ends and acts, side by side.
+fn session_totals<R: Threads + Sync>(
+    rt: &R,
     alloc: Global,
     ends: &[End],
     acts: &[Vec<Act>],
 ) -> Result<Vec<SessionTotal>, Memory>
     requires ends { length ends.now ≡ length acts.now }
+    requires few { length acts.now < 2 ^ 32 }
     requires acts { All (λ own. length own.items < 2 ^ 32) acts.now }
     ensures { IfOk result (λ all.
         all.items ≡ session_totals ends.now (map (λ own. own.items) acts.now)) }
 {
-    let mut all = Vec::new(alloc);
-    for session in 0..ends.len() {
-        let total = session_total(ends[session], acts[session].as_slice());
-        let Ok(()) = all.push(total) else {
-            return Err(Memory);
-        };
+    let sessions = numbers(alloc, acts.len() as u32)?;
+    let total = |session: u32| -> SessionTotal
+        requires { IsCountable ends.now (map (λ own. own.items) acts.now) session }
+        ensures { result ≡ total_at ends.entry.now (map (λ own. own.items) acts.entry.now) session }
+    { session_total(ends[session as usize], &acts[session as usize]) };
+    match map_all(rt, alloc, sessions, &total) {
+        Ok(all) => Ok(all),
+        Err(_) => Err(Memory),
     }
-    Ok(all)
 }
 
 /// What the limit file says of a tree.
@@ -198,7 +204,8 @@ fn tree_totals(
 }
 
 /// The text of the totals of a run with this journal, these ends and this status.
-pub(crate) fn totals_text(
+pub(crate) fn totals_text<R: Threads + Sync>(
+    rt: &R,
     alloc: Global,
     limits: &Limits,
     journal: &Journal,
@@ -215,7 +222,7 @@ pub(crate) fn totals_text(
         (map (λ own. own.items) journal.now.acts.items) ends.now
         (map (λ own. own.items) journal.now.lines.items) (number_of status)) }
 {
-    let sessions = session_totals(alloc, ends, &journal.acts)?;
+    let sessions = session_totals(rt, alloc, ends, &journal.acts)?;
     let trees = tree_totals(alloc, limits, journal.acts.len(), &journal.lines)?;
     let totals = Totals {
         sessions,

@@ -40,12 +40,6 @@ module _ (plan : Plan) (unit cap : ℕ) (join : ℕ → ℕ → ℕ) (le : ℕ �
   abbrev pub holds : State (Unit {0}) View → Type 0
   holds s = IsKept plan unit cap join s.words s.views
 
-  -- what a load owes, where the caller's view is known
-  abbrev LoadOwes : View → ℕ → (View → View) → (ℕ → Type 0) → Type 0
-  LoadOwes v place next told = (words : List ℕ) (views : List View)
-      → IsKept plan unit cap join words views → get_elem? views id ≡ some v
-      → IsKept plan unit cap join words (set views id (next v)) × told (slice_index words place)
-
   pub loads : (v : View) (place : ℕ) (next : ℕ → View → View) (told : ℕ → Type 0) → me.0 ≡ v
       → ((words : List ℕ) (views : List View) → IsKept plan unit cap join words views
       → get_elem? views id ≡ some v → IsKept plan unit cap join words

@@ -1,5 +1,5 @@
 -- An ascent on its way stands below the root.
-use Rattle.std.proofs.Common.{◌≡◌, ℕ, Bool, true, false, List, Option, Some, None, sym, ap, ◌∙◌, subst}
+use Rattle.std.proofs.Common.{ℕ, List, Option, Some, None, sym, ap, subst}
 use Rattle.std.specs.Prelude.{IfSome}
 use Rattle.risk_board.specs.declared.hand.Call.{Call}
 use Rattle.node_rule.specs.declared.view.View.{View}
@@ -8,23 +8,16 @@ use Rattle.node_rule.specs.declared.view.Ascent.{Ascent}
 use Rattle.node_rule.specs.declared.view.Plan.{Plan}
 use Rattle.node_rule.specs.Views.{ascent_of}
 use Rattle.node_rule.specs.Own.{IsBelowRoot}
-use Rattle.node_rule.specs.Standing.{IsOnWay, IsRole, IsSound}
+use Rattle.node_rule.specs.Standing.{IsOnWay, IsSound}
 use Rattle.node_rule.proofs.Held.{on_way_stands}
 
 module _ (under : ℕ → ℕ → Type 0) (plan : Plan) (number : ℕ) (calls : List Call)
     (trail : List Install) (ascent : Option Ascent) (view : View) where
-  -- the ascent of the fields is that of the view
-  pub ascent_is_of_view : (keeps : Bool) → IsRole keeps plan number calls trail ascent view
-      → ascent_of view ≡ ascent
-  ascent_is_of_view true role = ap ascent_of role.2 ∙ sym role.0
-  ascent_is_of_view false role = ap ascent_of role
-
-  pub ascent_below_root : (keeps : Bool)
-      → IsSound under keeps plan number calls trail ascent view
+  pub ascent_below_root : IsSound under plan number calls trail ascent view
       → IfSome (ascent_of view) (IsBelowRoot plan)
-  ascent_below_root keeps sound =
+  ascent_below_root sound =
       subst (λ (o : Option Ascent). IfSome o (IsBelowRoot plan))
-      (sym (ascent_is_of_view keeps sound.role)) (below ascent sound.on_way)
+      (sym (ap ascent_of sound.own)) (below ascent sound.on_way)
     where
       below : (o : Option Ascent) → IfSome o (IsOnWay under plan number)
           → IfSome o (IsBelowRoot plan)

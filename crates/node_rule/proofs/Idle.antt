@@ -1,5 +1,5 @@
 -- Between two posts: what a session is by its fields, what a read owes, and what it leaves.
-use Rattle.std.proofs.Common.{◌≡◌, ℕ, ◌+◌, ◌-◌, ◌*◌, ◌^◌, ◌<◌, ◌≤◌, Bool, true, false, List, [], ◌∷◌, ◌++◌, length, Option, None, refl, sym, ap, ◌∙◌, subst, arith}
+use Rattle.std.proofs.Common.{◌≡◌, ℕ, ◌+◌, ◌-◌, ◌*◌, ◌^◌, ◌<◌, ◌≤◌, Bool, List, [], ◌∷◌, ◌++◌, length, Option, None, sym, ap, ◌∙◌, subst, arith}
 use mathlib.Core.Option.{some, none}
 use Rattle.std.specs.Prelude.{IfSome}
 use Rattle.std.proofs.Common.{lit<}
@@ -21,43 +21,36 @@ use Rattle.node_rule.specs.Sums.{posted}
 use Rattle.node_rule.specs.ValuePart.{IsKept}
 use Rattle.node_rule.specs.Steps.{Mine, IsLatest, tree_of, after_read, Reads}
 use lib.ListN.{get_elem?}
-use Rattle.node_rule.specs.Standing.{IsOnWay, IsRole, IsSound, HasRoom, AreCounted}
+use Rattle.node_rule.specs.Standing.{IsOnWay, IsSound, HasRoom, AreCounted}
 use Rattle.node_rule.proofs.CallLists.{posted-read}
 use Rattle.node_rule.proofs.AllowedCalls.{tree_of-place, allows_read}
 
 -- the view of a session between two posts, by its fields
-pub record IsIdleSeat (keeps : Bool) (plan : Plan) (number : ℕ) (calls : List Call)
+pub record IsIdleSeat (plan : Plan) (number : ℕ) (calls : List Call)
     (trail : List Install) (ascent : Option Ascent) (levels : ℕ) (track : Track) : Type 0 where
-  pub session : keeps ≡ false
   pub no_ascent : ascent ≡ None
   pub level : levels ≡ plan.levels
   pub track_is : track ≡ record { number = number; calls = calls; trail = trail }
 
-module _ {under : ℕ → ℕ → Type 0} {keeps : Bool} {plan : Plan} {number : ℕ} {calls : List Call}
+module _ {under : ℕ → ℕ → Type 0} {plan : Plan} {number : ℕ} {calls : List Call}
     {trail : List Install} {ascent : Option Ascent} {view : View}
-    (sound : IsSound under keeps plan number calls trail ascent view)
+    (sound : IsSound under plan number calls trail ascent view)
     (levels : ℕ) (track : Track) (seen : view ≡ Session levels track None) where
-  pub idle_seat : IsIdleSeat keeps plan number calls trail ascent levels track
-  idle_seat = of_role keeps sound.role
-    where
-      of_role : (k : Bool) → IsRole k plan number calls trail ascent view
-          → IsIdleSeat k plan number calls trail ascent levels track
-      of_role true role = let is = role.2 in absurd (cc)
-      of_role false role = record { session = refl; no_ascent = cc; level = cc; track_is = cc }
+  pub idle_seat : IsIdleSeat plan number calls trail ascent levels track
+  idle_seat = let own = sound.own in record { no_ascent = cc; level = cc; track_is = cc }
 
   -- what the fields are to the view after one more call
   pub called_sound : (call : Call) (more : List Call) → more ≡ calls ++ call ∷ []
       → (next : Option Ascent) → IfSome next (IsOnWay under plan number) → (after : View)
       → after ≡ Session levels (called track call) next
-      → IsSound under keeps plan number more trail next after
+      → IsSound under plan number more trail next after
   called_sound call more more_is next way after after_is = record {
     planned = sound.planned;
     number_in = sound.number_in;
-    role = let seat = idle_seat in
-        subst (λ (k : Bool). IsRole k plan number more trail next after) (sym seat.session)
-        (after_is ∙ ((λ i. Session (seat.level i) (called (seat.track_is i) call) next)
+    own = let seat = idle_seat in
+        after_is ∙ ((λ i. Session (seat.level i) (called (seat.track_is i) call) next)
         ∙ ap (λ (l : List Call). Session plan.levels
-        (record { number = number; calls = l; trail = trail }) next) (sym more_is)));
+        (record { number = number; calls = l; trail = trail }) next) (sym more_is));
     on_way = way;
   }
 
@@ -72,11 +65,10 @@ read_view plan levels track tree place found e root_in place_is =
     ap (λ (t : ℕ). Session levels (called track (Read t (stamp_in found) (value_in found))) None)
     same
 
-pub read_counted : (keeps : Bool) (plan : Plan) (calls made : List Call) (counts : List ℕ)
+pub read_counted : (plan : Plan) (calls made : List Call) (counts : List ℕ)
     (tree stamp value : ℕ) → made ≡ calls ++ Read tree stamp value ∷ []
-    → AreCounted keeps plan calls counts → AreCounted keeps plan made counts
-read_counted true plan calls made counts tree stamp value e h = tt
-read_counted false plan calls made counts tree stamp value e h = (
+    → AreCounted plan calls counts → AreCounted plan made counts
+read_counted plan calls made counts tree stamp value e h = (
   h.0,
   λ t t_in. h.1 t t_in ∙ ap length
       (sym (ap (posted t) e ∙ posted-read t calls tree stamp value)),

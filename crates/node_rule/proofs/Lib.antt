@@ -32,5 +32,4 @@ pub mod ClimbSteps
 pub mod Closing
 pub mod Idle
 pub mod Posting
-pub mod OneInstall
 pub mod BelowRoot

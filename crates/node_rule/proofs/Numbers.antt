@@ -12,7 +12,7 @@ use Rattle.node_rule.specs.declared.view.Plan.{Plan}
 use Rattle.node_rule.specs.Views.{tracks_of}
 use Rattle.node_rule.specs.Sums.{Each, total, over, when, stands_in}
 use Rattle.node_rule.specs.StampPart.{AreNumbered}
-use Rattle.node_rule.proofs.SumLemmas.{total-parts, total-part}
+use Rattle.node_rule.proofs.SumLemmas.{total-parts}
 use Rattle.node_rule.specs.Views.{given_of}
 
 pub stands-own : (track : Track) → stands_in track.number track ≡ 1
@@ -46,15 +46,3 @@ others_apart plan views h seat levels track ascent at j u apart there =
     (Session levels track ascent) u apart at there in
     let one = stands-own track in let most = at_most_once plan views h track.number in
     none_stand track.number (tracks_of u) (omega arith)
-
--- a number that is not given stands nowhere
-pub given_below : (plan : Plan) (views : List View) → AreNumbered plan views
-    → (seat levels : ℕ) (track : Track) (ascent : Option Ascent)
-    → get_elem? views seat ≡ some (Session levels track ascent) → track.number < total given_of views
-given_below plan views h seat levels track ascent at = ⊎_elim
-    (λ (given : track.number < total given_of views). given)
-    (λ (not_yet : total given_of views ≤ track.number). let none =
-    h.no_other track.number not_yet in let part =
-    total-part (λ v. total (stands_in track.number) (tracks_of v)) views seat
-    (Session levels track ascent) at in let one = stands-own track in absurd (omega arith))
-    (cases_lt track.number (total given_of views))

@@ -7,7 +7,7 @@ use Rattle.std.proofs.Math.Nat.{two-pow-succ, pow-le-pow_right, mul-le-mul_right
 use Rattle.stamp_word.specs.Word.{stamp_in}
 use Rattle.stamp_word.specs.Places.{leaf_of}
 use Rattle.node_rule.specs.declared.view.View.{View}
-use Rattle.node_rule.specs.declared.view.View.TheVariants.{Keeper, Session}
+use Rattle.node_rule.specs.declared.view.View.TheVariants.{Session}
 use Rattle.node_rule.specs.declared.view.Stage.{Stage}
 use Rattle.node_rule.specs.declared.view.Stage.TheVariants.{Fresh, First, Lost, Second}
 use Rattle.risk_board.specs.declared.hand.Call.{Call}
@@ -22,8 +22,8 @@ use Rattle.std.proofs.Common.{⊎_elim}
 use Rattle.std.proofs.lemmas.Bool.{cases_lt, eqb-false}
 use Rattle.node_rule.specs.Fronts.{ancestor}
 use Rattle.node_rule.specs.StampPart.{IsPlan}
-use Rattle.node_rule.specs.Steps.{keeper_after_split, ascent_lost, install_of, win, after_win, after_loss}
-use Rattle.node_rule.specs.Standing.{IsOnWay, IsRole, IsSound, HasRoom, levels_left}
+use Rattle.node_rule.specs.Steps.{ascent_lost, install_of, win, after_win, after_loss}
+use Rattle.node_rule.specs.Standing.{IsOnWay, IsSound, HasRoom, levels_left}
 use Rattle.node_rule.proofs.Tree.{ancestor-root}
 use Rattle.node_rule.proofs.Children.{in_levels}
 
@@ -107,31 +107,15 @@ win_is levels track x (Second s z) y e = let same : z ≡ y = cc (e) in
     ap (λ (t : Try). Session levels (installed track (install_of x t))
     (risen x (suc (stamp_in t.parent)))) same
 
-module _ {under : ℕ → ℕ → Type 0} {keeps : Bool} {plan : Plan} {number : ℕ} {calls : List Call}
+module _ {under : ℕ → ℕ → Type 0} {plan : Plan} {number : ℕ} {calls : List Call}
     {trail : List Install} {ascent : Option Ascent} {view : View}
-    (sound : IsSound under keeps plan number calls trail ascent view)
-    (levels : ℕ) (track : Track) (x held : Ascent) (seen : view ≡ Session levels track (Some x))
-    (is : ascent ≡ Some held) where
-  won_role : (k : Bool) → IsRole k plan number calls trail ascent view → (tried : Try)
-      → try_of held.stage ≡ Some tried → IsRole k plan number calls
-      (trail ++ install_of held tried ∷ []) (risen held (suc (stamp_in tried.parent)))
-      (after_win view)
-  won_role true role tried e = let keeper = role.2 in absurd (cc)
-  won_role false role tried e = ap after_win (role
-      ∙ ap (Session plan.levels (record { number = number; calls = calls; trail = trail })) is)
-      ∙ win_is plan.levels (record {
-        number = number;
-        calls = calls;
-        trail =
-            trail;
-      }) held held.stage tried e
-
-  lost_role : (k : Bool) → IsRole k plan number calls trail ascent view → (found : ℕ)
-      → IsRole k plan number calls trail (ascent_lost held found held.stage) (after_loss found view)
-  lost_role true role found = let keeper = role.2 in absurd (cc)
-  lost_role false role found = ap (after_loss found)
-      (role ∙ ap (Session plan.levels (record { number = number; calls = calls; trail = trail }))
-      is)
+    (sound : IsSound under plan number calls trail ascent view)
+    (held : Ascent) (is : ascent ≡ Some held) where
+  -- the view, with the ascent that is held
+  held_view : view
+      ≡ Session plan.levels (record { number = number; calls = calls; trail = trail }) (Some held)
+  held_view = sound.own
+      ∙ ap (Session plan.levels (record { number = number; calls = calls; trail = trail })) is
 
   held_here : IsOnWay under plan number held
   held_here = some_has (IsOnWay under plan number) ascent held is sound.on_way
@@ -141,16 +125,16 @@ module _ {under : ℕ → ℕ → Type 0} {keeps : Bool} {plan : Plan} {number :
       → made ≡ trail ++ install_of held tried ∷ [] → (next : Option Ascent) (stamp : ℕ)
       → next ≡ risen held stamp → stamp ≡ suc (stamp_in tried.parent) → (after : View)
       → after ≡ after_win view
-      → IsSound under keeps plan number calls made next after
+      → IsSound under plan number calls made next after
   won_sound tried e made made_is next stamp next_is stamp_is after after_is =
       let ascent_is : next ≡ risen held (suc (stamp_in tried.parent)) = next_is
       ∙ ap (risen held) stamp_is in
       subst (λ (z : List Install × Option Ascent × View).
-      IsSound under keeps plan number calls z.0 z.1 z.2)
+      IsSound under plan number calls z.0 z.1 z.2)
       (λ i. (sym made_is i, sym ascent_is i, sym after_is i)) (record {
         planned = sound.planned;
         number_in = sound.number_in;
-        role = won_role keeps sound.role tried e;
+        own = ap after_win held_view ∙ win_is plan.levels _ held held.stage tried e;
         on_way = risen_on_way under plan number held
             (suc (stamp_in tried.parent)) sound.planned held_here;
       })
@@ -158,13 +142,13 @@ module _ {under : ℕ → ℕ → Type 0} {keeps : Bool} {plan : Plan} {number :
   -- and after a lost one
   pub lost_sound : (found : ℕ) (next : Option Ascent) → next ≡ ascent_lost held found held.stage
       → (after : View) → after ≡ after_loss found view
-      → IsSound under keeps plan number calls trail next after
+      → IsSound under plan number calls trail next after
   lost_sound found next next_is after after_is =
-      subst (λ (z : Option Ascent × View). IsSound under keeps plan number calls trail z.0 z.1)
+      subst (λ (z : Option Ascent × View). IsSound under plan number calls trail z.0 z.1)
       (λ i. (sym next_is i, sym after_is i)) (record {
         planned = sound.planned;
         number_in = sound.number_in;
-        role = lost_role keeps sound.role found;
+        own = ap (after_loss found) held_view;
         on_way = lost_on_way under plan number held found sound.planned held_here held.stage refl;
       })
 
@@ -201,37 +185,3 @@ some_words plan words planned e =
     let wide : 1 ≤ 2 * 2 ^ plan.levels = omega arith in
     let more : 1 * (2 * 2 ^ plan.levels) ≤ plan.trees * (2 * 2 ^ plan.levels) =
     mul-le-mul_right (2 * 2 ^ plan.levels) trees in omega arith
-
--- a keeper that gave one more number
-pub split_sound : (under : ℕ → ℕ → Type 0) (keeps : Bool) (plan : Plan) (number : ℕ)
-    (calls : List Call) (trail : List Install) (ascent : Option Ascent) (view : View)
-    → IsSound under keeps plan number calls trail ascent view
-    → (levels given : ℕ) (joined : List Track) → view ≡ Keeper levels given joined → (after : View)
-    → after ≡ keeper_after_split view
-    → IsSound under keeps plan (number + 1) calls trail ascent after
-split_sound under true plan number calls trail ascent view sound levels given joined e after
-    after_is = record {
-      planned = sound.planned;
-      number_in = λ f. absurd (cc (f));
-      role = (
-        sound.role.0,
-        sound.role.1,
-        after_is
-            ∙ (ap keeper_after_split sound.role.2 ∙ ap (λ (n : ℕ). Keeper plan.levels n sound.role.1)
-            (let more : suc number ≡ number + 1 = omega arith in more)),
-      );
-      on_way = subst (λ (o : Option Ascent). IfSome o (IsOnWay under plan (number + 1)))
-          (sym sound.role.0) tt;
-    }
-split_sound under false plan number calls trail ascent view sound levels given joined e after
-    after_is = let role = sound.role in absurd (cc)
-
--- the new session's seat, at first
-pub keeper_number : (under : ℕ → ℕ → Type 0) (keeps : Bool) (plan : Plan) (number : ℕ)
-    (calls : List Call) (trail : List Install) (ascent : Option Ascent) (view : View)
-    → IsSound under keeps plan number calls trail ascent view
-    → (levels given : ℕ) (joined : List Track) → view ≡ Keeper levels given joined → number ≡ given
-keeper_number under true plan number calls trail ascent view sound levels given joined e =
-    let role = sound.role.2 in cc
-keeper_number under false plan number calls trail ascent view sound levels given joined e =
-    let role = sound.role in absurd (cc)

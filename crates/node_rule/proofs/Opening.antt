@@ -81,9 +81,6 @@ module _ (plan : Plan) (unit cap : ℕ) (join : ℕ → ℕ → ℕ) (le : ℕ �
     };
   }
 
-  leaf_zero : (tree node : ℕ) → leaf_value plan.levels unit (keeper ∷ []) tree node 0 ≡ unit
-  leaf_zero tree node = refl
-
   pub opens : IsKept plan unit cap join words (keeper ∷ [])
   opens = record {
     stamps = opens_stamped;

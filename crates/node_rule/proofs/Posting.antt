@@ -97,19 +97,10 @@ pub record IsPosting (own plan : Plan) (levels number tree posts leaf place : �
   pub place_is : place ≡ place_of plan.levels tree (leaf_of plan.levels track.number)
   pub place_in : place < plan.trees * (2 * 2 ^ plan.levels)
 
--- how many posts a session between two posts has counted in the tree
-counted_posts : {keeps : Bool} (plan : Plan) (calls : List Call) (counts : List ℕ) (tree : ℕ)
-    → keeps ≡ false → AreCounted keeps plan calls counts → tree < plan.trees
-    → (tree < length counts) × (slice_index counts tree ≡ length (posted tree calls))
-counted_posts plan calls counts tree session counted tree_in =
-    let own = subst (λ (k : Bool). AreCounted k plan calls counts) session counted in
-    let wide = own.0 in
-    (omega arith, own.1 tree tree_in)
-
-pub posting : {under : ℕ → ℕ → Type 0} {keeps : Bool} {own now plan : Plan} {number : ℕ}
+pub posting : {under : ℕ → ℕ → Type 0} {own now plan : Plan} {number : ℕ}
     {calls : List Call} {trail : List Install} {ascent : Option Ascent} {view : View}
     {counts : List ℕ} {tree : ℕ} {track : Track}
-    → IsSound under keeps own number calls trail ascent view → AreCounted keeps own calls counts
+    → IsSound under own number calls trail ascent view → AreCounted own calls counts
     → own ≡ now → now ≡ plan → tree < now.trees → view ≡ Session now.levels track None
     → posts_in tree track < now.quota → (posts : ℕ) → posts ≡ get_or counts tree posts
     → (shape leaf place : ℕ) → shape ≡ plan.levels → leaf ≡ leaf_of shape number
@@ -126,12 +117,14 @@ posting {own = own} {now = now} {plan = plan} {number = number} {calls = calls} 
     let tree_in : tree < plan.trees = subst (λ (p : Plan). tree < p.trees) plan_is tree_now in
     let tree_own : tree < own.trees = subst (λ (p : Plan). tree < p.trees) (sym own_is) tree_now in
     let number_is : track.number ≡ number = ap (λ (t : Track). t.number) seat.track_is in
-    let number_in : number < own.sessions = sound.number_in seat.session in
+    let number_in : number < own.sessions = sound.number_in in
     let inside : track.number < 2 ^ plan.levels =
     subst (λ (z : ℕ × ℕ). z.0 < 2 ^ z.1) (λ i. (sym number_is i, sym own_levels i))
     (in_levels number_in sound.planned.sessions) in
-    let count = counted_posts own calls counts tree seat.session counted tree_own in
-    let posts_is : posts ≡ slice_index counts tree = read ∙ index_any counts tree posts count.0 in
+    let wide = counted.0 in
+    let count = counted.1 tree tree_own in
+    let posts_is : posts ≡ slice_index counts tree =
+    read ∙ index_any counts tree posts (let short : tree < length counts = omega arith in short) in
     let listed : length (posted tree calls) ≡ posts_in tree track =
     ap (λ (t : Track). posts_in tree t) (sym seat.track_is) in
     let at : place ≡ place_of plan.levels tree (leaf_of plan.levels track.number) = place_is
@@ -145,7 +138,7 @@ posting {own = own} {now = now} {plan = plan} {number = number} {calls = calls} 
       number_in = number_in;
       inside = inside;
       posts_is = posts_is;
-      one_more = let some = count.1 in omega arith;
+      one_more = omega arith;
       room = subst (λ (p : Plan). posts_in tree track < p.quota) plan_is room;
       leaf_is = leaf_is ∙ (λ i. leaf_of ((shape_is ∙ sym levels) i) (sym number_is i));
       leaf_own = leaf_is ∙ ap (λ (n : ℕ). leaf_of n number) (shape_is ∙ own_levels);
@@ -201,12 +194,11 @@ store_told plan levels track tree place word value stamp me after seen e inside 
     ∙ store_view plan levels track tree place word value stamp e inside place_is stamp_is
     value_is)
 
-pub store_counted : (keeps : Bool) (plan : Plan) (calls made : List Call) (counts next : List ℕ)
+pub store_counted : (plan : Plan) (calls made : List Call) (counts next : List ℕ)
     (tree value posts : ℕ) → tree < plan.trees → made ≡ calls ++ Post tree value ∷ []
     → posts ≡ slice_index counts tree → next ≡ slice_set counts tree (posts + 1)
-    → AreCounted keeps plan calls counts → AreCounted keeps plan made next
-store_counted true plan calls made counts next tree value posts tree_in e p n h = tt
-store_counted false plan calls made counts next tree value posts tree_in e p n h = (
+    → AreCounted plan calls counts → AreCounted plan made next
+store_counted plan calls made counts next tree value posts tree_in e p n h = (
   ap length n ∙ (length-set counts tree (posts + 1) ∙ h.0),
   λ t t_in. ap (λ (l : List ℕ). slice_index l t) n ∙ dite (ℕ_discrete t tree)
       (λ same. subst (λ (u : ℕ). slice_index (slice_set counts tree (posts + 1)) u ≡ length
@@ -239,10 +231,10 @@ store_room levels spare made made' call_room call_room' won install_room ascent 
     mul_suc : (a b : ℕ) → a * b + a ≡ a * suc b
     mul_suc a b = omega arith
 
-module _ {under : ℕ → ℕ → Type 0} {keeps : Bool} {own plan : Plan} {number : ℕ} {calls : List Call}
+module _ {under : ℕ → ℕ → Type 0} {own plan : Plan} {number : ℕ} {calls : List Call}
     {trail : List Install} {ascent : Option Ascent} {view : View} {counts : List ℕ}
     {levels tree posts leaf place : ℕ} {track : Track}
-    (sound : IsSound under keeps own number calls trail ascent view)
+    (sound : IsSound under own number calls trail ascent view)
     (post : IsPosting own plan levels number tree posts leaf place counts track)
     (seen : view ≡ Session levels track None) (next : Option Ascent)
     (next_is : next ≡ started plan.levels tree leaf (posts + 1)) where
@@ -253,7 +245,7 @@ module _ {under : ℕ → ℕ → Type 0} {keeps : Bool} {own plan : Plan} {numb
   pub posted_sound : (value : ℕ) (more : List Call) → more ≡ calls ++ Post tree value ∷ []
       → (after : View) → after ≡ Session levels (called track (Post tree value))
       (started levels tree (leaf_of levels track.number) (suc (posts_in tree track)))
-      → IsSound under keeps own number more trail next after
+      → IsSound under own number more trail next after
   posted_sound value more more_is after after_is =
       let begun : next ≡ started levels tree (leaf_of levels track.number)
       (suc (posts_in tree track)) = next_is

@@ -45,13 +45,6 @@ pub over-set : (f : Track → ℕ) (views : List View) (seat : ℕ) (v w : View)
     (tracks_of v) ≡ over f views + total f (tracks_of w)
 over-set f views seat v w e = total-set (λ (u : View). total f (tracks_of u)) views seat v w e
 
--- a view that keeps its tracks
-pub over-same : (f : Track → ℕ) (views : List View) (seat : ℕ) (v w : View)
-    → get_elem? views seat ≡ some v → tracks_of v ≡ tracks_of w
-    → over f (set views seat w) ≡ over f views
-over-same f views seat v w e same = total-same
-    (λ (u : View). total f (tracks_of u)) views seat v w e (ap (total f) same)
-
 pub over-append : (f : Track → ℕ) (views : List View) (w : View)
     → over f (views ++ w ∷ []) ≡ over f views + total f (tracks_of w)
 over-append f views w = let more = total-append (λ (u : View). total f (tracks_of u)) views

@@ -6,12 +6,6 @@ use Rattle.node_rule.specs.declared.view.Ascent.{Ascent}
 use Rattle.node_rule.specs.declared.view.Plan.{Plan}
 use Rattle.node_rule.specs.Sums.{posts_in}
 
--- the view of a session's seat
-abbrev pub IsSession : View → Type 0
-IsSession (Keeper levels given joined) = ⊥
-IsSession (Session levels track ascent) = Unit {0}
-IsSession Spent = ⊥
-
 -- a session's number
 abbrev pub number_in : View → ℕ
 number_in (Keeper levels given joined) = 0

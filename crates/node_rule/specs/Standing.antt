@@ -1,5 +1,5 @@
 -- What contracts see of the words and of a climb, and what each call leaves.
-use Rattle.std.specs.Prelude.{◌≡◌, ◌≢◌, ℕ, suc, ◌+◌, ◌-◌, ◌*◌, ◌^◌, ◌<◌, ◌≤◌, Bool, true, false, List, Option, Some, None, IfSome, length, slice_index}
+use Rattle.std.specs.Prelude.{◌≡◌, ◌≢◌, ℕ, suc, ◌+◌, ◌-◌, ◌*◌, ◌^◌, ◌<◌, ◌≤◌, List, [], ◌∷◌, ◌++◌, Option, Some, None, IfSome, length, slice_index}
 use mathlib.Core.Option.{some}
 use lib.ListN.{get_elem?}
 use Rattle.atomic_table.specs.Seated.{TableId}
@@ -17,24 +17,33 @@ use Rattle.node_rule.specs.declared.view.Stage.TheVariants.{Fresh, Lost}
 use Rattle.node_rule.specs.declared.view.Install.{Install}
 use Rattle.node_rule.specs.declared.view.Ascent.{Ascent}
 use Rattle.node_rule.specs.declared.view.Plan.{Plan}
-use Rattle.node_rule.specs.Views.{try_of, staged, called, started}
+use Rattle.node_rule.specs.Views.{try_of, staged, called, started, new_track}
 use Rattle.node_rule.specs.Sums.{posted, posts_in}
 use Rattle.node_rule.specs.Fronts.{ancestor}
 use Rattle.node_rule.specs.StampPart.{IsPlan}
-use Rattle.node_rule.specs.Steps.{after_stage, after_loss, session_after_split}
+use Rattle.node_rule.specs.Steps.{after_stage, after_loss}
 
 -- the words of the trees: their table, and the plan of the rule
 pub record Forested : Type 0 where
   pub table : TableId
   pub plan : Plan
 
--- a climb, which is a seat with its lists: its table, the plan, its view, for how many calls there
--- is room, and how many steps it made on the table's words
+-- a climb, which is a session's seat with its lists: its table, the plan, its view, for how many
+-- calls there is room, and how many steps it made on the table's words
 pub record Standing : Type 0 where
   pub table : TableId
   pub plan : Plan
   pub view : View
   pub spare : ℕ
+  pub steps : ℕ
+
+-- the keeper's seat: its table, the plan, how many numbers it gave, what the joined sessions did,
+-- and how many steps it made on the table's words
+pub record Keeping : Type 0 where
+  pub table : TableId
+  pub plan : Plan
+  pub given : ℕ
+  pub joined : List Track
   pub steps : ℕ
 
 -- the plan of so many sessions and posts over trees of this shape
@@ -46,6 +55,10 @@ plan_of levels trees sessions quota =
 abbrev pub IsOf : Forested → Standing → Type 0
 IsOf words climb = (climb.table ≡ words.table) × (climb.plan ≡ words.plan)
 
+-- the keeper's seat is of these words
+abbrev pub IsKeeperOf : Forested → Keeping → Type 0
+IsKeeperOf words keeper = (keeper.table ≡ words.table) × (keeper.plan ≡ words.plan)
+
 -- the same table and plan
 abbrev pub KeepsTable : Standing → Standing → Type 0
 KeepsTable old new = (new.table ≡ old.table) × (new.plan ≡ old.plan)
@@ -56,22 +69,6 @@ KeepsSeat old new =
     (new.table ≡ old.table) × (new.plan ≡ old.plan) × (new.spare ≡ old.spare)
 
 -- where a climb stands
-
--- the keeper's climb
-abbrev pub IsKeeper : Standing → Type 0
-IsKeeper c = (given : ℕ) × (joined : List Track) × (c.view ≡ Keeper c.plan.levels given joined)
-
--- the keeper's climb, with a number left to give
-abbrev pub HasNumberLeft : Standing → Type 0
-HasNumberLeft c =
-    (given : ℕ) × (joined : List Track) × (c.view ≡ Keeper c.plan.levels given joined)
-    × (given < c.plan.sessions)
-
--- the keeper's climb, with each session joined again
-abbrev pub HasAllBack : Standing → Type 0
-HasAllBack c =
-    (given : ℕ) × (joined : List Track) × (c.view ≡ Keeper c.plan.levels given joined)
-    × (length joined ≡ given)
 
 -- a session between two posts
 abbrev pub IsIdle : Standing → Type 0
@@ -86,6 +83,10 @@ HasPostLeft tree c =
 -- a session with this ascent in hand
 abbrev pub IsAt : Standing → Ascent → Type 0
 IsAt c x = (track : Track) × (c.view ≡ Session c.plan.levels track (Some x))
+
+-- a session with an ascent in hand
+abbrev pub HasAscent : Standing → Type 0
+HasAscent c = (x : Ascent) × IsAt c x
 
 -- an ascent that has loaded nothing yet for its parent
 abbrev pub IsFresh : Standing → Type 0
@@ -152,11 +153,27 @@ IsLatestRead tree stamp old =
     (track : Track) × (old.view ≡ Session old.plan.levels track None)
     × ((k s v : ℕ) → get_elem? track.calls k ≡ some (Read tree s v) → s ≤ stamp)
 
--- the climb of the session that the keeper split off, which has made no step
-abbrev pub IsDealt : Standing → Standing → Type 0
+-- the seat of a new table's keeper, which gave no number and made no step
+abbrev pub IsNewKeeper : Forested → Keeping → Type 0
+IsNewKeeper words keeper =
+    IsKeeperOf words keeper × (keeper.given ≡ 0) × (keeper.joined ≡ []) × (keeper.steps ≡ 0)
+
+-- the keeper gave one number more; its steps are said apart
+abbrev pub GivesOne : Keeping → Keeping → Type 0
+GivesOne old new = new ≡ record old { given = old.given + 1; steps = new.steps }
+
+-- the climb of the session that got it, which has done nothing and made no step
+abbrev pub IsDealt : Keeping → Standing → Type 0
 IsDealt keeper new =
     (new.table ≡ keeper.table) × (new.plan ≡ keeper.plan)
-    × (new.view ≡ session_after_split keeper.view) × (new.spare ≡ 0) × (new.steps ≡ 0)
+    × (new.view ≡ Session new.plan.levels (new_track keeper.given) None) × (new.spare ≡ 0)
+    × (new.steps ≡ 0)
+
+-- the keeper has what a session between two posts did; its steps are said apart
+abbrev pub TakesBack : Keeping → Standing → Keeping → Type 0
+TakesBack old done new =
+    (track : Track) × (done.view ≡ Session done.plan.levels track None)
+    × (new ≡ record old { joined = old.joined ++ track ∷ []; steps = new.steps })
 
 -- the calls and the installs of a session between two posts
 abbrev pub AreListsOf : Standing → List Call → List Install → Type 0
@@ -165,6 +182,12 @@ AreListsOf done calls trail =
     × (trail ≡ track.trail)
 
 -- what a climb knows of itself
+
+-- an ascent on its way stands at a node of a tree, below the root
+pub record IsStanding (plan : Plan) (x : Ascent) : Type 0 where
+  pub tree : x.tree < plan.trees
+  pub low : 2 ≤ x.node
+  pub high : x.node < 2 * 2 ^ plan.levels
 
 -- the words of a try, within the bounds of a word
 pub record IsBounded (under : ℕ → ℕ → Type 0) (height : ℕ) (y : Try) : Type 0 where
@@ -181,20 +204,13 @@ pub record IsOnWay (under : ℕ → ℕ → Type 0) (plan : Plan) (number : ℕ)
   pub node : x.node ≡ ancestor (leaf_of plan.levels number) x.height
   pub bounded : IfSome (try_of x.stage) (IsBounded under x.height)
 
--- the view of the keeper's seat, or of a session's
-abbrev pub IsRole : Bool → Plan → ℕ → List Call → List Install → Option Ascent → View → Type 0
-IsRole true plan number calls trail ascent view =
-    (ascent ≡ None) × (joined : List Track) × (view ≡ Keeper plan.levels number joined)
-IsRole false plan number calls trail ascent view =
-    view ≡ Session plan.levels (record { number = number; calls = calls; trail = trail }) ascent
-
 -- what the fields of a climb are to its view
-pub record IsSound (under : ℕ → ℕ → Type 0) (keeps : Bool) (plan : Plan) (number : ℕ)
-    (calls : List Call) (trail : List Install) (ascent : Option Ascent) (view : View)
-    : Type 0 where
+pub record IsSound (under : ℕ → ℕ → Type 0) (plan : Plan) (number : ℕ) (calls : List Call)
+    (trail : List Install) (ascent : Option Ascent) (view : View) : Type 0 where
   pub planned : IsPlan plan
-  pub number_in : keeps ≡ false → number < plan.sessions
-  pub role : IsRole keeps plan number calls trail ascent view
+  pub number_in : number < plan.sessions
+  pub own : view
+      ≡ Session plan.levels (record { number = number; calls = calls; trail = trail }) ascent
   pub on_way : IfSome ascent (IsOnWay under plan number)
 
 -- how many installs an ascent may still win
@@ -209,8 +225,7 @@ pub record HasRoom (levels spare made call_room won install_room : ℕ) (ascent 
   pub installs : won + levels * spare + levels_left levels ascent ≤ install_room
 
 -- a session counts its posts in each tree
-abbrev pub AreCounted : Bool → Plan → List Call → List ℕ → Type 0
-AreCounted true plan calls counts = Unit {0}
-AreCounted false plan calls counts =
+abbrev pub AreCounted : Plan → List Call → List ℕ → Type 0
+AreCounted plan calls counts =
     (length counts ≡ plan.trees)
     × ((tree : ℕ) → tree < plan.trees → slice_index counts tree ≡ length (posted tree calls))

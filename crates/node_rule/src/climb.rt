@@ -1,7 +1,7 @@
 //! A session's seat, with its lists of calls and installs.
 ghost use Rattle.std.specs.Prelude.{◌≡◌, ◌-◌, ◌≤◌, ◌<◌, OnOk, OnErr, IfSome};
 ghost use Rattle.node_rule.specs.Views.{ascent_of};
-ghost use Rattle.node_rule.specs.Own.{IsSession, number_in, posts_by, node_in, IsBelowRoot};
+ghost use Rattle.node_rule.specs.Own.{number_in, posts_by, node_in, IsBelowRoot};
 ghost use Rattle.node_rule.specs.Standing.{KeepsTable};
 
 use crate::view::{Ascent, Install, Plan, View};
@@ -10,16 +10,16 @@ use risk_board::Call;
 use stamp_word::CountedSeat;
 use std::marker::{Model, PhantomData};
 
-/// A session's seat, with its lists of calls and installs, or the keeper's seat, whose lists stay
-/// empty. Contracts see the table and its plan, the seat's view, for how many more calls there is
-/// room, and how many steps the seat made on the table's words.
+/// A session's seat, with its lists of calls and installs. Contracts see the table and its plan, the
+/// seat's view, for how many more calls there is room, and how many steps the seat made on the
+/// table's words.
 #[derive(Drop)]
 pub struct Climb<F: Fold> {
+    /// With what the session makes its steps.
     pub(crate) seat: CountedSeat<View>,
+    /// The plan of the table's rule.
     pub(crate) plan: Plan,
-    /// It is the keeper's.
-    pub(crate) keeps: bool,
-    /// The session's number, from 0; of the keeper, the next one to give.
+    /// The session's number, from 0.
     pub(crate) number: u32,
     /// The session's calls, in order.
     pub(crate) calls: Vec<Call>,
@@ -49,11 +49,11 @@ impl<F: Fold> Model for Climb<F> {
     } };
 
     ghost invariant = { λ c.
-        IsSound F.under c.keeps c.plan c.number c.calls.items c.trail.items c.ascent c.seat.me.0
+        IsSound F.under c.plan c.number c.calls.items c.trail.items c.ascent c.seat.me.0
         × (c.seat.me.1 ≡ [])
         × HasRoom c.plan.levels c.spare (vec_len c.calls) (vec_capacity c.calls) (vec_len c.trail)
         (vec_capacity c.trail) c.ascent
-        × AreCounted c.keeps c.plan c.calls.items c.counts.items };
+        × AreCounted c.plan c.calls.items c.counts.items };
 }
 
 impl<F: Fold> Climb<F> {
@@ -90,7 +90,6 @@ impl<F: Fold> Climb<F> {
 
     /// The session's number.
     pub fn number(&self) -> u32
-        requires session { IsSession self.now.view }
         ensures { result ≡ number_in self.now.view }
     {
         self.number
@@ -98,7 +97,6 @@ impl<F: Fold> Climb<F> {
 
     /// How many more posts the quota lets the session make in the tree.
     pub fn left(&self, tree: u32) -> u32
-        requires session { IsSession self.now.view }
         requires tree { tree < self.now.plan.trees }
         ensures { result ≡ self.now.plan.quota - posts_by tree self.now.view }
     {

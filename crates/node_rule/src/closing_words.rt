@@ -2,10 +2,10 @@
 ghost use Rattle.std.specs.Prelude.{◌≡◌, ℕ, ◌<◌, List, [], ◌∷◌, length, IfOk};
 ghost use Rattle.std.specs.Slots.{slots_items, slots_len, IsFull};
 ghost use Rattle.node_rule.specs.declared.view.View.TheVariants.{Keeper};
-ghost use Rattle.node_rule.specs.Standing.{IsOf, HasAllBack};
+ghost use Rattle.node_rule.specs.Standing.{IsKeeperOf};
 ghost use Rattle.node_rule.specs.ValuePart.{IsKept};
 
-use crate::climb::Climb;
+use crate::keeper::KeeperSeat;
 use crate::words::Words;
 use atomic_table::Closed;
 use fold_law::{Fold, Memory};
@@ -28,27 +28,22 @@ fn words_of(alloc: Global, closed: &Closed<(), Global>) -> Result<Vec<u64>, Memo
 impl<F: Fold> Words<F> {
     /// The words, which meet the rule over the keeper's view alone. A refused close has given up
     /// the table.
-    pub fn close(self, keeper: Climb<F>) -> Result<Vec<u64>, Memory>
-        requires table { IsOf self keeper }
-        requires joined { HasAllBack keeper }
-        ensures { IfOk result (λ words.
-            IsKept self.plan F.UNIT F.CAP F.join words.items (keeper.view ∷ [])) }
+    pub fn close(self, keeper: KeeperSeat<F>) -> Result<Vec<u64>, Memory>
+        requires table { IsKeeperOf self keeper }
+        requires joined { length keeper.joined ≡ keeper.given }
+        ensures { let view = Keeper self.plan.levels keeper.given keeper.joined in
+            IfOk result (λ words.
+            IsKept self.plan F.UNIT F.CAP F.join words.items (view ∷ [])) }
     {
         let Words {
             table,
             plan: _,
             alloc,
         } = self;
-        let Climb {
+        let KeeperSeat {
             seat,
             plan: _,
-            keeps: _,
-            number: _,
-            calls: _,
-            trail: _,
-            counts: _,
-            ascent: _,
-            spare: _,
+            given: _,
             fold: _,
         } = keeper;
         let closed = table.close_with(seat);

@@ -17,6 +17,7 @@
 mod calls;
 mod climb;
 mod closing_words;
+mod keeper;
 mod rule;
 mod seats;
 mod tries;
@@ -24,6 +25,7 @@ mod view;
 mod words;
 
 pub use climb::Climb;
+pub use keeper::KeeperSeat;
 pub use rule::NodeRule;
 pub use view::{Ascent, Install, Plan, Stage, Track, Try, View};
 pub use words::Words;

@@ -2,28 +2,39 @@
 use risk_board::Call;
 use std::collections::LinkedList;
 
-/// A node of a tree got a stamp, from children that were read at the stamps `left` and `right`.
+/// A node of a tree got a stamp, from children that were read at two stamps.
 #[derive(Clone, Copy, Debug, PartialEq, Eq)]
 pub struct Install {
+    /// The tree, from 0.
     pub tree: u32,
+    /// The node, from 1.
     pub node: u32,
+    /// The stamp that the node got.
     pub stamp: u32,
+    /// The stamp at which its left child was read.
     pub left: u32,
+    /// The stamp at which its right child was read.
     pub right: u32,
 }
 
-/// What one session did: its number from 0, its calls, and the installs of its won exchanges.
+/// What one session did.
 pub struct Track {
+    /// Its number, from 0.
     pub number: u32,
+    /// Its posts and reads, in order.
     pub calls: LinkedList<Call>,
+    /// The installs of its won exchanges, in order.
     pub trail: LinkedList<Install>,
 }
 
-/// The words of a try at a node: its own, and those of its children that were loaded since.
+/// The words of a try at a node.
 #[derive(Clone, Copy, Debug, PartialEq, Eq)]
 pub struct Try {
+    /// The node's own, which was loaded first.
     pub parent: u64,
+    /// Its left child's, once that is loaded.
     pub left: Option<u64>,
+    /// Its right child's, once that is loaded.
     pub right: Option<u64>,
 }
 
@@ -40,14 +51,18 @@ pub enum Stage {
     Second { first: u32, tried: Try },
 }
 
-/// A post on its way to the root of its tree. It stands at a node, so many levels above the leaf,
-/// and the stamp `held` of that node covers the post.
+/// A post on its way to the root of its tree.
 #[derive(Clone, Copy, Debug, PartialEq, Eq)]
 pub struct Ascent {
+    /// The tree of the post, from 0.
     pub tree: u32,
+    /// The node at which the ascent stands.
     pub node: u32,
+    /// So many levels is that node above the leaf.
     pub height: u32,
+    /// The stamp of the node that covers the post.
     pub held: u32,
+    /// How far it has come at the node's parent.
     pub stage: Stage,
 }
 
@@ -69,12 +84,15 @@ pub enum View {
     Spent,
 }
 
-/// What the rule is told once: the levels of each tree, how many trees and sessions there are, and
-/// the most posts of a session in a tree.
+/// What the rule is told once.
 #[derive(Clone, Copy)]
 pub struct Plan {
+    /// The levels of each tree above its leaves.
     pub levels: u32,
+    /// How many trees there are.
     pub trees: u32,
+    /// How many sessions there are.
     pub sessions: u32,
+    /// The most posts of a session in a tree.
     pub quota: u32,
 }

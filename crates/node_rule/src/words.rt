@@ -1,13 +1,15 @@
 //! The words of the trees, and the steps of an ascent.
-ghost use Rattle.std.specs.Prelude.{◌≡◌, ℕ, ◌+◌, ◌*◌, ◌^◌, ◌<◌, ◌≤◌, Some};
+ghost use Rattle.std.specs.Prelude.{◌≡◌, ℕ, ◌+◌, ◌*◌, ◌/◌, ◌^◌, ◌<◌, ◌≤◌, Some};
 ghost use Rattle.std.specs.Bool.{OnTrue, OnFalse};
 ghost use Rattle.node_rule.specs.declared.view.Stage.TheVariants.{Fresh, First, Lost, Second};
-ghost use Rattle.node_rule.specs.Standing.{IsOf, KeepsSeat};
+ghost use Rattle.stamp_word.specs.Places.{place_of};
+ghost use Rattle.node_rule.specs.Standing.{IsOf, KeepsSeat, HasAscent, IsAt, IsOnWay, IsStanding};
 ghost use Rattle.node_rule.specs.Standing.{IsFresh, HasLostOnce, AwaitsParent, HasTry, HasFullTry};
 ghost use Rattle.node_rule.specs.Standing.{HasLoaded, HasLost};
 ghost use Rattle.node_rule.specs.StampPart.{IsPlan};
 ghost use Rattle.node_rule.specs.Steps.{parent_stage, left_stage, right_stage, after_win};
 ghost use Rattle.node_rule.specs.Views.{staged};
+ghost use Rattle.node_rule.specs.Own.{number_in};
 
 use crate::climb::Climb;
 use crate::rule::{Exchange, LoadLeft, LoadParent, LoadRight, NodeRule};
@@ -22,8 +24,11 @@ use std::sync::ledger::Ledger;
 /// The words of the trees, under the running rule. Contracts see the table and its plan.
 #[derive(Drop)]
 pub struct Words<F: Fold> {
+    /// The words, with the views of all seats.
     pub(crate) table: CountedTable<View, Plan, NodeRule<F>>,
+    /// What the table's rule was told.
     pub(crate) plan: Plan,
+    /// The memory of the words that a close gives.
     pub(crate) alloc: Global,
 }
 
@@ -74,6 +79,30 @@ impl<F: Fold> Words<F> {
         self.load_parent(climb, steps);
     }
 
+    // The ascent in hand.
+    fn in_hand(&self, climb: &Climb<F>) -> Ascent
+        requires table { IsOf self.now climb.now }
+        requires ascent { HasAscent climb.now }
+        ensures view { IsAt climb.now result }
+        ensures on_way { IsOnWay F.under self.now.plan (number_in climb.now.view) result }
+        ensures stands { IsStanding self.now.plan result }
+    {
+        match climb.ascent {
+            Some(x) => x,
+            None => unreachable!(),
+        }
+    }
+
+    // The place of the word of the parent of the ascent's node, or of a child of that parent.
+    fn place_near(&self, x: &Ascent, node: u32) -> u32
+        requires stands { IsStanding self.now.plan x.now }
+        requires near { node < 2 * (x.now.node / 2) + 2 }
+        ensures place { result ≡ place_of self.now.plan.levels x.now.tree node }
+        ensures within { result < self.now.table.words }
+    {
+        shape_of(&self.plan).path(x.tree, node)
+    }
+
     // Loads the parent of the ascent's node, for a try.
     fn load_parent<L: Ledger>(&self, climb: &mut Climb<F>, steps: &mut Steps<L>)
         requires table { IsOf self.now climb.old }
@@ -83,10 +112,8 @@ impl<F: Fold> Words<F> {
         ensures own_step { climb.new.steps ≡ climb.old.steps + 1 }
         ensures one_step { steps.new ≡ steps.old + 1 }
     {
-        let Some(x) = climb.ascent else {
-            unreachable!()
-        };
-        let place = shape_of(&self.plan).path(x.tree, x.node / 2);
+        let x = self.in_hand(climb);
+        let place = self.place_near(&x, x.node / 2);
         let word = load::<View, Plan, NodeRule<F>, LoadParent, L>(
             &self.table,
             &mut climb.seat,
@@ -107,11 +134,9 @@ impl<F: Fold> Words<F> {
         ensures own_step { climb.new.steps ≡ climb.old.steps + 1 }
         ensures one_step { steps.new ≡ steps.old + 1 }
     {
-        let Some(x) = climb.ascent else {
-            unreachable!()
-        };
-        let shape = shape_of(&self.plan);
-        let place = shape.path(x.tree, shape.left(x.node / 2));
+        let x = self.in_hand(climb);
+        let node = self.shape().left(x.node / 2);
+        let place = self.place_near(&x, node);
         let word = load::<View, Plan, NodeRule<F>, LoadLeft<F>, L>(
             &self.table,
             &mut climb.seat,
@@ -132,11 +157,9 @@ impl<F: Fold> Words<F> {
         ensures own_step { climb.new.steps ≡ climb.old.steps + 1 }
         ensures one_step { steps.new ≡ steps.old + 1 }
     {
-        let Some(x) = climb.ascent else {
-            unreachable!()
-        };
-        let shape = shape_of(&self.plan);
-        let place = shape.path(x.tree, shape.right(x.node / 2));
+        let x = self.in_hand(climb);
+        let node = self.shape().right(x.node / 2);
+        let place = self.place_near(&x, node);
         let word = load::<View, Plan, NodeRule<F>, LoadRight<F>, L>(
             &self.table,
             &mut climb.seat,
@@ -159,14 +182,12 @@ impl<F: Fold> Words<F> {
         ensures own_step { climb.new.steps ≡ climb.old.steps + 1 }
         ensures one_step { steps.new ≡ steps.old + 1 }
     {
-        let Some(x) = climb.ascent else {
-            unreachable!()
-        };
+        let x = self.in_hand(climb);
         let Some(tried) = try_held(&x) else {
             unreachable!()
         };
         let word = full_word::<F>(&tried, &x);
-        let place = shape_of(&self.plan).path(x.tree, x.node / 2);
+        let place = self.place_near(&x, x.node / 2);
         match exchange_if::<View, Plan, NodeRule<F>, Exchange, L>(
             &self.table,
             &mut climb.seat,

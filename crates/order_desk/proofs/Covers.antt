@@ -14,26 +14,25 @@ use Rattle.exposure_book.specs.Books.{BookValue}
 use Rattle.exposure_book.specs.Totals.{IsPlaced}
 use Rattle.risk_journal.specs.declared.acts.Act.{Act}
 use Rattle.risk_journal.specs.ActLists.{SeenAt, posts_in, last_post, events_of}
-use Rattle.hand_acts.specs.declared.rows.OrderRows.{OrderRows}
-use Rattle.hand_acts.specs.Admitted.{own_admitted, AdmitsLast}
-use Rattle.hand_acts.specs.Asking.{Asked, is_short, asking, verdict_of, settled, posted_and_read}
-use Rattle.hand_acts.specs.Asking.{post_old}
-use Rattle.hand_acts.specs.Legs.{Leg, legs_of, leg_with}
-use Rattle.hand_acts.specs.Lowering.{lowering}
-use Rattle.hand_acts.specs.Tapes.{Tape, tape}
-use Rattle.hand_acts.specs.Trees.{LimitsValue, halt_tree, account_tree, symbol_tree, limit_of}
-use Rattle.hand_acts.proofs.AskedTrees.{all_three, leg_in, none_in_front, KeepsTree}
-use Rattle.hand_acts.proofs.AskedTrees.{asked_keeps, asked_posts, back_keeps, back_posts}
-use Rattle.hand_acts.proofs.AskedAdmits.{IsLegFor, legs_are, asked_admits}
-use Rattle.hand_acts.proofs.LoweredTrees.{leg_has, legs_apart, lowering_keeps, lowering_posts}
-use Rattle.hand_acts.proofs.LoweredTrees.{lowered_admits}
+use Rattle.admit_core.specs.declared.rows.OrderRows.{OrderRows}
+use Rattle.admit_core.specs.Admitted.{own_admitted, AdmitsLast}
+use Rattle.admit_core.specs.Asking.{Asked, is_short, asking, verdict_of, settled, posted_and_read}
+use Rattle.admit_core.specs.Asking.{post_old}
+use Rattle.admit_core.specs.Legs.{Leg, AreRowsOf, legs_of, leg_with}
+use Rattle.admit_core.specs.Lowering.{lowering}
+use Rattle.admit_core.specs.Tapes.{IsNoCall, Tape, tape}
+use Rattle.limit_table.specs.Trees.{LimitsValue, halt_tree, account_tree, symbol_tree, limit_of}
+use Rattle.admit_core.proofs.AskedTrees.{all_three, leg_in, none_in_front, KeepsTree}
+use Rattle.admit_core.proofs.AskedTrees.{asked_keeps, asked_posts, back_keeps, back_posts}
+use Rattle.admit_core.proofs.AskedAdmits.{IsLegFor, legs_are, asked_admits}
+use Rattle.admit_core.proofs.LoweredTrees.{leg_has, legs_apart, lowering_keeps, lowering_posts}
+use Rattle.admit_core.proofs.LoweredTrees.{lowered_admits}
 use Rattle.admit_core.specs.declared.ask.Verdict.TheVariants.{Firm, Account, Symbol}
-use Rattle.hand_acts.proofs.Noted.{IsNoCall, noted_keeps, noted_admits}
+use Rattle.admit_core.proofs.Noted.{noted_keeps, noted_admits}
 use Rattle.order_desk.specs.Backing.{IsBacked, Backs, Covers}
 use Rattle.order_desk.specs.Decisions.{decided_by, committed}
 use Rattle.order_desk.specs.Refusals.{refusal_by}
 use Rattle.order_desk.specs.Values.{value_in, first_book}
-use Rattle.order_desk.proofs.KnownRows.{AreRows}
 use Rattle.order_desk.proofs.TreeValues.{value_in-none, IsOtherTree}
 
 pub first_covers : (limits : LimitsValue) → Covers limits [] (first_book limits)
@@ -142,7 +141,7 @@ covers_noted limits acts book act none covers = record {
 }
 
 -- orders become others, and the three trees of these rows are asked or lowered
-module _ (limits : LimitsValue) (rows : OrderRows) (are : AreRows limits rows) (values : List ℕ)
+module _ (limits : LimitsValue) (rows : OrderRows) (are : AreRowsOf limits rows) (values : List ℕ)
     (acts : List Act) (book next : BookValue) (covers : Covers limits acts book)
     (accounts : next.accounts ≡ book.accounts) (symbols : next.symbols ≡ book.symbols)
     (placed : All (IsPlaced next.accounts next.symbols) next.orders)

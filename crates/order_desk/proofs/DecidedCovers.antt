@@ -1,12 +1,11 @@
 -- What is decided on a request keeps the book's orders covered.
-use Rattle.std.proofs.Common.{◌≡◌, ℕ, ◌≤◌, List, refl, ap, sym, ◌∙◌, Bool, true}
+use Rattle.std.proofs.Common.{◌≡◌, ℕ, ◌≤◌, List, [], refl, ap, sym, ◌∙◌, Bool, true}
 use Rattle.std.proofs.Common.{false, cond, not, All, Option, Some, None, Result, Ok, Err, subst}
 use Rattle.std.proofs.Common.{slice_get, ◌<◌}
 use Rattle.std.specs.Prelude.{nat_le, nat_lt, slice_set}
 use Rattle.std.proofs.Common.{arith}
-use Rattle.std.proofs.lemmas.List.Elements.{All-get_or, All-set, All-push}
+use Rattle.std.proofs.lemmas.List.Elements.{All-set, All-push}
 use Rattle.std.proofs.lemmas.List.Elements.{All-weaker}
-use Rattle.std.proofs.lemmas.Option.{slice_get_within}
 use Rattle.fix_orders.specs.declared.message.NewOrder.{NewOrder}
 use Rattle.fix_orders.specs.declared.message.Cancel.{Cancel}
 use Rattle.fix_orders.specs.declared.message.Replace.{Replace}
@@ -26,26 +25,30 @@ use Rattle.exposure_book.specs.Pendings.{is_pending, is_same_id}
 use Rattle.exposure_book.specs.Proposals.{new_order, capped, is_within_cap, is_known, requested}
 use Rattle.exposure_book.specs.Proposals.{requested_at, open_for_request, proposal_of_new}
 use Rattle.exposure_book.specs.Proposals.{fault_alone, with_replace}
-use Rattle.exposure_book.specs.Proposals.{is_of_order, replace_of, proposal_of_replace}
+use Rattle.exposure_book.specs.Proposals.{is_of_order, replace_of, proposal_of_cancel}
 use Rattle.exposure_book.specs.Proposals.{replace_at as proposed_at}
 use Rattle.exposure_book.specs.Totals.{IsPlaced}
 use Rattle.exposure_book.proofs.Lowering.{lowers_without_pending}
-use Rattle.exposure_book.proofs.Sums.{item_at}
+use Rattle.screen_kit.specs.Screens.{ScreenValue}
 use Rattle.risk_journal.specs.declared.acts.Act.{Act}
-use Rattle.hand_acts.specs.declared.rows.OrderRows.{OrderRows}
-use Rattle.hand_acts.specs.Legs.{Leg, legs_of}
-use Rattle.hand_acts.specs.Tapes.{Tape}
-use Rattle.hand_acts.specs.Trees.{LimitsValue}
-use Rattle.order_desk.specs.declared.refusal.Refusal.{Refusal}
+use Rattle.admit_core.specs.declared.rows.OrderRows.{OrderRows}
+use Rattle.admit_core.specs.Legs.{Leg, AreRowsOf, legs_of}
+use Rattle.admit_core.specs.Tapes.{Tape, tape}
+use Rattle.limit_table.specs.Trees.{LimitsValue}
+use Rattle.order_desk.specs.declared.offer.Offer.{Offer}
 use Rattle.order_desk.specs.Backing.{Covers}
-use Rattle.order_desk.specs.Decisions.{Decision, new_by, new_at, new_decided, cancel_by}
-use Rattle.order_desk.specs.Decisions.{cancel_decided, replace_needing, replace_at}
-use Rattle.order_desk.specs.Decisions.{replace_by, replace_decided, is_above_last}
-use Rattle.order_desk.specs.Rows.{rows_of, upper_price}
+use Rattle.order_desk.specs.Decisions.{Decision, cancel_by, cancel_decided, is_above_last, new_next}
+use Rattle.order_desk.specs.Decisions.{new_screened, replace_screened, taken_up, tree_decided}
+use Rattle.order_desk.specs.Offers.{new_offer, replace_offer}
+use Rattle.order_desk.specs.Rows.{upper_price}
+use Rattle.order_desk.specs.Sending.{ProposesNew}
 use Rattle.order_desk.specs.Values.{values_of, value_in}
 use Rattle.order_desk.proofs.Covers.{Tells, covers_asked, covers_at_once, covers_same}
 use Rattle.order_desk.proofs.Covers.{none_passes, not_less}
-use Rattle.order_desk.proofs.KnownRows.{AreRows, known_rows}
+use Rattle.order_desk.proofs.Deciding.{decided_is}
+use Rattle.order_desk.proofs.Places.{known_rows}
+use Rattle.order_desk.proofs.Offered.{comes_of_new, comes_of_replace, offer_of_new, offer_of_replace}
+use Rattle.order_desk.proofs.Offered.{order_is_placed, rows_by}
 use Rattle.order_desk.proofs.TreeValues.{value_in-account, value_in-symbol, value_in-push_le}
 use Rattle.order_desk.proofs.TreeValues.{value_in-push_other, value_in-set_ge, value_in-set_le}
 use Rattle.order_desk.proofs.TreeValues.{value_in-set_other, IsOtherTree}
@@ -66,7 +69,7 @@ capped_is proposed values is = by_test (is_within_cap proposed) is
 
 -- the values of what is proposed, by the other orders
 proposal_tells : (limits : LimitsValue) (rows : OrderRows) (values : Proposal)
-    (orders next : List Order) → AreRows limits rows
+    (orders next : List Order) → AreRowsOf limits rows
     → proposal_of next rows.account rows.symbol ≡ values
     → ((tree : ℕ) → IsOtherTree limits rows.account rows.symbol tree
     → value_in limits tree next ≡ value_in limits tree orders)
@@ -102,11 +105,12 @@ module _ (limits : LimitsValue) (order : NewOrder) (book : BookValue) (before : 
       by_test false given =
           capped_is (proposal_of (more rows).orders rows.account rows.symbol) values given
 
-  new_covers_by : (rows : OrderRows) → AreRows limits rows → (answer : Result Proposal BookFault)
-      → proposal_of_new book order rows.account rows.symbol (upper_price limits rows) ≡ answer
-      → IsCovered limits (new_by limits order rows book before answer)
-  new_covers_by rows are (Err why) is = covers
-  new_covers_by rows are (Ok values) is =
+  new_taken : (rows : OrderRows) (values : Proposal)
+      → ProposesNew limits order rows values book
+      → IsCovered limits
+      (tree_decided limits (offer_of_new limits order rows values) book (more rows) before)
+  new_taken rows values is =
+      let are = known_rows limits order rows is.found in
       covers_asked limits rows are (values_of values) before.acts book (more rows) covers refl refl
       (All-push (IsPlaced book.accounts book.symbols) book.orders (one rows) covers.backs.placed
       (record {
@@ -114,22 +118,21 @@ module _ (limits : LimitsValue) (order : NewOrder) (book : BookValue) (before : 
         symbol = subst (λ n. rows.symbol < n) (sym covers.backs.symbols) are.symbol;
       }))
       (proposal_tells limits rows values book.orders (more rows).orders are
-      (proposed_is rows values is)
+      (proposed_is rows values is.proposed)
       (λ tree other. value_in-push_other limits tree book.orders (one rows) other))
       before.reads (λ tree. value_in-push_le limits tree book.orders (one rows))
 
-  new_covers_at : (found : Result OrderRows Refusal) → rows_of limits order ≡ found
-      → IsCovered limits (new_at limits order book before found)
-  new_covers_at (Err why) is = covers
-  new_covers_at (Ok rows) is =
-      new_covers_by rows (known_rows limits order rows is)
-      (proposal_of_new book order rows.account rows.symbol (upper_price limits rows)) refl
-
-pub new_covers : (limits : LimitsValue) (order : NewOrder) (book : BookValue) (before : Tape)
-    → Covers limits before.acts book
-    → IsCovered limits (new_decided limits order book before)
-new_covers limits order book before covers =
-    new_covers_at limits order book before covers (rows_of limits order) refl
+pub new_covers : (limits : LimitsValue) (order : NewOrder) (screens : List ScreenValue)
+    (book : BookValue) (before : Tape) → Covers limits before.acts book
+    → IsCovered limits (new_screened limits order screens book before)
+new_covers limits order screens book before covers =
+    decided_is limits screens (new_next order book) book before (IsCovered limits) (λ why. covers)
+    (new_offer limits order book)
+    (λ offer is.
+    let comes = comes_of_new limits order book offer is in
+    subst (λ (o : Offer). IsCovered limits
+    (tree_decided limits o book (new_next order book o) before)) (sym comes.is)
+    (new_taken limits order book before covers offer.rows offer.values comes.proposes))
 
 -- a request that nothing stands against: the order that it names, at its place, with none pending
 record RequestsOn (book : BookValue) (orig : List ℕ) (place : ℕ) : Type 0 where
@@ -185,16 +188,6 @@ requests_on book id orig place given = by_test (is_known book id) given
     by_test true answer = absurd cc
     by_test false answer = requests_place book orig place (place_of orig book.ids) refl answer
 
--- the order at a place is one of the limits' rows
-pub placed_at : (limits : LimitsValue) (acts : List Act) (book : BookValue) (place : ℕ)
-    (order : Order)
-    → Covers limits acts book → slice_get book.orders place ≡ Some order
-    → IsPlaced book.accounts book.symbols order
-placed_at limits acts book place order covers found =
-    subst (IsPlaced book.accounts book.symbols) (item_at book.orders place order found)
-    (All-get_or (IsPlaced book.accounts book.symbols) book.orders place order
-    (slice_get_within book.orders place order found) covers.backs.placed)
-
 -- a request is pending on an order with none
 module _ (order : Order) (idle : order.pending ≡ pending.Nothing) where
   -- the order itself
@@ -226,7 +219,7 @@ module _ (limits : LimitsValue) (book : BookValue) (before : Tape)
       named id place (record book { orders = slice_set book.orders place (next_order request) })
 
   own_placed : IsPlaced book.accounts book.symbols on.order
-  own_placed = placed_at limits before.acts book place on.order covers on.found
+  own_placed = order_is_placed book place on.order covers.backs.placed on.found
 
   next_placed : (request : Pending) → All (IsPlaced book.accounts book.symbols)
       (slice_set book.orders place (next_order request))
@@ -248,10 +241,10 @@ module _ (limits : LimitsValue) (book : BookValue) (before : Tape)
       (lowers_to_order on.order on.idle (pending.Cancel request.id)) in
       omega (arith, less, more))
 
-  abbrev rows : OrderRows
-  rows = record { account = on.order.account; symbol = on.order.symbol }
+  abbrev own_rows : OrderRows
+  own_rows = record { account = on.order.account; symbol = on.order.symbol }
 
-  are_rows : AreRows limits rows
+  are_rows : AreRowsOf limits own_rows
   are_rows = record {
     account = subst (λ n. on.order.account < n) covers.backs.accounts own_placed.account;
     symbol = subst (λ n. on.order.symbol < n) covers.backs.symbols own_placed.symbol;
@@ -271,21 +264,22 @@ module _ (limits : LimitsValue) (book : BookValue) (before : Tape)
         value_in-set_ge limits tree book.orders place on.order (next_order asks) on.found
         (lowers_to_order on.order on.idle asks)
 
-    tells : Tells limits rows (values_of values) book.orders replaced.orders
+    tells : Tells limits own_rows (values_of values) book.orders replaced.orders
     tells =
-        proposal_tells limits rows values book.orders replaced.orders are_rows told
+        proposal_tells limits own_rows values book.orders replaced.orders are_rows told
         (λ tree other. value_in-set_other limits tree book.orders place on.order (next_order asks)
         on.found refl refl other)
 
-    replace_covers_needing : (above : Bool)
-        → is_above_last (legs_of limits rows before.acts (values_of values)) ≡ above
-        → IsCovered limits (replace_needing above limits rows values book replaced before)
-    replace_covers_needing true is =
-        covers_asked limits rows are_rows (values_of values) before.acts book replaced covers refl
+    replace_taken : (above : Bool)
+        → is_above_last (legs_of limits own_rows before.acts (values_of values)) ≡ above
+        → IsCovered limits (taken_up above limits (offer_of_replace limits request own_rows values)
+        book replaced before)
+    replace_taken true is =
+        covers_asked limits own_rows are_rows (values_of values) before.acts book replaced covers refl
         refl (next_placed asks) tells before.reads raised
-    replace_covers_needing false is =
-        let legs = legs_of limits rows before.acts (values_of values) in
-        covers_at_once limits rows are_rows (values_of values) before.acts book replaced covers refl
+    replace_taken false is =
+        let legs = legs_of limits own_rows before.acts (values_of values) in
+        covers_at_once limits own_rows are_rows (values_of values) before.acts book replaced covers refl
         refl (next_placed asks) tells
         (All-weaker (λ leg. nat_lt leg.old leg.new ≡ false) (λ leg. leg.new ≤ leg.old)
         (λ leg none. not_less leg.old leg.new none) legs
@@ -335,13 +329,14 @@ replace_told limits request book place order values is =
         order.account order.symbol) values given
 
 -- a replace that the book proposes
-replace_covers_on : (limits : LimitsValue) (request : Replace) (values : Proposal)
-    (book : BookValue) (before : Tape) (covers : Covers limits before.acts book) (place : ℕ)
-    → RequestsOn book request.orig place
+replace_covers_on : (limits : LimitsValue) (request : Replace) (rows : OrderRows)
+    (values : Proposal) (book : BookValue) (before : Tape) (covers : Covers limits before.acts book)
+    (place : ℕ) → RequestsOn book request.orig place
     → replace_of book request limits place (slice_get book.orders place) ≡ Ok values
-    → IsCovered limits (replace_at limits request values book before
-    (pair_of_order (order_with book request.orig)))
-replace_covers_on limits request values book before covers place on is =
+    → pair_of_order (order_with book request.orig) ≡ Some (rows.account, rows.symbol)
+    → IsCovered limits (tree_decided limits (offer_of_replace limits request rows values) book
+    (with_replace_pending request limits book) before)
+replace_covers_on limits request rows values book before covers place on is found =
     let told = replace_told limits request book place on.order values
     (ap (replace_of book request limits place) (sym on.found) ∙ is) in
     let next : with_replace_pending request limits book
@@ -351,38 +346,46 @@ replace_covers_on limits request values book before covers place on is =
     let pair : pair_of_order (order_with book request.orig)
     ≡ Some (on.order.account, on.order.symbol) =
     ap (λ p. pair_of_order (order_at book p)) on.at ∙ ap pair_of_order on.found in
-    let own = rows limits book before covers request.orig place on in
-    let above = is_above_last (legs_of limits own before.acts (values_of values)) in
-    subst (λ p. IsCovered limits (replace_at limits request values book before p)) (sym pair)
-    (subst (λ (b : BookValue). IsCovered limits
-    (replace_needing above limits own values book b before)) (sym next)
-    (replace_covers_needing limits book before covers request.orig place on request values told
-    above refl))
+    let own = own_rows limits book before covers request.orig place on in
+    let same : own ≡ rows = ap rows_by (sym pair ∙ found) in
+    subst (λ (r : OrderRows). IsCovered limits (tree_decided limits
+    (offer_of_replace limits request r values) book (with_replace_pending request limits book)
+    before)) same
+    (subst (λ (b : BookValue). IsCovered limits (tree_decided limits
+    (offer_of_replace limits request own values) book b before)) (sym next)
+    (replace_taken limits book before covers request.orig place on request values told
+    (is_above_last (legs_of limits own before.acts (values_of values))) refl))
 
 -- a replace by what stands against it
-replace_covers_by : (limits : LimitsValue) (request : Replace) (values : Proposal)
-    (book : BookValue) (before : Tape) → Covers limits before.acts book
+replace_covers_by : (limits : LimitsValue) (request : Replace) (rows : OrderRows)
+    (values : Proposal) (book : BookValue) (before : Tape) → Covers limits before.acts book
     → (answer : Result ℕ BookFault) → requested book request.id request.orig ≡ answer
     → proposed_at book request limits answer ≡ Ok values
-    → IsCovered limits (replace_at limits request values book before
-    (pair_of_order (order_with book request.orig)))
-replace_covers_by limits request values book before covers (Err why) is given = absurd cc
-replace_covers_by limits request values book before covers (Ok place) is given =
-    replace_covers_on limits request values book before covers place
-    (requests_on book request.id request.orig place is) given
+    → pair_of_order (order_with book request.orig) ≡ Some (rows.account, rows.symbol)
+    → IsCovered limits (tree_decided limits (offer_of_replace limits request rows values) book
+    (with_replace_pending request limits book) before)
+replace_covers_by limits request rows values book before covers (Err why) is given found = absurd cc
+replace_covers_by limits request rows values book before covers (Ok place) is given found =
+    replace_covers_on limits request rows values book before covers place
+    (requests_on book request.id request.orig place is) given found
 
-replace_covers_given : (limits : LimitsValue) (request : Replace) (book : BookValue)
-    (before : Tape) → Covers limits before.acts book → (answer : Result Proposal BookFault)
-    → proposal_of_replace book request limits ≡ answer
-    → IsCovered limits (replace_by limits request book before answer)
-replace_covers_given limits request book before covers (Err why) is = covers
-replace_covers_given limits request book before covers (Ok values) is =
-    replace_covers_by limits request values book before covers
-    (requested book request.id request.orig) refl is
+pub replace_covers : (limits : LimitsValue) (request : Replace) (screens : List ScreenValue)
+    (book : BookValue) (before : Tape) → Covers limits before.acts book
+    → IsCovered limits (replace_screened limits request screens book before)
+replace_covers limits request screens book before covers =
+    let next = with_replace_pending request limits book in
+    decided_is limits screens (λ offer. next) book before (IsCovered limits) (λ why. covers)
+    (replace_offer limits request book)
+    (λ offer is.
+    let comes = comes_of_replace limits request book offer is in
+    subst (λ (o : Offer). IsCovered limits (tree_decided limits o book next before)) (sym comes.is)
+    (replace_covers_by limits request offer.rows offer.values book before covers
+    (requested book request.id request.orig) refl comes.proposes.proposed comes.proposes.found))
 
-pub replace_covers : (limits : LimitsValue) (request : Replace) (book : BookValue) (before : Tape)
-    → Covers limits before.acts book
-    → IsCovered limits (replace_decided limits request book before)
-replace_covers limits request book before covers =
-    replace_covers_given limits request book before covers
-    (proposal_of_replace book request limits) refl
+-- a cancel that the book proposed is committed
+pub sent_cancel_covers : (limits : LimitsValue) (request : Cancel) (acts : List Act)
+    (book : BookValue) (nothing : Unit {0}) → Ok nothing ≡ proposal_of_cancel book request
+    → Covers limits acts book → Covers limits acts (with_cancel_pending request book)
+sent_cancel_covers limits request acts book nothing is covers =
+    subst (IsCovered limits) (ap (cancel_by request book (tape acts [])) (sym is))
+    (cancel_covers limits request book (tape acts []) covers)

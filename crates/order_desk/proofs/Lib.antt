@@ -1,13 +1,10 @@
-pub mod BehindScreens
 pub mod Covers
 pub mod DecidedCovers
 pub mod Deciding
+pub mod Desks
 pub mod HaltKept
-pub mod KnownRows
+pub mod Offered
 pub mod Places
 pub mod ReportedCovers
-pub mod ScreenRefusals
 pub mod Sending
-pub mod Settling
 pub mod TreeValues
-pub mod WithinCap

@@ -1,6 +1,7 @@
--- Among different names a name has one place, which is that of a row.
-use Rattle.std.proofs.Common.{◌≡◌, ℕ, zero, suc, ◌+◌, ◌<◌, List, [], ◌∷◌, length}
-use Rattle.std.proofs.Common.{refl, sym, ap, ◌∙◌, arith, true, false, Option, Some, None}
+-- Where names stand among the rows of the limits: among different names a name has one place, which is
+-- that of a row.
+use Rattle.std.proofs.Common.{◌≡◌, ℕ, zero, suc, ◌+◌, ◌<◌, List, [], ◌∷◌, length, Bool, cond}
+use Rattle.std.proofs.Common.{refl, sym, ap, ◌∙◌, arith, true, false, Option, Some, None, Ok}
 use Rattle.std.specs.Prelude.{slice_get}
 use Rattle.std.specs.Option.{option_map}
 use Rattle.std.specs.List.{IsDistinct, AllByRecursion}
@@ -10,13 +11,37 @@ use Rattle.std.proofs.lemmas.Bool.{false_from_ne_true, true≢false}
 use Rattle.std.proofs.lemmas.List.{length-map}
 use Rattle.std.proofs.lemmas.Map.Keys.{IsDistinct-head, IsDistinct-tail}
 use Rattle.std.proofs.lemmas.Slice.Eq.{bytes_eq-Decides}
+use Rattle.fix_orders.specs.declared.message.NewOrder.{NewOrder}
+use Rattle.limit_table.specs.Files.{IsHeldByFile}
 use Rattle.limit_table.specs.Kinds.{same_text}
 use Rattle.limit_table.specs.Places.{IsPlaceOf, account_names, symbol_names}
-use Rattle.limit_table.specs.Files.{IsHeldByFile}
+use Rattle.limit_table.specs.Trees.{LimitsValue}
 use Rattle.limit_table.proofs.FileLimits.{held_is_file_limits}
-use Rattle.hand_acts.specs.Trees.{LimitsValue}
-use Rattle.order_desk.specs.Rows.{place_among}
-use Rattle.order_desk.proofs.KnownRows.{within}
+use Rattle.admit_core.specs.declared.rows.OrderRows.{OrderRows}
+use Rattle.admit_core.specs.Legs.{AreRowsOf}
+use Rattle.order_desk.specs.Rows.{place_among, rows_at, rows_of}
+
+by_option : (place : ℕ) (later : Option ℕ) → option_map (λ p. p + 1) later ≡ Some place
+    → (before : ℕ) × (later ≡ Some before) × (place ≡ before + 1)
+by_option place None is = absurd cc
+by_option place (Some before) is = (before, refl, cc)
+
+within_by : (test : Bool) (own name : List ℕ) (names : List (List ℕ)) (place : ℕ)
+    → ((before : ℕ) → place_among name names ≡ Some before → before < length names)
+    → cond test (Some 0) (option_map (λ p. p + 1) (place_among name names)) ≡ Some place
+    → place < length (own ∷ names)
+within_by true own name names place earlier is =
+    let at : 0 ≡ place = cc in omega (arith, at)
+within_by false own name names place earlier is =
+    let before = by_option place (place_among name names) is in
+    omega (arith, earlier before.0 before.1, before.2)
+
+-- a place is within the names
+pub within : (names : List (List ℕ)) (name : List ℕ) (place : ℕ)
+    → place_among name names ≡ Some place → place < length names
+within [] name place is = absurd cc
+within (own ∷ names) name place is =
+    within_by (bytes_eq own name) own name names place (within names name) is
 
 -- a name
 abbrev Name : Type 0
@@ -94,3 +119,30 @@ symbol_within limits name place held at =
           (sym (symbol_is limits name (Some place) held at)),
       length-map limits.symbols (λ row. row.name),
     )
+
+-- both places of known rows
+places_of_rows : (account symbol : Option ℕ) (rows : OrderRows) → rows_at account symbol ≡ Ok rows
+    → (account ≡ Some rows.account) × (symbol ≡ Some rows.symbol)
+places_of_rows None symbol rows is = absurd cc
+places_of_rows (Some account) None rows is = absurd cc
+places_of_rows (Some account) (Some symbol) rows is =
+    let both : record { account = account; symbol = symbol } ≡ rows = cc in
+    (ap (λ (r : OrderRows). Some r.account) both, ap (λ (r : OrderRows). Some r.symbol) both)
+
+pub known_rows : (limits : LimitsValue) (order : NewOrder) (rows : OrderRows)
+    → rows_of limits order ≡ Ok rows → AreRowsOf limits rows
+known_rows limits order rows is =
+    let both = places_of_rows (place_among order.account (account_names limits.accounts))
+    (place_among order.symbol (symbol_names limits.symbols)) rows is in
+    record {
+      account = omega (
+        arith,
+        within (account_names limits.accounts) order.account rows.account both.0,
+        length-map limits.accounts (λ row. row.name),
+      );
+      symbol = omega (
+        arith,
+        within (symbol_names limits.symbols) order.symbol rows.symbol both.1,
+        length-map limits.symbols (λ row. row.name),
+      );
+    }

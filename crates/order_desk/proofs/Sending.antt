@@ -1,41 +1,39 @@
 -- An order is sent exactly where the roots allow it, and what raises no value is sent at once.
 use Rattle.std.proofs.Common.{◌≡◌, ℕ, ◌≤◌, List, [], ◌∷◌, refl, sym, ap, ◌∙◌, arith}
 use Rattle.std.proofs.Common.{Bool, true, false, cond, Result, Ok, Err}
-use Rattle.std.specs.Prelude.{Option, Some, None, IsOk, nat_lt, ◌↔◌}
+use Rattle.std.specs.Prelude.{None, IsOk, nat_lt, ◌↔◌}
 use Rattle.std.proofs.lemmas.Bool.Decides.{nat_tests}
 use Rattle.fix_orders.specs.declared.message.NewOrder.{NewOrder}
 use Rattle.fix_orders.specs.declared.message.Cancel.{Cancel}
 use Rattle.fix_orders.specs.declared.message.Replace.{Replace}
+use Rattle.limit_table.specs.Trees.{LimitsValue, account_tree, symbol_tree}
 use Rattle.exposure_book.specs.declared.answer.BookFault.{BookFault}
 use Rattle.exposure_book.specs.declared.answer.Proposal.{Proposal}
 use Rattle.exposure_book.specs.Books.{BookValue}
-use Rattle.exposure_book.specs.Commits.{with_new, with_cancel_pending, with_replace_pending}
+use Rattle.exposure_book.specs.Commits.{with_cancel_pending, with_replace_pending}
 use Rattle.exposure_book.specs.Proposals.{proposal_of_cancel}
-use Rattle.screen_kit.specs.declared.order.Order.{Order}
 use Rattle.screen_kit.specs.Screens.{ScreenValue}
 use Rattle.screen_kit.specs.Sets.{first_code}
-use Rattle.admit_core.specs.declared.ask.Verdict.{Verdict}
-use Rattle.admit_core.specs.declared.ask.Verdict.TheVariants as verdict
 use Rattle.risk_journal.specs.declared.acts.Act.{Act}
 use Rattle.risk_journal.specs.ActLists.{SeenAt}
-use Rattle.hand_acts.specs.declared.rows.OrderRows.{OrderRows}
-use Rattle.hand_acts.specs.Asking.{is_short, verdict_of}
-use Rattle.hand_acts.specs.Legs.{legs_of}
-use Rattle.hand_acts.specs.Tapes.{Tape}
-use Rattle.hand_acts.specs.Trees.{LimitsValue, account_tree, symbol_tree}
-use Rattle.order_desk.specs.Decisions.{Decision, asked_for, new_at, new_by, new_decided}
-use Rattle.order_desk.specs.Decisions.{cancel_by, cancel_decided, sent_at_once}
-use Rattle.order_desk.specs.Decisions.{is_above_last, replace_needing, replace_at, replace_by}
-use Rattle.order_desk.specs.Decisions.{replace_decided}
+use Rattle.admit_core.specs.declared.ask.Verdict.{Verdict}
+use Rattle.admit_core.specs.declared.ask.Verdict.TheVariants as verdict
+use Rattle.admit_core.specs.declared.rows.OrderRows.{OrderRows}
+use Rattle.admit_core.specs.Asking.{is_short, verdict_of}
+use Rattle.admit_core.specs.Legs.{Leg, legs_of}
+use Rattle.admit_core.specs.Tapes.{Tape}
+use Rattle.order_desk.specs.declared.offer.Offer.{Offer}
+use Rattle.order_desk.specs.declared.refusal.Refusal.{Refusal}
+use Rattle.order_desk.specs.Decisions.{cancel_by, cancel_decided, decided_on, is_above_last, new_next}
+use Rattle.order_desk.specs.Decisions.{new_screened, offer_legs, replace_screened, screened}
+use Rattle.order_desk.specs.Decisions.{sent_at_once, taken_up, tree_decided}
+use Rattle.order_desk.specs.Offers.{new_offer, new_seen, replace_offer, replace_seen}
 use Rattle.order_desk.specs.Refusals.{refusal_by, refusal_by_code}
-use Rattle.order_desk.specs.Rows.{upper_price}
-use Rattle.order_desk.specs.Screening.{new_seen, new_to_screen, new_to_screen_at}
-use Rattle.order_desk.specs.Screening.{new_to_screen_by, new_screened, replace_to_screen}
-use Rattle.order_desk.specs.Screening.{replace_seen, replace_to_screen_at, replace_to_screen_by}
-use Rattle.order_desk.specs.Screening.{replace_screened, refusal_by_screens, screened}
 use Rattle.order_desk.specs.Sending.{ProposesNew, ProposesReplace, RootsAllow, root_read}
 use Rattle.order_desk.specs.Sending.{root_limit}
 use Rattle.order_desk.specs.Values.{values_of}
+use Rattle.order_desk.proofs.Offered.{new_is_offered, offer_of_new, offer_of_replace}
+use Rattle.order_desk.proofs.Offered.{replace_is_offered}
 
 -- the verdict by whether somebody has halted, and whether each root is above its limit
 abbrev verdict_by : Bool → Bool → Bool → Bool → Verdict
@@ -62,15 +60,6 @@ at_most limit root not_above = grind (arith, nat_tests)
 
 not_above : (limit root : ℕ) → root ≤ limit → nat_lt limit root ≡ false
 not_above limit root within = grind (arith, nat_tests)
-
--- where the screens give no code, what is decided without them stands
-unscreened : (screens : List ScreenValue) (book : BookValue) (before : Tape)
-    (decision : Decision) (seen : Option Order) (order : Order)
-    → seen ≡ Some order → first_code order screens ≡ 0
-    → screened (refusal_by_screens screens seen) book before decision ≡ decision
-unscreened screens book before decision seen order is no_code =
-    ap (λ (s : Option Order). screened (refusal_by_screens screens s) book before decision) is
-    ∙ ap (λ (code : ℕ). screened (refusal_by_code code) book before decision) no_code
 
 module _ (limits : LimitsValue) (rows : OrderRows) where
   -- the verdict by the tests of the four roots
@@ -115,111 +104,67 @@ module _ (limits : LimitsValue) (rows : OrderRows) where
             ),
       )
 
-  -- where two posts are left in each tree, what is asked about is sent exactly so
-  asked_is_sent : (values : Proposal) (book next : BookValue) (before : Tape)
-      → is_short limits before.acts (legs_of limits rows before.acts (values_of values)) ≡ false
-      → ((asked_for limits rows values book next before).refusal ≡ None)
+-- where two posts are left in each tree, what is asked about is sent exactly so
+asked_is_sent : (limits : LimitsValue) (offer : Offer) (book next : BookValue) (before : Tape)
+    → is_short limits before.acts (offer_legs limits offer before.acts) ≡ false
+    → ((taken_up true limits offer book next before).refusal ≡ None)
+    ↔ RootsAllow limits offer.rows before.reads
+asked_is_sent limits offer book next before enough =
+    rw enough (allowed limits offer.rows before.acts (values_of offer.values) before.reads)
+
+module _ (limits : LimitsValue) (rows : OrderRows) (values : Proposal) (book : BookValue)
+    (before : Tape) (screens : List ScreenValue) where
+  abbrev legs : List Leg
+  legs = legs_of limits rows before.acts (values_of values)
+
+  -- what no screen refuses is for the trees to decide
+  unscreened : (offer : Offer) (next : Offer → BookValue) (offered : Result Offer Refusal)
+      → offered ≡ Ok offer → first_code offer.seen screens ≡ 0
+      → decided_on limits screens next book before offered
+      ≡ tree_decided limits offer book (next offer) before
+  unscreened offer next offered is no_code =
+      ap (decided_on limits screens next book before) is
+      ∙ ap (λ (code : ℕ). screened (refusal_by_code code) book before
+      (tree_decided limits offer book (next offer) before)) no_code
+
+  -- an order that the book proposes
+  pub new_is_sent : (order : NewOrder) → ProposesNew limits order rows values book
+      → first_code (new_seen limits order rows) screens ≡ 0
+      → is_short limits before.acts legs ≡ false
+      → ((new_screened limits order screens book before).refusal ≡ None)
       ↔ RootsAllow limits rows before.reads
-  asked_is_sent values book next before enough =
-      rw enough (allowed before.acts (values_of values) before.reads)
+  new_is_sent order is no_code enough =
+      let offer = offer_of_new limits order rows values in
+      rw (unscreened offer (new_next order book) (new_offer limits order book)
+      (new_is_offered limits order book rows values is) no_code)
+      (asked_is_sent limits offer book (new_next order book offer) before enough)
 
-  module _ (values : Proposal) (book : BookValue) (before : Tape) where
-    -- an order that the book proposes is asked about
-    new_is_asked : (order : NewOrder) → ProposesNew limits order rows values book
-        → new_decided limits order book before
-        ≡ asked_for limits rows values book
-        (with_new order rows.account rows.symbol (upper_price limits rows) book) before
-    new_is_asked order is =
-        ap (new_at limits order book before) is.found
-        ∙ ap (new_by limits order rows book before) is.proposed
+  -- a replace that the book proposes
+  module _ (request : Replace) (is : ProposesReplace limits request rows values book)
+      (no_code : first_code (replace_seen limits request rows) screens ≡ 0) where
+    abbrev next : BookValue
+    next = with_replace_pending request limits book
 
-    new_is_sent : (order : NewOrder) → ProposesNew limits order rows values book
-        → is_short limits before.acts (legs_of limits rows before.acts (values_of values)) ≡ false
-        → ((new_decided limits order book before).refusal ≡ None)
+    -- by whether one of its values is above what was last posted
+    replace_is : (above : Bool) → is_above_last legs ≡ above
+        → replace_screened limits request screens book before
+        ≡ taken_up above limits (offer_of_replace limits request rows values) book next before
+    replace_is above needs =
+        let offer = offer_of_replace limits request rows values in
+        unscreened offer (λ o. next) (replace_offer limits request book)
+        (replace_is_offered limits request book rows values is) no_code
+        ∙ ap (λ (b : Bool). taken_up b limits offer book next before) needs
+
+    pub replace_is_sent : is_above_last legs ≡ true → is_short limits before.acts legs ≡ false
+        → ((replace_screened limits request screens book before).refusal ≡ None)
         ↔ RootsAllow limits rows before.reads
-    new_is_sent order is enough =
-        rw (new_is_asked order is) (asked_is_sent values book
-        (with_new order rows.account rows.symbol (upper_price limits rows) book) before enough)
+    replace_is_sent above enough =
+        rw (replace_is true above) (asked_is_sent limits
+        (offer_of_replace limits request rows values) book next before enough)
 
-    -- a replace that the book proposes is asked about where one of its values needs it
-    replace_is : (request : Replace) (above : Bool)
-        → ProposesReplace limits request rows values book
-        → is_above_last (legs_of limits rows before.acts (values_of values)) ≡ above
-        → replace_decided limits request book before
-        ≡ replace_needing above limits rows values book
-        (with_replace_pending request limits book) before
-    replace_is request above is needs =
-        ap (replace_by limits request book before) is.proposed
-        ∙ ap (replace_at limits request values book before) is.found
-        ∙ ap (λ (b : Bool). replace_needing b limits rows values book
-        (with_replace_pending request limits book) before) needs
-
-    replace_is_sent : (request : Replace) → ProposesReplace limits request rows values book
-        → is_above_last (legs_of limits rows before.acts (values_of values)) ≡ true
-        → is_short limits before.acts (legs_of limits rows before.acts (values_of values)) ≡ false
-        → ((replace_decided limits request book before).refusal ≡ None)
-        ↔ RootsAllow limits rows before.reads
-    replace_is_sent request is above enough =
-        rw (replace_is request true is above) (asked_is_sent values book
-        (with_replace_pending request limits book) before enough)
-
-    replace_at_once : (request : Replace) → ProposesReplace limits request rows values book
-        → is_above_last (legs_of limits rows before.acts (values_of values)) ≡ false
-        → replace_decided limits request book before
-        ≡ sent_at_once (with_replace_pending request limits book) before
-    replace_at_once request is within = replace_is request false is within
-
-    module _ (screens : List ScreenValue) where
-      -- no screen refuses the order: it is decided on without them
-      new_unscreened : (order : NewOrder) → ProposesNew limits order rows values book
-          → first_code (new_seen limits order rows) screens ≡ 0
-          → new_screened limits order screens book before ≡ new_decided limits order book before
-      new_unscreened order is no_code =
-          unscreened screens book before (new_decided limits order book before)
-          (new_to_screen limits order book) (new_seen limits order rows)
-          (ap (new_to_screen_at limits order book) is.found
-          ∙ ap (new_to_screen_by limits order rows) is.proposed) no_code
-
-      pub new_is_sent_behind : (order : NewOrder) → ProposesNew limits order rows values book
-          → first_code (new_seen limits order rows) screens ≡ 0
-          → is_short limits before.acts (legs_of limits rows before.acts (values_of values))
-          ≡ false
-          → ((new_screened limits order screens book before).refusal ≡ None)
-          ↔ RootsAllow limits rows before.reads
-      new_is_sent_behind order is no_code enough =
-          rw (new_unscreened order is no_code) (new_is_sent order is enough)
-
-      -- no screen refuses the replace: it is decided on without them
-      replace_unscreened : (request : Replace)
-          → ProposesReplace limits request rows values book
-          → first_code (replace_seen limits request rows) screens ≡ 0
-          → replace_screened limits request screens book before
-          ≡ replace_decided limits request book before
-      replace_unscreened request is no_code =
-          unscreened screens book before (replace_decided limits request book before)
-          (replace_to_screen limits request book) (replace_seen limits request rows)
-          (ap (replace_to_screen_by limits request book) is.proposed
-          ∙ ap (replace_to_screen_at limits request) is.found) no_code
-
-      pub replace_is_sent_behind : (request : Replace)
-          → ProposesReplace limits request rows values book
-          → first_code (replace_seen limits request rows) screens ≡ 0
-          → is_above_last (legs_of limits rows before.acts (values_of values)) ≡ true
-          → is_short limits before.acts (legs_of limits rows before.acts (values_of values))
-          ≡ false
-          → ((replace_screened limits request screens book before).refusal ≡ None)
-          ↔ RootsAllow limits rows before.reads
-      replace_is_sent_behind request is no_code above enough =
-          rw (replace_unscreened request is no_code) (replace_is_sent request is above enough)
-
-      pub replace_at_once_behind : (request : Replace)
-          → ProposesReplace limits request rows values book
-          → first_code (replace_seen limits request rows) screens ≡ 0
-          → is_above_last (legs_of limits rows before.acts (values_of values)) ≡ false
-          → replace_screened limits request screens book before
-          ≡ sent_at_once (with_replace_pending request limits book) before
-      replace_at_once_behind request is no_code within =
-          replace_unscreened request is no_code ∙ replace_at_once request is within
+    pub replace_at_once : is_above_last legs ≡ false
+        → replace_screened limits request screens book before ≡ sent_at_once next before
+    replace_at_once within = replace_is false within
 
 cancel_by_proposal : (request : Cancel) (book : BookValue) (before : Tape)
     (proposed : Result (Unit {0}) BookFault) → IsOk proposed

@@ -8,48 +8,23 @@ use Rattle.std.proofs.lemmas.Bool.Decides.{nat_tests}
 use Rattle.std.proofs.lemmas.List.Sums.{sum_by_push}
 use Rattle.exposure_book.specs.declared.order.Order.{Order}
 use Rattle.exposure_book.specs.Orders.{exposure_of, Lowers}
-use Rattle.exposure_book.specs.Books.{units_up, firm_sum, account_sum, symbol_sum, account_part}
+use Rattle.exposure_book.specs.Books.{units_up, account_sum, symbol_sum, account_part}
 use Rattle.exposure_book.specs.Books.{symbol_part}
 use Rattle.exposure_book.proofs.Sums.{part-le-sum, sum-set}
-use Rattle.hand_acts.specs.Trees.{LimitsValue, account_tree, symbol_tree}
-use Rattle.order_desk.specs.Values.{exposure_in, row_exposure, value_in}
+use Rattle.limit_table.specs.Trees.{LimitsValue, account_tree, symbol_tree}
+use Rattle.order_desk.specs.Values.{part_in, value_in}
 use Rattle.exposure_book.proofs.Lowered.{units_up-le}
-
--- what an order counts for in a tree
-abbrev pub part_in : LimitsValue → ℕ → Order → ℕ
-part_in limits tree order =
-    if tree == 0 then exposure_of order
-    else (if nat_le (length limits.accounts) (tree - 1)
-    then symbol_part (tree - 1 - length limits.accounts) order
-    else account_part (tree - 1) order)
-
--- the exposure in a tree is the sum of the parts
-pub exposure_in-sum : (limits : LimitsValue) (tree : ℕ) (orders : List Order)
-    → exposure_in limits tree orders ≡ sum_by (part_in limits tree) orders
-exposure_in-sum limits tree orders =
-    by_tests (tree == 0) (nat_le (length limits.accounts) (tree - 1))
-  where
-    by_tests : (firm symbol : Bool)
-        → cond firm (firm_sum orders)
-        (cond symbol (symbol_sum (tree - 1 - length limits.accounts) orders)
-        (account_sum (tree - 1) orders))
-        ≡ sum_by (λ order. cond firm (exposure_of order)
-        (cond symbol (symbol_part (tree - 1 - length limits.accounts) order)
-        (account_part (tree - 1) order))) orders
-    by_tests true symbol = refl
-    by_tests false true = refl
-    by_tests false false = refl
-
--- the value in the firm's tree
-pub value_in-firm : (limits : LimitsValue) (orders : List Order)
-    → value_in limits 0 orders ≡ units_up (firm_sum orders)
-value_in-firm limits orders = refl
 
 not_within : (m n : ℕ) → n < m → nat_le m n ≡ false
 not_within m n less = grind (arith, nat_tests)
 
 is_within : (m n : ℕ) → m ≤ n → nat_le m n ≡ true
 is_within m n less = grind (arith, nat_tests)
+
+-- what an order counts for in a tree that isn't the firm's, by its place past that
+abbrev row_part : ℕ → ℕ → Order → ℕ
+row_part accounts row order =
+    if nat_le accounts row then symbol_part (row - accounts) order else account_part row order
 
 -- the value in an account's tree
 pub value_in-account : (limits : LimitsValue) (account : ℕ) (orders : List Order)
@@ -61,10 +36,11 @@ value_in-account limits account orders inside =
     let apart : (tree == 0) ≡ false = ne_eqb tree 0 (λ e. absurd (omega (arith, e))) in
     let row : tree - 1 ≡ account = omega arith in
     let below = not_within accounts account inside in
-    ap (λ b. units_up (cond b (firm_sum orders) (row_exposure accounts (tree - 1) orders))) apart
-    ∙ ap (λ n. units_up (row_exposure accounts n orders)) row
-    ∙ ap (λ b. units_up (cond b (symbol_sum (account - accounts) orders)
-    (account_sum account orders))) below
+    ap (λ b. units_up (sum_by (λ o. cond b (exposure_of o) (row_part accounts (tree - 1) o)) orders))
+    apart
+    ∙ ap (λ n. units_up (sum_by (row_part accounts n) orders)) row
+    ∙ ap (λ b. units_up (sum_by (λ o. cond b (symbol_part (account - accounts) o)
+    (account_part account o)) orders)) below
 
 -- the value in a symbol's tree
 pub value_in-symbol : (limits : LimitsValue) (symbol : ℕ) (orders : List Order)
@@ -76,15 +52,16 @@ value_in-symbol limits symbol orders =
     let row : tree - 1 ≡ accounts + symbol = omega arith in
     let place : accounts + symbol - accounts ≡ symbol = omega arith in
     let above = is_within accounts (accounts + symbol) (omega arith) in
-    ap (λ b. units_up (cond b (firm_sum orders) (row_exposure accounts (tree - 1) orders))) apart
-    ∙ ap (λ n. units_up (row_exposure accounts n orders)) row
-    ∙ ap (λ b. units_up (cond b (symbol_sum (accounts + symbol - accounts) orders)
-    (account_sum (accounts + symbol) orders))) above
+    ap (λ b. units_up (sum_by (λ o. cond b (exposure_of o) (row_part accounts (tree - 1) o)) orders))
+    apart
+    ∙ ap (λ n. units_up (sum_by (row_part accounts n) orders)) row
+    ∙ ap (λ b. units_up (sum_by (λ o. cond b (symbol_part (accounts + symbol - accounts) o)
+    (account_part (accounts + symbol) o)) orders)) above
     ∙ ap (λ n. units_up (symbol_sum n orders)) place
 
 -- no order is worth anything
 pub value_in-none : (limits : LimitsValue) (tree : ℕ) → value_in limits tree [] ≡ 0
-value_in-none limits tree = ap units_up (exposure_in-sum limits tree [])
+value_in-none limits tree = refl
 
 -- a tree past the firm's, by the one before it
 past_none : (tree after : ℕ) → (tree ≡ 0 → ⊥) → tree - 1 ≡ after → tree ≡ 1 + after
@@ -154,70 +131,48 @@ part_in-le limits tree old new lowers =
 pub value_in-push_le : (limits : LimitsValue) (tree : ℕ) (orders : List Order) (order : Order)
     → value_in limits tree orders ≤ value_in limits tree (orders ++ order ∷ [])
 value_in-push_le limits tree orders order =
-    units_up-le (exposure_in limits tree orders) (exposure_in limits tree (orders ++ order ∷ []))
-    (omega (
-      arith,
-      exposure_in-sum limits tree orders,
-      exposure_in-sum limits tree (orders ++ order ∷ []),
-      sum_by_push (part_in limits tree) orders order,
-    ))
+    units_up-le _ _ (omega (arith, sum_by_push (part_in limits tree) orders order))
 
 -- one order more, in a tree in which it doesn't count
 pub value_in-push_other : (limits : LimitsValue) (tree : ℕ) (orders : List Order) (order : Order)
     → IsOtherTree limits order.account order.symbol tree
     → value_in limits tree (orders ++ order ∷ []) ≡ value_in limits tree orders
 value_in-push_other limits tree orders order other =
-    let same : exposure_in limits tree (orders ++ order ∷ []) ≡ exposure_in limits tree orders =
-    omega (
+    ap units_up (omega (
       arith,
-      exposure_in-sum limits tree orders,
-      exposure_in-sum limits tree (orders ++ order ∷ []),
       sum_by_push (part_in limits tree) orders order,
       part_in-other limits tree order other,
-    ) in
-    ap units_up same
+    ))
 
 -- an order takes the place of another
 module _ (limits : LimitsValue) (tree : ℕ) (orders : List Order) (place : ℕ) (old new : Order)
     (found : slice_get orders place ≡ Some old) where
-  set_is : exposure_in limits tree (slice_set orders place new)
-      ≡ exposure_in limits tree orders - part_in limits tree old + part_in limits tree new
-  set_is =
-      exposure_in-sum limits tree (slice_set orders place new)
-      ∙ sum-set (part_in limits tree) orders place old found new
-      ∙ ap (λ n. n - part_in limits tree old + part_in limits tree new)
-      (sym (exposure_in-sum limits tree orders))
+  abbrev worth : List Order → ℕ
+  worth own = sum_by (part_in limits tree) own
 
-  part_within : part_in limits tree old ≤ exposure_in limits tree orders
-  part_within = omega (
-    arith,
-    part-le-sum (part_in limits tree) orders place old found,
-    exposure_in-sum limits tree orders,
-  )
+  set_is : worth (slice_set orders place new)
+      ≡ worth orders - part_in limits tree old + part_in limits tree new
+  set_is = sum-set (part_in limits tree) orders place old found new
+
+  part_within : part_in limits tree old ≤ worth orders
+  part_within = part-le-sum (part_in limits tree) orders place old found
 
   -- that counts for no more
   pub value_in-set_le : Lowers old new
       → value_in limits tree (slice_set orders place new) ≤ value_in limits tree orders
   value_in-set_le lowers =
-      units_up-le (exposure_in limits tree (slice_set orders place new))
-      (exposure_in limits tree orders)
-      (omega (arith, set_is, part_within, part_in-le limits tree old new lowers))
+      units_up-le _ _ (omega (arith, set_is, part_within, part_in-le limits tree old new lowers))
 
   -- that counts for no less
   pub value_in-set_ge : Lowers new old
       → value_in limits tree orders ≤ value_in limits tree (slice_set orders place new)
   value_in-set_ge lowers =
-      units_up-le (exposure_in limits tree orders)
-      (exposure_in limits tree (slice_set orders place new))
-      (omega (arith, set_is, part_within, part_in-le limits tree new old lowers))
+      units_up-le _ _ (omega (arith, set_is, part_within, part_in-le limits tree new old lowers))
 
   -- that counts for the same there
   value_in-set_same : part_in limits tree new ≡ part_in limits tree old
       → value_in limits tree (slice_set orders place new) ≡ value_in limits tree orders
-  value_in-set_same same =
-      let is : exposure_in limits tree (slice_set orders place new)
-      ≡ exposure_in limits tree orders = omega (arith, set_is, part_within, same) in
-      ap units_up is
+  value_in-set_same same = ap units_up (omega (arith, set_is, part_within, same))
 
   -- of the same account and symbol, in a tree in which neither counts
   pub value_in-set_other : new.account ≡ old.account → new.symbol ≡ old.symbol

@@ -4,8 +4,8 @@ use Rattle.exposure_book.specs.Books.{BookValue}
 use Rattle.exposure_book.specs.Totals.{IsPlaced}
 use Rattle.risk_journal.specs.declared.acts.Act.{Act}
 use Rattle.risk_journal.specs.ActLists.{posts_in, last_post}
-use Rattle.hand_acts.specs.Admitted.{AdmitsLast}
-use Rattle.hand_acts.specs.Trees.{LimitsValue, halt_tree}
+use Rattle.admit_core.specs.Admitted.{AdmitsLast}
+use Rattle.limit_table.specs.Trees.{LimitsValue, halt_tree}
 use Rattle.order_desk.specs.Values.{value_in}
 
 -- In a tree the orders are worth at most what was last posted, and just that while a post is left.

@@ -1,27 +1,27 @@
 -- What is decided on an order, a cancel and a replace, as a function of the book, the acts and the
 -- reads.
 use Rattle.std.specs.Prelude.{◌≡◌, ℕ, List, ◌++◌, Option, Some, None, Result, Ok, Err, Bool}
-use Rattle.std.specs.Prelude.{true, false, nat_lt}
+use Rattle.std.specs.Prelude.{[], true, false, ◌||◌, nat_lt}
 use Rattle.std.specs.List.{list_any}
 use Rattle.fix_orders.specs.declared.message.NewOrder.{NewOrder}
 use Rattle.fix_orders.specs.declared.message.Cancel.{Cancel}
 use Rattle.fix_orders.specs.declared.message.Replace.{Replace}
+use Rattle.limit_table.specs.Trees.{LimitsValue}
 use Rattle.exposure_book.specs.declared.answer.BookFault.{BookFault}
-use Rattle.exposure_book.specs.declared.answer.Proposal.{Proposal}
-use Rattle.exposure_book.specs.Books.{BookValue, order_with, pair_of_order}
-use Rattle.exposure_book.specs.Proposals.{proposal_of_new, proposal_of_cancel, proposal_of_replace}
+use Rattle.exposure_book.specs.Books.{BookValue}
+use Rattle.exposure_book.specs.Proposals.{proposal_of_cancel}
 use Rattle.exposure_book.specs.Commits.{with_new, with_cancel_pending, with_replace_pending}
 use Rattle.risk_journal.specs.declared.acts.Act.{Act}
 use Rattle.risk_journal.specs.ActLists.{SeenAt, reads_of}
-use Rattle.hand_acts.specs.declared.rows.OrderRows.{OrderRows}
-use Rattle.hand_acts.specs.Asking.{Asked, asking}
-use Rattle.hand_acts.specs.Legs.{Leg, legs_of}
-use Rattle.hand_acts.specs.Tapes.{Tape, tape}
-use Rattle.hand_acts.specs.Trees.{LimitsValue}
+use Rattle.screen_kit.specs.Screens.{ScreenValue}
+use Rattle.screen_kit.specs.Sets.{first_code, after_asking}
+use Rattle.admit_core.specs.Asking.{Asked, asking}
+use Rattle.admit_core.specs.Legs.{Leg, legs_of}
+use Rattle.admit_core.specs.Tapes.{Tape, tape}
+use Rattle.order_desk.specs.declared.offer.Offer.{Offer}
 use Rattle.order_desk.specs.declared.refusal.Refusal.{Refusal}
-use Rattle.order_desk.specs.declared.refusal.Refusal.TheVariants as refusal
-use Rattle.order_desk.specs.Refusals.{refusal_by, refusal_of}
-use Rattle.order_desk.specs.Rows.{rows_of, upper_price}
+use Rattle.order_desk.specs.Offers.{new_offer, replace_offer}
+use Rattle.order_desk.specs.Refusals.{refusal_by, refusal_of, refusal_by_code}
 use Rattle.order_desk.specs.Values.{values_of}
 
 -- what was decided: why the request is refused, if it is, the acts by then, and the book
@@ -34,7 +34,11 @@ pub record Decision : Type 0 where
 abbrev pub refused : Refusal → BookValue → Tape → Decision
 refused why book before = record { refusal = Some why; tape = before; book = book }
 
--- the trees were asked: the request is committed where they refuse nothing
+-- sent without a post or a read
+abbrev pub sent_at_once : BookValue → Tape → Decision
+sent_at_once next before = record { refusal = None; tape = before; book = next }
+
+-- the request is committed where nothing refuses it
 abbrev pub committed : Option Refusal → BookValue → BookValue → BookValue
 committed None book next = next
 committed (Some why) book next = book
@@ -47,35 +51,74 @@ decided_by book next asked = record {
   book = committed (refusal_by asked.verdict) book next;
 }
 
--- the trees of these rows are asked about these values
-abbrev pub asked_for : LimitsValue → OrderRows → Proposal → BookValue → BookValue → Tape → Decision
-asked_for limits rows values book next before =
-    decided_by book next
-    (asking limits (legs_of limits rows before.acts (values_of values)) before)
+-- the legs of what is offered
+abbrev pub offer_legs : LimitsValue → Offer → List Act → List Leg
+offer_legs limits offer acts = legs_of limits offer.rows acts (values_of offer.values)
 
--- an order by what the book proposes
-abbrev pub new_by : LimitsValue → NewOrder → OrderRows → BookValue → Tape
-    → Result Proposal BookFault → Decision
-new_by limits order rows book before (Err fault) = refused (refusal_of fault) book before
-new_by limits order rows book before (Ok values) =
-    asked_for limits rows values book
-    (with_new order rows.account rows.symbol (upper_price limits rows) book) before
+-- one of the new values is above what was last posted in its tree
+abbrev pub is_above_last : List Leg → Bool
+is_above_last legs = list_any (λ leg. nat_lt leg.old leg.new) legs
 
--- an order of these rows, or of none
-abbrev pub new_at : LimitsValue → NewOrder → BookValue → Tape → Result OrderRows Refusal → Decision
-new_at limits order book before (Err why) = refused why book before
-new_at limits order book before (Ok rows) =
-    new_by limits order rows book before
-    (proposal_of_new book order rows.account rows.symbol (upper_price limits rows))
+-- the trees are asked, or the request is sent at once
+abbrev pub taken_up : Bool → LimitsValue → Offer → BookValue → BookValue → Tape → Decision
+taken_up false limits offer book next before = sent_at_once next before
+taken_up true limits offer book next before =
+    decided_by book next (asking limits (offer_legs limits offer before.acts) before)
 
--- what is decided on an order (D) that no screen refuses: an unknown account or symbol, then the
--- book's faults, then what the trees answer
+-- what is decided on an offer that no screen refuses: the trees are asked where that is always so, and
+-- else where a value is above what was last posted
+abbrev pub tree_decided : LimitsValue → Offer → BookValue → BookValue → Tape → Decision
+tree_decided limits offer book next before =
+    taken_up (offer.always || is_above_last (offer_legs limits offer before.acts)) limits offer book
+    next before
+
+-- a screen's refusal comes before what is decided without screens, and then nothing is done
+abbrev pub screened : Option Refusal → BookValue → Tape → Decision → Decision
+screened None book before decision = decision
+screened (Some why) book before decision = refused why book before
+
+-- what is decided on an offer: a screen's code, then what the trees answer
+abbrev pub judged : LimitsValue → List ScreenValue → Offer → BookValue → BookValue → Tape → Decision
+judged limits screens offer book next before =
+    screened (refusal_by_code (first_code offer.seen screens)) book before
+    (tree_decided limits offer book next before)
+
+-- the same where there may be none
+abbrev pub decided_on : LimitsValue → List ScreenValue → (Offer → BookValue) → BookValue → Tape
+    → Result Offer Refusal → Decision
+decided_on limits screens next book before (Err why) = refused why book before
+decided_on limits screens next book before (Ok offer) =
+    judged limits screens offer book (next offer) before
+
+-- the book with the order (D) that is offered
+abbrev pub new_next : NewOrder → BookValue → Offer → BookValue
+new_next order book offer =
+    with_new order offer.rows.account offer.rows.symbol offer.seen.high book
+
+-- what is decided on an order (D): an unknown account or symbol, then the book's faults, then a
+-- screen's code, then what the trees answer
+abbrev pub new_screened : LimitsValue → NewOrder → List ScreenValue → BookValue → Tape → Decision
+new_screened limits order screens book before =
+    decided_on limits screens (new_next order book) book before (new_offer limits order book)
+
+-- the book with the replace (G) pending, whatever its offer
+abbrev pub replace_next : LimitsValue → Replace → BookValue → Offer → BookValue
+replace_next limits request book offer = with_replace_pending request limits book
+
+-- what is decided on a replace (G): the book's faults, then a screen's code, then what the trees
+-- answer where they are asked
+abbrev pub replace_screened : LimitsValue → Replace → List ScreenValue → BookValue → Tape
+    → Decision
+replace_screened limits request screens book before =
+    decided_on limits screens (replace_next limits request book) book before
+    (replace_offer limits request book)
+
+-- what is decided on an order, and on a replace, where there is no screen
 abbrev pub new_decided : LimitsValue → NewOrder → BookValue → Tape → Decision
-new_decided limits order book before = new_at limits order book before (rows_of limits order)
+new_decided limits order book before = new_screened limits order [] book before
 
--- sent without a post or a read
-abbrev pub sent_at_once : BookValue → Tape → Decision
-sent_at_once next before = record { refusal = None; tape = before; book = next }
+abbrev pub replace_decided : LimitsValue → Replace → BookValue → Tape → Decision
+replace_decided limits request book before = replace_screened limits request [] book before
 
 -- a cancel by what the book proposes
 abbrev pub cancel_by : Cancel → BookValue → Tape → Result (Unit {0}) BookFault → Decision
@@ -88,43 +131,10 @@ abbrev pub cancel_decided : Cancel → BookValue → Tape → Decision
 cancel_decided request book before =
     cancel_by request book before (proposal_of_cancel book request)
 
--- one of the new values is above what was last posted in its tree
-abbrev pub is_above_last : List Leg → Bool
-is_above_last legs = list_any (λ leg. nat_lt leg.old leg.new) legs
-
--- a replace within what was posted is sent at once, and another is asked about
-abbrev pub replace_needing : Bool → LimitsValue → OrderRows → Proposal → BookValue → BookValue
-    → Tape → Decision
-replace_needing false limits rows values book next before = sent_at_once next before
-replace_needing true limits rows values book next before =
-    asked_for limits rows values book next before
-
--- a replace of an order of these rows
-abbrev pub replace_in : LimitsValue → Replace → Proposal → BookValue → Tape → OrderRows → Decision
-replace_in limits request values book before rows =
-    replace_needing (is_above_last (legs_of limits rows before.acts (values_of values)))
-    limits rows values book (with_replace_pending request limits book) before
-
--- a replace of the order of this account and symbol
-abbrev pub replace_at : LimitsValue → Replace → Proposal → BookValue → Tape → Option (ℕ × ℕ)
-    → Decision
-replace_at limits request values book before None = refused refusal.Unknown book before
-replace_at limits request values book before (Some pair) =
-    replace_in limits request values book before
-    (record { account = pair.0; symbol = pair.1 })
-
--- a replace by what the book proposes
-abbrev pub replace_by : LimitsValue → Replace → BookValue → Tape → Result Proposal BookFault
-    → Decision
-replace_by limits request book before (Err fault) = refused (refusal_of fault) book before
-replace_by limits request book before (Ok values) =
-    replace_at limits request values book before (pair_of_order (order_with book request.orig))
-
--- what is decided on a replace (G) that no screen refuses: the book's faults, then what the trees
--- answer where they are asked
-abbrev pub replace_decided : LimitsValue → Replace → BookValue → Tape → Decision
-replace_decided limits request book before =
-    replace_by limits request book before (proposal_of_replace book request limits)
+-- the screens after they were asked about what is offered; they aren't asked about what isn't
+abbrev pub screens_after : List ScreenValue → Result Offer Refusal → List ScreenValue
+screens_after screens (Err why) = screens
+screens_after screens (Ok offer) = after_asking offer.seen screens
 
 -- A request was decided on so: by the reads that the acts have, whatever further reads are to come.
 pub record Decides (decide : BookValue → Tape → Decision) (acts acts_after : List Act)

@@ -1,9 +1,10 @@
 pub mod Rows
 pub mod Values
 pub mod Refusals
+pub mod Offers
 pub mod Decisions
-pub mod Screening
 pub mod Reported
 pub mod Backing
+pub mod Desks
 pub mod Halting
 pub mod Sending

@@ -1,5 +1,5 @@
 -- What a report and a cancel reject make of the book and of what is posted.
-use Rattle.std.specs.Prelude.{List, Bool, true, false}
+use Rattle.std.specs.Prelude.{◌≤◌, List, All, Bool, true, false}
 use Rattle.fix_orders.specs.declared.message.Report.{Report}
 use Rattle.fix_orders.specs.declared.message.CancelReject.{CancelReject}
 use Rattle.exposure_book.specs.declared.answer.Applied.{Applied}
@@ -7,9 +7,9 @@ use Rattle.exposure_book.specs.declared.answer.Applied.TheVariants as applied
 use Rattle.exposure_book.specs.Books.{BookValue}
 use Rattle.exposure_book.specs.Reports.{Outcome, outcome_of_report, outcome_of_reject}
 use Rattle.risk_journal.specs.declared.acts.Act.{Act}
-use Rattle.hand_acts.specs.Legs.{legs_of}
-use Rattle.hand_acts.specs.Lowering.{Lowered, lowering}
-use Rattle.hand_acts.specs.Trees.{LimitsValue}
+use Rattle.admit_core.specs.Legs.{AreRowsOf, legs_of}
+use Rattle.admit_core.specs.Lowering.{Lowered, lowering}
+use Rattle.limit_table.specs.Trees.{LimitsValue}
 use Rattle.order_desk.specs.declared.effect.Effect.{Effect}
 use Rattle.order_desk.specs.declared.effect.Effect.TheVariants as effect
 use Rattle.order_desk.specs.Values.{values_told, rows_told}
@@ -42,6 +42,14 @@ settled_with limits book acts applied.Stray =
     record { effect = effect.Stray; acts = acts; book = book }
 settled_with limits book acts applied.Over =
     record { effect = effect.Over; acts = acts; book = book }
+
+-- the answer tells the values of rows of the limits, and none is above what was last posted
+abbrev pub TellsLower : LimitsValue → List Act → Applied → Type 0
+TellsLower limits acts (applied.Applied terms) =
+    AreRowsOf limits (rows_told terms)
+    × All (λ leg. leg.new ≤ leg.old) (legs_of limits (rows_told terms) acts (values_told terms))
+TellsLower limits acts applied.Stray = Unit {0}
+TellsLower limits acts applied.Over = Unit {0}
 
 -- by an outcome
 abbrev pub settled : LimitsValue → BookValue → List Act → Outcome → Settled

@@ -7,8 +7,8 @@ use Rattle.fix_orders.specs.declared.message.NewOrder.{NewOrder}
 use Rattle.limit_table.specs.declared.kind.SymbolRow.{SymbolRow}
 use Rattle.limit_table.specs.Places.{account_names, symbol_names}
 use Rattle.exposure_book.specs.Proposals.{high_of}
-use Rattle.hand_acts.specs.declared.rows.OrderRows.{OrderRows}
-use Rattle.hand_acts.specs.Trees.{LimitsValue}
+use Rattle.admit_core.specs.declared.rows.OrderRows.{OrderRows}
+use Rattle.limit_table.specs.Trees.{LimitsValue}
 use Rattle.order_desk.specs.declared.refusal.Refusal.{Refusal}
 use Rattle.order_desk.specs.declared.refusal.Refusal.TheVariants.{UnknownAccount, UnknownSymbol}
 

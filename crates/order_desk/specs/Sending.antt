@@ -7,9 +7,9 @@ use Rattle.exposure_book.specs.declared.answer.Proposal.{Proposal}
 use Rattle.exposure_book.specs.Books.{BookValue, order_with, pair_of_order}
 use Rattle.exposure_book.specs.Proposals.{proposal_of_new, proposal_of_replace}
 use Rattle.risk_journal.specs.ActLists.{SeenAt}
-use Rattle.hand_acts.specs.declared.rows.OrderRows.{OrderRows}
-use Rattle.hand_acts.specs.Tapes.{next_read}
-use Rattle.hand_acts.specs.Trees.{LimitsValue, tree_limits, account_tree, symbol_tree}
+use Rattle.admit_core.specs.declared.rows.OrderRows.{OrderRows}
+use Rattle.admit_core.specs.Tapes.{next_read}
+use Rattle.limit_table.specs.Trees.{LimitsValue, tree_limits, account_tree, symbol_tree}
 use Rattle.order_desk.specs.Rows.{rows_of, upper_price}
 
 -- the order (D) has these rows of the limits, and the book proposes these values for it

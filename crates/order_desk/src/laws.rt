@@ -9,13 +9,13 @@ ghost use Rattle.fix_orders.specs.declared.message.Report.{Report};
 ghost use Rattle.exposure_book.specs.Books.{BookValue};
 ghost use Rattle.screen_kit.specs.Screens.{ScreenValue};
 ghost use Rattle.risk_journal.specs.declared.acts.Act.{Act};
-ghost use Rattle.hand_acts.specs.Tapes.{Tape};
-ghost use Rattle.hand_acts.specs.Trees.{LimitsValue};
+ghost use Rattle.admit_core.specs.Tapes.{Tape};
+ghost use Rattle.limit_table.specs.Trees.{LimitsValue};
 ghost use Rattle.order_desk.specs.Backing.{Covers};
 ghost use Rattle.order_desk.specs.declared.refusal.Refusal.TheVariants.{Screen};
 ghost use Rattle.order_desk.specs.Decisions.{cancel_decided, refused};
 ghost use Rattle.order_desk.specs.Reported.{report_settled, reject_settled};
-ghost use Rattle.order_desk.specs.Screening.{new_screened, replace_screened};
+ghost use Rattle.order_desk.specs.Decisions.{new_screened, replace_screened};
 ghost use Rattle.order_desk.specs.Values.{first_book};
 
 /// A book with no order is covered before any post.

@@ -6,26 +6,29 @@
 //! writes no message.
 #![tactic(auto)]
 
-mod asking;
 mod complete_laws;
 mod decide;
+mod desk;
 mod effect;
 mod halt_laws;
+mod judge;
 mod laws;
+mod offer;
 mod refusal;
 mod rows;
-mod screening;
 mod settle;
 mod values;
 
 pub use complete_laws::{an_order_is_sent_exactly_within_limits, what_raises_no_value_is_sent};
 pub use decide::{decide_cancel, decide_new, decide_replace};
+pub use desk::Desk;
 pub use effect::Effect;
 pub use halt_laws::{decisions_keep_halt, reports_keep_halt, tripping_keeps_cover};
 pub use laws::{
     a_first_book_is_covered, a_screens_refusal_changes_nothing, decisions_keep_cover,
     reports_keep_cover,
 };
+pub use offer::Offer;
 pub use refusal::Refusal;
 pub use settle::{settle_reject, settle_report};
 

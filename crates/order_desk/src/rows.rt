@@ -1,20 +1,19 @@
 //! Where an order's account and symbol stand among the rows of the limits.
-ghost use Rattle.std.specs.Prelude.{◌≡◌, ◌<◌, length, IfOk};
-ghost use Rattle.limit_table.specs.Files.{IsHeldByFile};
-ghost use Rattle.order_desk.specs.Rows.{rows_of, upper_price};
+ghost use Rattle.std.specs.Prelude.{◌≡◌, IfOk};
+ghost use Rattle.admit_core.specs.Legs.{AreRowsOf};
+ghost use Rattle.order_desk.specs.Rows.{rows_of};
 
 use crate::refusal::Refusal;
+use admit_core::OrderRows;
 use fix_orders::NewOrder;
-use hand_acts::OrderRows;
 use limit_table::Limits;
 
 /// Where the account and the symbol of an order stand, or the one that stands nowhere.
 pub(crate) fn find_rows(limits: &Limits, order: &NewOrder) -> Result<OrderRows, Refusal>
-    requires held { IsHeldByFile limits.now }
     ensures value { result ≡ rows_of limits.now order.now }
-    ensures account { IfOk result (λ rows. rows.account < length limits.now.accounts) }
-    ensures symbol { IfOk result (λ rows. rows.symbol < length limits.now.symbols) }
+    ensures rows { IfOk result (AreRowsOf limits.now) }
 {
+    limits.stand_in_a_file();
     let Some(account) = limits.account(&order.account) else {
         return Err(Refusal::UnknownAccount);
     };
@@ -22,12 +21,4 @@ pub(crate) fn find_rows(limits: &Limits, order: &NewOrder) -> Result<OrderRows, 
         return Err(Refusal::UnknownSymbol);
     };
     Ok(OrderRows { account, symbol })
-}
-
-/// The upper collar price of the symbol of these rows, in ten-thousandths of a currency unit.
-pub(crate) fn upper_price(limits: &Limits, rows: &OrderRows) -> u64
-    requires symbol { rows.now.symbol < length limits.now.symbols }
-    ensures { result ≡ upper_price limits.now rows.now }
-{
-    limits.symbols.rows()[rows.symbol as usize].high
 }

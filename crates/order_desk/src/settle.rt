@@ -1,113 +1,79 @@
 //! What the venue's reports make of a session.
-ghost use Rattle.std.specs.Prelude.{◌≡◌, ℕ, ◌+◌, ◌≤◌, ◌<◌, length, vec_len, vec_capacity};
-ghost use Rattle.limit_table.specs.Files.{IsHeldByFile};
-ghost use Rattle.risk_journal.specs.ActLists.{last_post};
+ghost use Rattle.std.specs.Prelude.{◌≡◌, ◌≤◌};
 ghost use Rattle.exposure_book.specs.Books.{BookValue};
-ghost use Rattle.hand_acts.specs.Steps.{InStep};
-ghost use Rattle.hand_acts.specs.Trees.{account_tree, symbol_tree};
-ghost use Rattle.order_desk.specs.Backing.{Backs};
-ghost use Rattle.order_desk.specs.Reported.{report_settled, reject_settled, settled_with};
-ghost use Rattle.order_desk.specs.Values.{roomless};
+ghost use Rattle.admit_core.specs.Hands.{IsOver, IsAfter};
+ghost use Rattle.order_desk.specs.Desks.{IsLater};
+ghost use Rattle.order_desk.specs.Reported.{TellsLower, effect_of, report_settled, reject_settled};
+ghost use Rattle.order_desk.specs.Reported.{settled_with};
 
+use crate::desk::Desk;
 use crate::effect::Effect;
 use crate::values::{rows_told, values_told};
-use exposure_book::{Applied, Book, Terms3};
+use admit_core::{Hands, lower_all};
+use exposure_book::Applied;
 use fix_orders::{CancelReject, Report};
-use hand_acts::{Hands, Told, lower_all};
 use limit_table::Limits;
 use risk_board::Hand;
+use screen_kit::Screen;
 
 /// Applies an ExecutionReport (8) to its order, and posts the order's three values where they fell.
-pub fn settle_report<H: Hand, M: Hand>(
-    hands: &mut Hands<H, M>,
-    told: &mut Told,
-    book: &mut Book,
-    limits: &Limits,
+pub fn settle_report<H: Hand, M: Hand, K: Screen>(
+    desk: &mut Desk<'_, H, M, K>,
     report: &Report,
 ) -> Effect
-    requires held { IsHeldByFile limits.now }
-    requires backs { Backs limits.now told.old.acts.items (roomless book.old) }
-    requires step { InStep limits.now (H.meaning hands.old.sum) (M.meaning hands.old.halt)
-        told.old.acts.items told.old.lasts.items }
-    requires sum_spare { 3 ≤ (H.meaning hands.old.sum).spare }
-    requires room { vec_len told.old.acts + 3 ≤ vec_capacity told.old.acts }
-    ensures step { InStep limits.now (H.meaning hands.new.sum) (M.meaning hands.new.halt)
-        told.new.acts.items told.new.lasts.items }
-    ensures sum_origin { H.SameOrigin hands.old.sum hands.new.sum }
-    ensures halt_origin { M.SameOrigin hands.old.halt hands.new.halt }
-    ensures room { vec_capacity told.new.acts ≡ vec_capacity told.old.acts }
-    ensures few { vec_len told.new.acts ≤ vec_len told.old.acts + 3 }
-    ensures settled { report_settled limits.now report.now (roomless book.old) told.old.acts.items
-        ≡ record { effect = result; acts = told.new.acts.items; book = roomless book.new } }
+    requires room { 3 ≤ desk.old.hands.room }
+    ensures later { IsLater H.SameOrigin M.SameOrigin desk.old desk.new 3 }
+    ensures screens { desk.new.screens ≡ desk.old.screens }
+    ensures settled { report_settled desk.old.limits report.now desk.old.book.value
+        desk.old.hands.acts
+        ≡ record { effect = result; acts = desk.new.hands.acts; book = desk.new.book.value } }
 {
-    match book.apply(report) {
-        Applied::Applied(terms) => lower_told(hands, told, limits, &terms),
-        Applied::Stray => Effect::Stray,
-        Applied::Over => Effect::Over,
-    }
+    let limits = desk.limits;
+    let applied = desk.book.apply(report);
+    settle(&mut desk.hands, limits, &applied)
 }
 
 /// Applies an OrderCancelReject (9) to its order, and posts the order's three values where they
 /// fell.
-pub fn settle_reject<H: Hand, M: Hand>(
-    hands: &mut Hands<H, M>,
-    told: &mut Told,
-    book: &mut Book,
-    limits: &Limits,
+pub fn settle_reject<H: Hand, M: Hand, K: Screen>(
+    desk: &mut Desk<'_, H, M, K>,
     reject: &CancelReject,
 ) -> Effect
-    requires held { IsHeldByFile limits.now }
-    requires backs { Backs limits.now told.old.acts.items (roomless book.old) }
-    requires step { InStep limits.now (H.meaning hands.old.sum) (M.meaning hands.old.halt)
-        told.old.acts.items told.old.lasts.items }
-    requires sum_spare { 3 ≤ (H.meaning hands.old.sum).spare }
-    requires room { vec_len told.old.acts + 3 ≤ vec_capacity told.old.acts }
-    ensures step { InStep limits.now (H.meaning hands.new.sum) (M.meaning hands.new.halt)
-        told.new.acts.items told.new.lasts.items }
-    ensures sum_origin { H.SameOrigin hands.old.sum hands.new.sum }
-    ensures halt_origin { M.SameOrigin hands.old.halt hands.new.halt }
-    ensures room { vec_capacity told.new.acts ≡ vec_capacity told.old.acts }
-    ensures few { vec_len told.new.acts ≤ vec_len told.old.acts + 3 }
-    ensures settled { reject_settled limits.now reject.now (roomless book.old) told.old.acts.items
-        ≡ record { effect = result; acts = told.new.acts.items; book = roomless book.new } }
+    requires room { 3 ≤ desk.old.hands.room }
+    ensures later { IsLater H.SameOrigin M.SameOrigin desk.old desk.new 3 }
+    ensures screens { desk.new.screens ≡ desk.old.screens }
+    ensures settled { reject_settled desk.old.limits reject.now desk.old.book.value
+        desk.old.hands.acts
+        ≡ record { effect = result; acts = desk.new.hands.acts; book = desk.new.book.value } }
 {
-    match book.apply_reject(reject) {
-        Applied::Applied(terms) => lower_told(hands, told, limits, &terms),
+    let limits = desk.limits;
+    let applied = desk.book.apply_reject(reject);
+    settle(&mut desk.hands, limits, &applied)
+}
+
+/// Posts the values of an order's three trees where the book applied a report and they fell.
+fn settle<H: Hand, M: Hand>(hands: &mut Hands<H, M>, limits: &Limits, applied: &Applied) -> Effect
+    requires over { IsOver limits.now hands.old }
+    requires lower { TellsLower limits.now hands.old.acts applied.now }
+    requires room { 3 ≤ hands.old.room }
+    ensures after { IsAfter H.SameOrigin M.SameOrigin hands.old hands.new 3 }
+    ensures settled { (book : BookValue) → settled_with limits.now book hands.old.acts applied.now
+        ≡ record { effect = result; acts = hands.new.acts; book = book } }
+{
+    match applied {
+        Applied::Applied(terms) => {
+            effect_of(lower_all(hands, limits, &rows_told(terms), &values_told(terms)))
+        }
         Applied::Stray => Effect::Stray,
         Applied::Over => Effect::Over,
     }
 }
 
-/// Posts the values of an order's three trees where they fell.
-fn lower_told<H: Hand, M: Hand>(
-    hands: &mut Hands<H, M>,
-    told: &mut Told,
-    limits: &Limits,
-    terms: &Terms3,
-) -> Effect
-    requires held { IsHeldByFile limits.now }
-    requires account { terms.now.account < length limits.now.accounts }
-    requires symbol { terms.now.symbol < length limits.now.symbols }
-    requires firm_lower { terms.now.firm_value ≤ last_post 0 told.old.acts.items }
-    requires account_lower { terms.now.account_value
-        ≤ last_post (account_tree terms.now.account) told.old.acts.items }
-    requires symbol_lower { terms.now.symbol_value
-        ≤ last_post (symbol_tree limits.now terms.now.symbol) told.old.acts.items }
-    requires step { InStep limits.now (H.meaning hands.old.sum) (M.meaning hands.old.halt)
-        told.old.acts.items told.old.lasts.items }
-    requires sum_spare { 3 ≤ (H.meaning hands.old.sum).spare }
-    requires room { vec_len told.old.acts + 3 ≤ vec_capacity told.old.acts }
-    ensures step { InStep limits.now (H.meaning hands.new.sum) (M.meaning hands.new.halt)
-        told.new.acts.items told.new.lasts.items }
-    ensures sum_origin { H.SameOrigin hands.old.sum hands.new.sum }
-    ensures halt_origin { M.SameOrigin hands.old.halt hands.new.halt }
-    ensures room { vec_capacity told.new.acts ≡ vec_capacity told.old.acts }
-    ensures few { vec_len told.new.acts ≤ vec_len told.old.acts + 3 }
-    ensures settled { (book : BookValue)
-        → settled_with limits.now book told.old.acts.items (Applied.Applied terms.now)
-        ≡ record { effect = result; acts = told.new.acts.items; book = book } }
+/// What became of a report, by whether every value that fell was posted.
+fn effect_of(done: bool) -> Effect
+    ensures { result ≡ effect_of done }
 {
-    if lower_all(hands, told, limits, &rows_told(terms), &values_told(terms)) {
+    if done {
         Effect::Applied
     } else {
         Effect::NotLowered

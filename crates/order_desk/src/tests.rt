@@ -1,21 +1,19 @@
 //! What no clause says: that each call answers with ample memory, and what is decided and posted in
 //! whole sequences of messages, worked by hand.
-ghost use Rattle.std.specs.Prelude.{◌≡◌, ◌≤◌, ◌<◌, [], length, vec_len, vec_capacity, IfOk};
-ghost use Rattle.limit_table.specs.Files.{IsHeldByFile};
-ghost use Rattle.hand_acts.specs.Steps.{InStep};
-ghost use Rattle.order_desk.specs.Backing.{Covers};
-ghost use Rattle.order_desk.specs.Values.{roomless};
+ghost use Rattle.std.specs.Prelude.{◌≡◌, length, IfOk};
 
-use crate::laws::{a_first_book_is_covered, decisions_keep_cover, reports_keep_cover};
+use crate::laws::a_first_book_is_covered;
 use crate::screened::SCREENED;
 use crate::sequences::{Answer, Posted, SEQUENCES, Sequence, Step, Turn};
-use crate::{Refusal, decide_cancel, decide_new, decide_replace, settle_reject, settle_report};
+use crate::{
+    Desk, Refusal, decide_cancel, decide_new, decide_replace, settle_reject, settle_report,
+};
+use admit_core::Hands;
 use exposure_book::Book;
 use fix_orders::{
     Cancel, CancelReject, Exec, Head, IdText, Message, NewOrder, OrderKind, Replace, Report,
 };
-use fold_law::{Max, QUOTA, Sum};
-use hand_acts::{Hands, Told, first_lasts, reserve_frame};
+use fold_law::{Max, Sum};
 use limit_table::{Limits, read_limits};
 use risk_board::{Hand, PlainBoard};
 use screen_kit::{CollarScreen, RepeatScreen, Screen, SizeScreen, Terms, arm_all};
@@ -129,110 +127,52 @@ fn decided(refusal: Option<Refusal>) -> Answer {
     }
 }
 
-/// What one session has.
-#[derive(Drop)]
-struct Desk<H: Hand, M: Hand, S: Screen> {
-    hands: Hands<H, M>,
-    told: Told,
-    book: Book,
-    screens: Vec<S>,
-}
-
 /// Takes the memory for one message and what comes of it, and gives what comes of it.
-fn take<H: Hand, M: Hand, S: Screen>(
-    desk: &mut Desk<H, M, S>,
-    limits: &Limits,
+fn take<H: Hand, M: Hand, K: Screen>(
+    desk: &mut Desk<'_, H, M, K>,
     message: &Message,
-) -> Result<Answer, Fail>
-    requires held { IsHeldByFile limits.now }
-    requires covers { Covers limits.now desk.old.told.acts.items (roomless desk.old.book) }
-    requires step { InStep limits.now (H.meaning desk.old.hands.sum) (M.meaning desk.old.hands.halt)
-        desk.old.told.acts.items desk.old.told.lasts.items }
-    requires room { vec_len desk.old.told.acts < vec_capacity desk.old.told.acts }
-    ensures covers { Covers limits.now desk.new.told.acts.items (roomless desk.new.book) }
-    ensures step { InStep limits.now (H.meaning desk.new.hands.sum) (M.meaning desk.new.hands.halt)
-        desk.new.told.acts.items desk.new.told.lasts.items }
-    ensures room { vec_len desk.new.told.acts < vec_capacity desk.new.told.acts }
-{
-    decisions_keep_cover();
-    reports_keep_cover();
-    let Desk {
-        hands,
-        told,
-        book,
-        screens,
-    } = desk;
-    reserve_frame(hands, &mut told.acts)?;
-    book.reserve_one()?;
+) -> Result<Answer, Fail> {
+    desk.reserve(12)?;
     match message {
-        Message::New(order) => Ok(decided(decide_new(hands, told, book, screens, limits, order))),
-        Message::Cancel(request) => Ok(decided(decide_cancel(book, request))),
-        Message::Replace(request) => {
-            Ok(decided(decide_replace(hands, told, book, screens, limits, request)))
-        }
-        Message::Report(report) => {
-            Ok(Answer::Settled(settle_report(hands, told, book, limits, report)))
-        }
-        Message::CancelReject(reject) => {
-            Ok(Answer::Settled(settle_reject(hands, told, book, limits, reject)))
-        }
+        Message::New(order) => Ok(decided(decide_new(desk, order))),
+        Message::Cancel(request) => Ok(decided(decide_cancel(desk, request))),
+        Message::Replace(request) => Ok(decided(decide_replace(desk, request))),
+        Message::Report(report) => Ok(Answer::Settled(settle_report(desk, report))),
+        Message::CancelReject(reject) => Ok(Answer::Settled(settle_reject(desk, reject))),
         Message::Admin | Message::Other => Err("no message of an order")?,
     }
 }
 
 /// Whether this was last posted in the trees.
-fn stands(lasts: &Vec<u64>, posted: Posted) -> bool {
-    match posted {
-        Posted::All(value) => lasts.iter().all(|last| *last == value),
-        Posted::Trees(values) => lasts.as_slice() == values,
+fn stands<H: Hand, M: Hand, K: Screen>(desk: &Desk<'_, H, M, K>, posted: Posted) -> bool {
+    let limits = desk.limits;
+    for tree in 0..limits.halt_tree() {
+        let want = match posted {
+            Posted::All(value) => Some(value),
+            Posted::Trees(values) => values.get(tree as usize).copied(),
+        };
+        if want != Some(desk.hands.last(tree)) {
+            return false;
+        }
     }
+    true
 }
 
 /// Takes one message, and compares what comes of it.
-fn compare<H: Hand, M: Hand, S: Screen>(
+fn compare<H: Hand, M: Hand, K: Screen>(
     rt: &impl Abort,
-    desk: &mut Desk<H, M, S>,
-    limits: &Limits,
+    desk: &mut Desk<'_, H, M, K>,
     name: &str,
     turn: Turn,
-) -> Result<(), Fail>
-    requires held { IsHeldByFile limits.now }
-    requires covers { Covers limits.now desk.old.told.acts.items (roomless desk.old.book) }
-    requires step { InStep limits.now (H.meaning desk.old.hands.sum) (M.meaning desk.old.hands.halt)
-        desk.old.told.acts.items desk.old.told.lasts.items }
-    requires room { vec_len desk.old.told.acts < vec_capacity desk.old.told.acts }
-    ensures covers { Covers limits.now desk.new.told.acts.items (roomless desk.new.book) }
-    ensures step { InStep limits.now (H.meaning desk.new.hands.sum) (M.meaning desk.new.hands.halt)
-        desk.new.told.acts.items desk.new.told.lasts.items }
-    ensures room { vec_len desk.new.told.acts < vec_capacity desk.new.told.acts }
-{
+) -> Result<(), Fail> {
     let (step, want, acts, posted) = turn;
-    let before = desk.told.acts.len();
-    let got = take(desk, limits, &message(step)?)?;
+    let before = desk.hands.acts().len();
+    let got = take(desk, &message(step)?)?;
     assert_eq!(rt; got, want, "{name}: {step:?}");
-    let made = desk.told.acts.len().saturating_sub(before);
+    let made = desk.hands.acts().len().saturating_sub(before);
     assert_eq!(rt; made, acts, "{name}: {step:?}: acts");
-    let as_wanted = stands(&desk.told.lasts, posted);
+    let as_wanted = stands(desk, posted);
     assert!(rt; as_wanted, "{name}: {step:?}: {posted:?}");
-    Ok(())
-}
-
-/// Takes the messages in turn.
-fn follow<H: Hand, M: Hand, S: Screen>(
-    rt: &impl Abort,
-    desk: &mut Desk<H, M, S>,
-    limits: &Limits,
-    sequence: &Sequence,
-) -> Result<(), Fail>
-    requires held { IsHeldByFile limits.now }
-    requires covers { Covers limits.now desk.old.told.acts.items (roomless desk.old.book) }
-    requires step { InStep limits.now (H.meaning desk.old.hands.sum) (M.meaning desk.old.hands.halt)
-        desk.old.told.acts.items desk.old.told.lasts.items }
-    requires room { vec_len desk.old.told.acts < vec_capacity desk.old.told.acts }
-{
-    for turn in sequence.turns {
-        compare(rt, desk, limits, sequence.name, *turn)?;
-    }
     Ok(())
 }
 
@@ -255,46 +195,38 @@ fn open_halt(rt: &impl Abort, alloc: Global, halted: bool) -> Result<PlainBoard<
 }
 
 /// A session over plain boards before its first message, and its messages in turn.
-fn run(
+fn run<K: Screen>(
     rt: &impl Abort,
     alloc: Global,
     limits: &Limits,
-    set: Vec<Box<dyn Screen + Send>>,
+    set: Vec<K>,
     sequence: &Sequence,
-) -> Result<(), Fail>
-    requires held { IsHeldByFile limits.now }
-{
+) -> Result<(), Fail> {
     let name = sequence.name;
-    let (accounts, symbols) = (limits.accounts.rows().len(), limits.symbols.rows().len());
-    assert!(rt;
-        1 <= limits.quota && limits.quota <= QUOTA && accounts < 3 && symbols < 3,
-        "{name}: in range"
-    );
-    let sum = PlainBoard::<Sum>::open(alloc, limits.halt_tree(), 1, limits.quota)?.hand(0);
+    let sum = PlainBoard::<Sum>::open(alloc, limits.halt_tree(), 1, limits.quota())?.hand(0);
     let board = open_halt(rt, alloc, sequence.halted)?;
     assert!(rt;
         board.calls(0).is_empty(),
         "{name}: session 0 has made no call"
     );
-    let halt = board.hand(0);
-    let mut acts = Vec::new(alloc);
-    acts.reserve(1)?;
-    let lasts = first_lasts(alloc, limits)?;
+    let Ok(hands) = Hands::open(alloc, limits, sum, board.hand(0)) else {
+        return Err("memory")?;
+    };
+    let (accounts, symbols) = (limits.accounts().len(), limits.symbols().len());
+    let book = Book::new(alloc, accounts as u32, symbols as u32)?;
     let mut screens = set;
     arm_all(
         &mut screens,
         &Terms {
-            repeat: limits.repeat,
+            repeat: limits.repeat(),
         },
     )?;
     a_first_book_is_covered();
-    let mut desk = Desk {
-        hands: Hands { sum, halt },
-        told: Told { acts, lasts },
-        book: Book::new(alloc, accounts as u32, symbols as u32)?,
-        screens,
-    };
-    follow(rt, &mut desk, limits, sequence)
+    let mut desk = Desk::open(limits, hands, book, screens);
+    for turn in sequence.turns {
+        compare(rt, &mut desk, name, *turn)?;
+    }
+    Ok(())
 }
 
 #[test]
@@ -304,7 +236,8 @@ fn what_comes_of_each_message(rt: HostRuntime) -> Result<(), Fail> {
         let limits = read_limits(rt.alloc(), sequence.limits);
         assert!(&rt; limits.is_ok(), "{name}: limits");
         if let Ok(limits) = limits {
-            run(&rt, rt.alloc(), &limits, Vec::new(rt.alloc()), sequence)?;
+            let none: Vec<SizeScreen> = Vec::new(rt.alloc());
+            run(&rt, rt.alloc(), &limits, none, sequence)?;
         }
     }
     Ok(())

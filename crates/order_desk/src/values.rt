@@ -2,8 +2,8 @@
 ghost use Rattle.std.specs.Prelude.{◌≡◌};
 ghost use Rattle.order_desk.specs.Values.{values_of, values_told, rows_told};
 
+use admit_core::OrderRows;
 use exposure_book::{Proposal, Terms3};
-use hand_acts::OrderRows;
 
 /// The values that a book proposes: of the firm, the account and the symbol, in whole currency
 /// units.

@@ -1,7 +1,7 @@
 //! The journal: each session's acts, and then the lines of each tree.
 ghost use Rattle.std.specs.Prelude.{◌≡◌, ◌++◌, map, OnOk, IfOk};
 ghost use Rattle.std.specs.List.{flat_map, enumerate_from};
-ghost use Rattle.risk_journal.specs.JournalText.{journal_text, session_text, tree_text};
+ghost use Rattle.risk_journal.specs.JournalText.{header_text, journal_text, session_text, tree_text};
 ghost use Rattle.risk_journal.specs.JournalText.{act_text, line_text, end_number, end_place};
 ghost use Rattle.risk_journal.specs.RowCells.{cell_text};
 
@@ -25,9 +25,34 @@ pub fn write_journal(alloc: Global, journal: &Journal) -> Result<Vec<u8>, Memory
         (map (λ own. own.items) journal.now.lines.items)) }
 {
     let mut text = Vec::new(alloc);
-    add(&mut text, b"kind,session,a,b,c,d\n")?;
+    add(&mut text, header_row())?;
     add_sessions(&mut text, &journal.acts)?;
     add_trees(&mut text, &journal.lines)?;
+    Ok(text)
+}
+
+/// The first row of the journal.
+pub fn header_row() -> &'static [u8]
+    ensures { result.now ≡ header_text }
+{
+    b"kind,session,a,b,c,d\n"
+}
+
+/// The journal's rows of the acts of one session, by its number from 0.
+pub fn write_session(alloc: Global, session: u32, acts: &[Act]) -> Result<Vec<u8>, Memory>
+    ensures { IfOk result (λ text. text.items ≡ session_text (session, acts.now)) }
+{
+    let mut text = Vec::new(alloc);
+    add_acts(&mut text, u64::from(session), acts)?;
+    Ok(text)
+}
+
+/// The journal's rows of the lines of one tree, by its number from 0.
+pub fn write_tree(alloc: Global, tree: u32, lines: &[Line]) -> Result<Vec<u8>, Memory>
+    ensures { IfOk result (λ text. text.items ≡ tree_text (tree, lines.now)) }
+{
+    let mut text = Vec::new(alloc);
+    add_lines(&mut text, u64::from(tree), lines)?;
     Ok(text)
 }
 

@@ -16,7 +16,7 @@ mod totals;
 
 pub use acts::{Act, End};
 pub use id64::Id64;
-pub use journal::{Journal, write_journal};
+pub use journal::{Journal, header_row, write_journal, write_session, write_tree};
 pub use journal_law::{one_reading_stands, written_is_read};
 pub use placed::set_places;
 pub use reading::{JournalFault, read_journal};

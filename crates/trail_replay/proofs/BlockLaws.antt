@@ -53,42 +53,6 @@ lines_of-block before upto first (suc away) (v ∷ posts) values at =
     ∙ subst (λ n. lines_of n rest ≡ lines_between n (before n) (upto n) values) next
     (lines_of-block before upto (first + 1) away posts values at)
 
-block_from-next : (before upto : ℕ → ℕ) (first i : ℕ) (posts : List (List ℕ)) (values : List ℕ)
-    → slice_get posts i ≡ Some values
-    → block_from before upto first (take (suc i) posts)
-    ≡ block_from before upto first (take i posts)
-    ++ lines_between (first + i) (before (first + i)) (upto (first + i)) values
-block_from-next before upto first i [] values at = absurd (cc)
-block_from-next before upto first zero (v ∷ posts) values at =
-    let same : v ≡ values = cc in
-    let here : first ≡ first + 0 = omega arith in
-    append_nil (lines_between first (before first) (upto first) v)
-    ∙ (ap (lines_between first (before first) (upto first)) same
-    ∙ ap (λ n. lines_between n (before n) (upto n) values) here)
-block_from-next before upto first (suc i) (v ∷ posts) values at =
-    let next : (first + 1) + i ≡ first + suc i = omega arith in
-    let own = lines_between first (before first) (upto first) v in
-    let rest = block_from before upto (first + 1) (take i posts) in
-    let more = lines_between (first + suc i) (before (first + suc i)) (upto (first + suc i))
-    values in
-    ap (λ s. own ++ s) (block_from-next before upto (first + 1) i posts values at
-    ∙ ap (λ n. rest ++ lines_between n (before n) (upto n) values) next)
-    ∙ sym (append_assoc own rest more)
-
--- one session more
-pub block_from-more : (before upto : ℕ → ℕ) (i : ℕ) (posts : List (List ℕ)) (values : List ℕ)
-    → slice_get posts i ≡ Some values
-    → block_from before upto 0 (take (i + 1) posts)
-    ≡ block_from before upto 0 (take i posts)
-    ++ lines_between i (before i) (upto i) values
-block_from-more before upto i posts values at =
-    let next : i + 1 ≡ suc i = omega arith in
-    let same : 0 + i ≡ i = omega arith in
-    ap (λ n. block_from before upto 0 (take n posts)) next
-    ∙ (block_from-next before upto 0 i posts values at
-    ∙ ap (λ n. block_from before upto 0 (take i posts)
-    ++ lines_between n (before n) (upto n) values) same)
-
 -- What fronts keep up to a last stamp: they begin with nothing, never fall, and end with all posts
 pub record AreFronts (front : ℕ → ℕ → ℕ) (posts : List (List ℕ)) (last : ℕ) : Type 0 where
   pub starts : (session : ℕ) (values : List ℕ) → slice_get posts session ≡ Some values

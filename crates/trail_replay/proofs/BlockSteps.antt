@@ -22,7 +22,7 @@ use Rattle.f_array.specs.Records.{Did}
 use Rattle.trail_replay.specs.Blocks.{block_from, lines_to}
 use Rattle.trail_replay.specs.Fronts.{front_of, view_of, last_stamp, IsStampedRecord}
 use Rattle.trail_replay.specs.Histories.{posts_of_tree, lines_of_tree}
-use Rattle.trail_replay.proofs.BlockLaws.{AreFronts, front_within}
+use Rattle.trail_replay.proofs.BlockLaws.{AreFronts}
 use Rattle.trail_replay.proofs.Counts.{lines_few}
 use Rattle.trail_replay.proofs.StampFronts.{are_fronts, posts_few}
 use Rattle.trail_replay.proofs.Tracks.{slice_get-map_some}
@@ -85,16 +85,6 @@ module _ (taken : Record) (stamped : IsStampedRecord taken) (tree : ℕ)
   last_few =
       stamp_most plan taken.words.items views stamped.1 tree 1 tree_in (omega arith)
       (root_within taken.shape.levels)
-
-  -- from one stamp to the next a front doesn't fall, and is within the posts
-  pub between : (stamp session : ℕ) (values : List ℕ) → stamp + 1 ≤ last_stamp taken tree
-      → slice_get posts session ≡ Some values
-      → (front stamp session ≤ front (stamp + 1) session)
-      × (front (stamp + 1) session ≤ length values)
-  between stamp session values le at = (
-    fronts.rises stamp (stamp + 1) session values at (omega arith) le,
-    front_within front posts (last_stamp taken tree) fronts session values at (stamp + 1) le,
-  )
 
   -- a history has fewer lines than a u32 can count
   pub lines_count : (stamp : ℕ) → stamp ≤ last_stamp taken tree

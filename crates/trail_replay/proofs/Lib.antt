@@ -5,7 +5,6 @@ pub mod Folds
 pub mod Tracks
 pub mod StampFronts
 pub mod FrontLaws
-pub mod CallPosts
 pub mod Placed
 pub mod LegalHistories
 pub mod ClosedRecords
@@ -20,3 +19,5 @@ pub mod PreparedTables
 pub mod Leaves
 pub mod Totals
 pub mod ReplayedTrees
+pub mod GrownBlocks
+pub mod Descending

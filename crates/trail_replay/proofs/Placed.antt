@@ -17,7 +17,7 @@ use Rattle.risk_board.specs.History.{PlaceFollows, PlacesFollow}
 use Rattle.risk_board.specs.History.Event.{Posted, Saw}
 use Rattle.node_rule.specs.Views.{pick}
 use Rattle.node_rule.specs.Sums.{posted}
-use Rattle.trail_replay.proofs.CallPosts.{posted-append}
+use Rattle.node_rule.proofs.CallLists.{posted-append}
 
 module _ (place : ℕ → ℕ) (tree : ℕ) where
   abbrev events : List Call → List Event

@@ -4,7 +4,7 @@ use Rattle.std.proofs.Common.{[], ◌∷◌, ◌++◌, length, min}
 use Rattle.std.proofs.Common.{get_or, map, replicate, fold, refl, ap, sym, ◌∙◌, subst}
 use Rattle.std.proofs.Common.{⊎_elim, arith, length-set, length-append, append_assoc, eq-eqb}
 use Rattle.std.specs.List.{AllByRecursion}
-use Rattle.trail_replay.proofs.CallPosts.{posted-append}
+use Rattle.node_rule.proofs.CallLists.{posted-append}
 use Rattle.std.proofs.lemmas.Bool.{ne_eqb}
 use Rattle.std.proofs.lemmas.List.{get_or-set_same, get_or-set_other, get_or_append_left}
 use Rattle.std.proofs.lemmas.List.{get_or-append-add, get_or-replicate, length-replicate}

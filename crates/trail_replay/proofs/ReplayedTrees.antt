@@ -12,67 +12,52 @@ use Rattle.trail_replay.specs.Reads.{list_below}
 use Rattle.trail_replay.specs.Replayed.{HasReplayed, IsReplayed, lines_in, places_in}
 
 -- what f gives of each number below this one, by the list of the numbers
-below_by_map : {A : Type 0} (f : ℕ → A) (n : ℕ)
+pub below_by_map : {A : Type 0} (f : ℕ → A) (n : ℕ)
     → list_below f n ≡ map f (list_below (λ tree. tree) n)
 below_by_map f zero = refl
 below_by_map f (suc n) =
     ap (λ own. own ++ f n ∷ []) (below_by_map f n)
     ∙ sym (map-append f (list_below (λ tree. tree) n) (n ∷ []))
 
+-- What is told of each tree that was replayed, by what its replay gave
+module _ {E B : Type 0} (taken : Record) (given : Result History E → B) (of : ℕ → B)
+    (told : (tree : ℕ) (own : History) → HasReplayed {E = E} taken tree (Ok own)
+    → given (Ok own) ≡ of tree) where
+  given_by : (trees : List ℕ) (done : List (Result History E))
+      → AllZip (HasReplayed taken) trees done → AllByRecursion IsReplayed done
+      → map given done ≡ map of trees
+  given_by [] [] zipped whole = refl
+  given_by [] (one ∷ done) zipped whole = absurd zipped
+  given_by (tree ∷ trees) [] zipped whole = absurd zipped
+  given_by (tree ∷ trees) (Err why ∷ done) zipped whole = absurd whole.0
+  given_by (tree ∷ trees) (Ok own ∷ done) zipped whole =
+      ap (λ first. first ∷ map given done) (told tree own zipped.0)
+      ∙ ap (λ rest. of tree ∷ rest) (given_by trees done zipped.1 whole.1)
+
+  -- it stands behind what was there before, in the order of the trees
+  given_added : {U W : Type 0} (r : Result U W) (new old : List B) (n : ℕ)
+      (done : List (Result History E)) → AllZip (HasReplayed taken) (list_below (λ tree. tree) n) done
+      → OnOk r (AllByRecursion IsReplayed done) → OnOk r (new ≡ old ++ map given done)
+      → OnOk r (new ≡ old ++ list_below of n)
+  given_added (Ok x) new old n done zipped whole added =
+      added ∙ ap (λ own. old ++ own)
+      (given_by (list_below (λ tree. tree) n) done zipped whole ∙ sym (below_by_map of n))
+  given_added (Err why) new old n done zipped whole added = tt
+
 module _ {E : Type 0} (taken : Record) where
-  lines_by : (trees : List ℕ) (done : List (Result History E))
-      → AllZip (HasReplayed taken) trees done → AllByRecursion IsReplayed done
-      → map lines_in done ≡ map (history_of taken) trees
-  lines_by [] [] zipped whole = refl
-  lines_by [] (one ∷ done) zipped whole = absurd zipped
-  lines_by (tree ∷ trees) [] zipped whole = absurd zipped
-  lines_by (tree ∷ trees) (Err why ∷ done) zipped whole = absurd whole.0
-  lines_by (tree ∷ trees) (Ok own ∷ done) zipped whole =
-      ap (λ first. first ∷ map lines_in done) zipped.0.0
-      ∙ ap (λ rest. history_of taken tree ∷ rest) (lines_by trees done zipped.1 whole.1)
-
-  places_by : (trees : List ℕ) (done : List (Result History E))
-      → AllZip (HasReplayed taken) trees done → AllByRecursion IsReplayed done
-      → map places_in done ≡ map (places_of taken) trees
-  places_by [] [] zipped whole = refl
-  places_by [] (one ∷ done) zipped whole = absurd zipped
-  places_by (tree ∷ trees) [] zipped whole = absurd zipped
-  places_by (tree ∷ trees) (Err why ∷ done) zipped whole = absurd whole.0
-  places_by (tree ∷ trees) (Ok own ∷ done) zipped whole =
-      ap (λ first. first ∷ map places_in done) zipped.0.1
-      ∙ ap (λ rest. places_of taken tree ∷ rest) (places_by trees done zipped.1 whole.1)
-
-  pub lines_below : (n : ℕ) (done : List (Result History E))
-      → AllZip (HasReplayed taken) (list_below (λ tree. tree) n) done
-      → AllByRecursion IsReplayed done → map lines_in done ≡ list_below (history_of taken) n
-  lines_below n done zipped whole =
-      lines_by (list_below (λ tree. tree) n) done zipped whole
-      ∙ sym (below_by_map (history_of taken) n)
-
-  pub places_below : (n : ℕ) (done : List (Result History E))
-      → AllZip (HasReplayed taken) (list_below (λ tree. tree) n) done
-      → AllByRecursion IsReplayed done → map places_in done ≡ list_below (places_of taken) n
-  places_below n done zipped whole =
-      places_by (list_below (λ tree. tree) n) done zipped whole
-      ∙ sym (below_by_map (places_of taken) n)
-
-  -- the lines of the trees stand behind those before, where each was replayed
+  -- the lines of the trees
   pub lines_added : {U W : Type 0} (r : Result U W) (new old : List (List Line)) (n : ℕ)
       (done : List (Result History E)) → AllZip (HasReplayed taken) (list_below (λ tree. tree) n) done
       → OnOk r (AllByRecursion IsReplayed done) → OnOk r (new ≡ old ++ map lines_in done)
       → OnOk r (new ≡ old ++ list_below (history_of taken) n)
-  lines_added (Ok x) new old n done zipped whole lines =
-      lines ∙ ap (λ own. old ++ own) (lines_below n done zipped whole)
-  lines_added (Err why) new old n done zipped whole lines = tt
+  lines_added = given_added taken lines_in (history_of taken) (λ tree own replayed. replayed.0)
 
-  -- so do the places
+  -- and their places
   pub places_added : {U W : Type 0} (r : Result U W) (new old : List (List ℕ)) (n : ℕ)
       (done : List (Result History E)) → AllZip (HasReplayed taken) (list_below (λ tree. tree) n) done
       → OnOk r (AllByRecursion IsReplayed done) → OnOk r (new ≡ old ++ map places_in done)
       → OnOk r (new ≡ old ++ list_below (places_of taken) n)
-  places_added (Ok x) new old n done zipped whole places =
-      places ∙ ap (λ own. old ++ own) (places_below n done zipped whole)
-  places_added (Err why) new old n done zipped whole places = tt
+  places_added = given_added taken places_in (places_of taken) (λ tree own replayed. replayed.1)
 
 all_pushed : {X : Type 0} (P : X → Type 0) (xs : List X) (x : X) → AllByRecursion P xs → P x
     → AllByRecursion P (xs ++ x ∷ [])
@@ -80,7 +65,7 @@ all_pushed P [] x all here = (here, tt)
 all_pushed P (first ∷ xs) x all here = (all.0, all_pushed P xs x all.1 here)
 
 -- what holds of each number below this one
-all_below : (P : ℕ → Type 0) (n : ℕ) → ((k : ℕ) → k < n → P k)
+pub all_below : (P : ℕ → Type 0) (n : ℕ) → ((k : ℕ) → k < n → P k)
     → AllByRecursion P (list_below (λ tree. tree) n)
 all_below P zero each = tt
 all_below P (suc n) each =

@@ -5,3 +5,4 @@ pub mod Histories
 pub mod Arrays
 pub mod Reads
 pub mod Replayed
+pub mod Descent

@@ -23,13 +23,13 @@ pub struct Histories {
     pub places: Vec<Vec<u32>>,
 }
 
-/// The numbers of so many trees.
-fn numbers(alloc: Global, trees: u32) -> Result<Vec<u32>, Memory>
-    ensures { IfOk result (λ all. all.items ≡ list_below (λ tree. tree) trees) }
+/// The numbers from 0 on, so many.
+pub fn numbers(alloc: Global, count: u32) -> Result<Vec<u32>, Memory>
+    ensures { IfOk result (λ all. all.items ≡ list_below (λ number. number) count) }
 {
     let mut all = Vec::new(alloc);
-    for tree in 0..trees {
-        let Ok(()) = all.push(tree) else {
+    for number in 0..count {
+        let Ok(()) = all.push(number) else {
             return Err(Memory);
         };
     }

@@ -13,9 +13,9 @@
 
 mod array;
 mod blocks;
+mod descent;
 mod histories;
 mod history;
-mod law;
 mod laws;
 mod posts;
 mod prepared;
@@ -23,10 +23,12 @@ mod reads;
 mod tree_posts;
 mod walk;
 
-pub use histories::{Histories, add_histories};
+pub use histories::{Histories, add_histories, numbers};
 pub use history::{History, at, place};
-pub use law::{closed_records_are_lawful, histories_are_legal};
-pub use laws::{components_are_leaves, histories_are_legal_by_places, histories_have_totals};
+pub use laws::{
+    closed_records_are_lawful, components_are_leaves, histories_are_legal,
+    histories_are_legal_by_places, histories_have_totals,
+};
 pub use prepared::{Prepared, replay, replay_of};
 pub use walk::Walk;
 

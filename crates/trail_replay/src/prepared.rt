@@ -18,9 +18,9 @@ use std::marker::Model;
 /// record.
 #[derive(Drop)]
 pub struct Prepared<'a> {
-    taken: &'a Record,
-    rows: Vec<Vec<Vec<ChildStamps>>>,
-    posts: Vec<Vec<Vec<u64>>>,
+    pub(crate) taken: &'a Record,
+    pub(crate) rows: Vec<Vec<Vec<ChildStamps>>>,
+    pub(crate) posts: Vec<Vec<Vec<u64>>>,
 }
 
 impl<'a> Model for Prepared<'a> {
@@ -61,9 +61,8 @@ pub fn replay_of<F: Fold>(alloc: Global, prepared: &Prepared, tree: u32) -> Resu
         length h.places.items ≡ last_stamp prepared.now tree + 1) }
     ensures walkable { IfOk result (λ h. AreLines F.CAP h.lines.items) }
 {
-    let taken = prepared.taken;
-    let last = last_of(taken, tree);
-    history_to(alloc, taken, &prepared.rows, &prepared.posts, tree, last)
+    let last = last_of(prepared.taken, tree);
+    history_to(alloc, prepared, tree, last)
 }
 
 // The last stamp of a tree's root.

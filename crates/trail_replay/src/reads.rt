@@ -139,32 +139,13 @@ fn add_to_row(row: &mut Vec<ChildStamps>, install: &Install)
     }
 }
 
-/// The stamp at which the install of the child's parent with this stamp read the child; 0 where
-/// there is no such install.
-pub(crate) fn seen_at(
-    taken: &Record,
+/// What the install of a node with a stamp of its row read.
+pub(crate) fn stamps_at(
     rows: &[Vec<Vec<ChildStamps>>],
     tree: u32,
-    child: u32,
+    node: u32,
     stamp: u32,
-) -> u32
-    requires rows { AreRows taken.now (map (λ nodes. map (λ row. row.items) nodes.items) rows.now) }
-    requires tree { tree < taken.now.shape.trees }
-    requires parent { child / 2 < 2 ^ taken.now.shape.levels }
-    requires reached { stamp ≤ end_stamp taken.now tree (child / 2) }
-    requires fits { read_in_all tree child stamp taken.now.passes.items < 2 ^ 32 }
-    ensures { result ≡ read_in_all tree child stamp taken.now.passes.items }
-{
-    let stamps = stamps_at(rows, tree, child / 2, stamp);
-    if child % 2 == 0 {
-        stamps.left
-    } else {
-        stamps.right
-    }
-}
-
-/// What the install of a node with a stamp of its row read.
-fn stamps_at(rows: &[Vec<Vec<ChildStamps>>], tree: u32, node: u32, stamp: u32) -> ChildStamps
+) -> ChildStamps
     requires has { let all = map (λ nodes. map (λ row. row.items) nodes.items) rows.now in
         stamp < length (row_of all tree node) }
     ensures { let all = map (λ nodes. map (λ row. row.items) nodes.items) rows.now in

@@ -1,29 +1,50 @@
--- Where two posts are left in each tree, the hand may post, read and post back, and what stands then.
-use Rattle.std.proofs.Common.{sym, ◌∙◌, ap}
-use Rattle.admit_core.specs.Admission.{retracting_calls}
-use Rattle.admit_core.specs.Calls.{with_calls}
-use Rattle.admit_core.proofs.LastPosts.{taken_back, all_stand}
-use Rattle.admit_core.proofs.Legs.{can_post_new, can_post_old}
+-- Where two posts are left in each tree, the values may be posted, and the old ones after the reads.
+use Rattle.std.proofs.Common.{sym, ◌∙◌, lit≤, refl}
+use Rattle.admit_core.specs.Admission.{roots_read}
+use Rattle.admit_core.proofs.After.{later}
+use Rattle.admit_core.proofs.LegPosts.{trees_in_range, can_post_new, can_post_old}
 use Rattle.admit_core.proofs.admission.admit.Goals as goal
 
-pub judge-outcome-requires-clause-posts : goal.judge-outcome-requires-clause-posts
-judge-outcome-requires-clause-posts g c =
-    can_post_new _ c.args.ask.now c.requires.legs c.requires.apart
+pub has_few_left-requires : goal.has_few_left-requires
+has_few_left-requires g c = trees_in_range c.args.hands.now c.args.ask.now c.requires.legs
+
+pub post_new-requires-clause-posts : goal.post_new-requires-clause-posts
+post_new-requires-clause-posts g c =
+    can_post_new c.args.hands.now c.args.ask.now c.requires.legs c.requires.apart
     (sym c.has_few_left.ensures ∙ c.if-has_few_left.false)
 
-pub retract-requires-clause-posts : goal.retract-requires-clause-posts
-retract-requires-clause-posts g c =
-    can_post_old _ c.args.ask.now c.requires.legs c.requires.apart
-    (sym c.has_few_left.ensures ∙ c.if-has_few_left.false) c.judge-outcome.result.roots _
-    c.judge-outcome.ensures.sum
+pub read_all-roots-requires-clause-trees : goal.read_all-roots-requires-clause-trees
+read_all-roots-requires-clause-trees g c =
+    rw (c.read_halt-halt.ensures.after.halt_tree_is, c.post_new.ensures.after.halt_tree_is)
+    (trees_in_range c.args.hands.now c.args.ask.now c.requires.legs)
 
-pub returns-then-ne-clause-taken_back : goal.returns-then-ne-clause-taken_back
-returns-then-ne-clause-taken_back g c = λ refused tree.
-    taken_back _ c.args.ask.now c.requires.legs c.judge-outcome.result.roots tree _
-    (c.retract.ensures.calls
-    ∙ ap (λ hand. with_calls (retracting_calls c.args.ask.now) hand) c.judge-outcome.ensures.sum)
+pub post_back-requires-clause-posts : goal.post_back-requires-clause-posts
+post_back-requires-clause-posts g c =
+    can_post_old c.args.hands.now c.args.ask.now c.requires.legs c.requires.apart
+    (sym c.has_few_left.ensures ∙ c.if-has_few_left.false) c.read_all-roots.new.hands
+    (roots_read c.read_halt-halt.result c.read_all-roots.result)
+    (c.read_all-roots.ensures.after.halt_tree_is ∙ c.read_halt-halt.ensures.after.halt_tree_is
+    ∙ c.post_new.ensures.after.halt_tree_is)
+    (c.read_all-roots.ensures.after.quota_is ∙ c.read_halt-halt.ensures.after.quota_is
+    ∙ c.post_new.ensures.after.quota_is)
+    (rw (
+      c.read_all-roots.ensures.acts,
+      c.read_halt-halt.ensures.acts,
+      c.post_new.ensures.acts,
+      c.post_new.ensures.after.halt_tree_is,
+    ) refl)
 
-pub returns-else-ne-clause-posted : goal.returns-else-ne-clause-posted
-returns-else-ne-clause-posted g c = λ sent.
-    all_stand _ c.args.ask.now c.requires.legs c.judge-outcome.result.roots c.requires.apart _
-    c.judge-outcome.ensures.sum
+pub returns-then-ne-clause-after : goal.returns-then-ne-clause-after
+returns-then-ne-clause-after g c =
+    let sum = g.met.H.Hand.origin_next in
+    let halt = g.met.M.Hand.origin_next in
+    later _ _ sum halt 10 (later _ _ sum halt 7 (later _ _ sum halt 4 c.post_new.ensures.after
+    c.read_halt-halt.ensures.after (lit≤ tt)) c.read_all-roots.ensures.after (lit≤ tt))
+    c.post_back.ensures.after (lit≤ tt)
+
+pub returns-else-ne-clause-after : goal.returns-else-ne-clause-after
+returns-else-ne-clause-after g c =
+    let sum = g.met.H.Hand.origin_next in
+    let halt = g.met.M.Hand.origin_next in
+    later _ _ sum halt 10 (later _ _ sum halt 4 c.post_new.ensures.after
+    c.read_halt-halt.ensures.after (lit≤ tt)) c.read_all-roots.ensures.after (lit≤ tt)

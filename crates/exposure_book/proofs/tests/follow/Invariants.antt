@@ -3,4 +3,4 @@ use Rattle.std.proofs.Common.{◌≡◌}
 use Rattle.exposure_book.proofs.tests.follow.Given as goal
 
 abbrev pub invariant-loop-step : goal.invariant-loop-step
-invariant-loop-step g l = record { accounts : l.book.accounts ≡ 2; symbols : l.book.symbols ≡ 2 }
+invariant-loop-step g l = record { accounts : l.book.value.accounts ≡ 2; symbols : l.book.value.symbols ≡ 2 }

@@ -1,4 +1,6 @@
-use Rattle.std.proofs.Common.{map, ◌∙◌}
+use Rattle.std.proofs.Common.{map, ◌∙◌, arith}
+use Rattle.std.proofs.lemmas.List.{length-map}
+use Rattle.limit_table.proofs.Held.{held_accounts, held_symbols}
 use Rattle.gate_program.specs.CommandOf.{run_value}
 use Rattle.gate_program.proofs.Finished.{kept}
 use Rattle.gate_program.proofs.PlacedDone.{all_few, as_many}
@@ -11,6 +13,19 @@ pub finish-requires-clause-acts : goal.finish-requires-clause-acts
 finish-requires-clause-acts g c κs within =
     all_few c.in-Ok.journal.acts.items (map (λ own. own.items) c.args.ended.acts.items)
     c.in-Ok.ensures.acts c.requires.few
+
+pub finish-requires-clause-few_trees : goal.finish-requires-clause-few_trees
+finish-requires-clause-few_trees g c κs within =
+    let limits = c.args.limits.now in
+    let lines = c.in-Ok.journal.lines.items in
+    let legal = c.in-Ok.ensures.legal limits c.requires.ran in
+    omega (
+      arith,
+      legal.count,
+      length-map lines (λ own. own.items),
+      held_accounts limits c.requires.held,
+      held_symbols limits c.requires.held,
+    )
 
 pub finish-requires-clause-act_count : goal.finish-requires-clause-act_count
 finish-requires-clause-act_count g c κs within =

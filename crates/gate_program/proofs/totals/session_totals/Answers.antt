@@ -1,29 +1,20 @@
-use Rattle.std.proofs.Common.{◌^◌, ◌<◌, length, arith, refl, subst, sym, length-take, Vec, Global}
-use Rattle.std.proofs.lemmas.Option.{slice_get-get_or, slice_get_read}
-use Rattle.risk_journal.specs.declared.acts.Act.{Act}
-use Rattle.gate_program.proofs.TotalLists.{one_session}
+use Rattle.std.proofs.Common.{◌≡◌, ℕ, List, map, length, subst}
+use Rattle.std.proofs.lemmas.List.{length-map}
+use Rattle.std.specs.List.{AllZip}
+use Rattle.gate_program.specs.Totals.{total_at}
+use Rattle.gate_program.proofs.JournalPieces.{all_countable, totals_of_all}
 use Rattle.gate_program.proofs.totals.session_totals.Goals as goal
 
-pub session_total-total-requires : goal.session_total-total-requires
-session_total-total-requires c =
-    let place = c.loop-session.session in
-    let own = c.index-acts-session.result in
-    rw c.as_slice.ensures.value
-    (subst (λ (v : Vec Act Global). length v.items < 2 ^ 32) (sym c.index-acts-session.is)
-    (c.requires.acts place own (omega (arith, c.requires.ends, c.loop-session-test.true))))
+pub map_all-requires-after_bounds : goal.map_all-requires-after_bounds
+map_all-requires-after_bounds g c κs within =
+    all_countable c.args.ends.now c.args.acts.now c.in_ok-sessions.sessions.items c.requires.ends
+    c.requires.acts c.in_ok-sessions.ensures
 
-pub loop-session-preserved : goal.loop-session-preserved
-loop-session-preserved c =
-    let place = c.loop-session.session in
-    one_session c.args.ends.now c.args.acts.now place _ c.index-acts-session.result _ _ _ _
-    (slice_get-get_or c.args.ends.now place _ (omega arith))
-    (slice_get_read c.args.acts.now _ place _ refl (omega (arith, c.requires.ends))
-    c.index-acts-session.is)
-    c.loop-session.invariant c.in-Ok.ensures.items c.session_total-total.ensures
-    c.as_slice.ensures.value
-    (omega (
-      arith,
-      length-take place c.args.ends.now,
-      length-take place c.args.acts.now,
-      c.requires.ends,
-    ))
+pub returns-in-Ok : goal.returns-in-Ok
+returns-in-Ok g c =
+    let acts = map (λ own. own.items) c.args.acts.now in
+    let zipped = subst (λ (numbers : List ℕ).
+    AllZip (λ number total. total ≡ total_at c.args.ends.now acts number) numbers
+    c.in-Ok.all.items) c.in_ok-sessions.ensures c.in-Ok.ensures.ok in
+    totals_of_all c.args.ends.now acts (length c.args.acts.now) c.in-Ok.all.items c.requires.ends
+    (length-map c.args.acts.now (λ own. own.items)) zipped

@@ -5,7 +5,7 @@ use Rattle.gate_program.specs.Totals.{HaveTotals}
 use Rattle.gate_program.proofs.totals.totals_text.Goals as goal
 
 pub tree_totals-requires-clause-lines : goal.tree_totals-requires-clause-lines
-tree_totals-requires-clause-lines c =
+tree_totals-requires-clause-lines g c =
     let acts = c.args.journal.now.acts in
     let shown = c.deref-2.result.now in
     let many : c.len.result ≡ length acts.items = omega (arith, c.len.ensures, acts.ok.0) in

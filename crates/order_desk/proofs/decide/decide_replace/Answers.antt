@@ -1,86 +1,59 @@
--- The book's fault, or a screen's code, or what the trees answered where they were asked, decides
--- on a replace.
-use Rattle.std.proofs.Common.{refl, sym, ap, ◌∙◌}
-use Rattle.std.specs.Prelude.{Some, None, map}
-use Rattle.exposure_book.specs.Commits.{with_replace_pending}
-use Rattle.order_desk.specs.Decisions.{replace_decided}
-use Rattle.order_desk.specs.Screening.{refusal_by_screens, replace_to_screen}
-use Rattle.order_desk.proofs.Deciding.{replace_with_fault, replace_asked, same_roomless}
-use Rattle.order_desk.proofs.BehindScreens.{screens_pass, screens_refuse}
-use Rattle.order_desk.proofs.BehindScreens.{faulty_replace_not_screened, replace_is_screened}
-use Rattle.order_desk.proofs.WithinCap.{replace_is_within}
+-- What the book offers, the screens and the trees decide; and it keeps the orders covered.
+use Rattle.std.proofs.Common.{refl, sym, map}
+use Rattle.admit_core.proofs.After.{still_over}
+use Rattle.order_desk.specs.Decisions.{replace_next}
+use Rattle.order_desk.specs.Offers.{replace_offer}
+use Rattle.order_desk.proofs.DecidedCovers.{replace_covers}
+use Rattle.order_desk.proofs.Deciding.{offered_covers, offered_decides, unoffered_decides}
 use Rattle.order_desk.proofs.decide.decide_replace.Goals as goal
 
--- the book refuses it
+-- nothing is offered
 pub returns-in-Err-clause-decides : goal.returns-in-Err-clause-decides
 returns-in-Err-clause-decides g c =
-    let limits = c.args.limits.now in
-    let request = c.args.request.now in
-    let book = c.args.book.now in
-    let screens = map g.S.Screen.meaning c.args.screens.now.items in
-    screens_pass (replace_decided limits request)
-    (λ own. refusal_by_screens screens (replace_to_screen limits request own)) _ _ _ _ _
-    (ap (refusal_by_screens screens) (faulty_replace_not_screened limits request book
-    c.in-Err.fault c.in-Err.ensures))
-    (replace_with_fault limits request book
-    c.args.told.now.acts.items c.in-Err.fault c.refusal_of.result c.in-Err.ensures
-    c.refusal_of.ensures)
-
--- a screen refuses it
-pub returns-in-Some-ask_screens-clause-decides : goal.returns-in-Some-ask_screens-clause-decides
-returns-in-Some-ask_screens-clause-decides g c =
-    let limits = c.args.limits.now in
-    let request = c.args.request.now in
-    let book = c.args.book.now in
-    let screens = map g.S.Screen.meaning c.args.screens.now.items in
-    screens_refuse (replace_decided limits request)
-    (λ own. refusal_by_screens screens (replace_to_screen limits request own)) _ _ _
-    (ap (refusal_by_screens screens) (replace_is_screened limits request book c.in-Ok.values
-    c.in-Ok.ensures (record { account = c.in-Some.account; symbol = c.in-Some.symbol })
-    c.in-Some.ensures.value ∙ ap Some (sym c.replace_seen.ensures))
-    ∙ sym c.in-Some-ask_screens.ensures.refusal)
-
-pub ask_above-requires-clause-capped : goal.ask_above-requires-clause-capped
-ask_above-requires-clause-capped g c =
-    replace_is_within c.args.book.now c.args.request.now c.args.limits.now c.in-Ok.values
-    c.in-Ok.ensures
+    let limits = c.desk.inside.limits.now in
+    let asked = c.args.request.now in
+    let screens = map g.K.Screen.meaning c.desk.inside.screens.items in
+    rw (← c.desk.view_is)
+    (unoffered_decides limits screens (replace_offer limits asked) (replace_next limits asked) _ _ _ c.in-Err.ensures.value)
 
 -- it is sent
 pub returns-in-None-clause-decides : goal.returns-in-None-clause-decides
 returns-in-None-clause-decides g c =
-    let limits = c.args.limits.now in
-    let request = c.args.request.now in
-    let book = c.args.book.now in
-    let screens = map g.S.Screen.meaning c.args.screens.now.items in
-    screens_pass (replace_decided limits request)
-    (λ own. refusal_by_screens screens (replace_to_screen limits request own)) _ _ _ _ _
-    (ap (refusal_by_screens screens) (replace_is_screened limits request book c.in-Ok.values
-    c.in-Ok.ensures (record { account = c.in-Some.account; symbol = c.in-Some.symbol })
-    c.in-Some.ensures.value ∙ ap Some (sym c.replace_seen.ensures))
-    ∙ sym c.in_default-ask_screens.ensures.refusal)
-    (replace_asked limits request
-    (record { account = c.in-Some.account; symbol = c.in-Some.symbol })
-    c.in-Ok.values book c.commit_replace.new.self c.args.told.now.acts.items
-    c.ask_above.new.told.acts.items None c.in-Ok.ensures c.in-Some.ensures.value
-    c.in-None.ensures.decides
-    (sym (same_roomless (with_replace_pending request limits book)
-    c.commit_replace.new.self c.commit_replace.ensures.same)))
+    let limits = c.desk.inside.limits.now in
+    let asked = c.args.request.now in
+    let screens = map g.K.Screen.meaning c.desk.inside.screens.items in
+    rw (← c.desk.view_is) (offered_decides limits screens (replace_offer limits asked) (replace_next limits asked)
+    _ _ c.in-Ok.offer _ _ _ c.in-Ok.ensures.value (c.in-None.ensures.decides _ _) (sym c.commit_replace.ensures.book))
 
--- the trees refuse it
-pub returns-in-Some-ask_above-clause-decides : goal.returns-in-Some-ask_above-clause-decides
-returns-in-Some-ask_above-clause-decides g c =
-    let limits = c.args.limits.now in
-    let request = c.args.request.now in
-    let book = c.args.book.now in
-    let screens = map g.S.Screen.meaning c.args.screens.now.items in
-    screens_pass (replace_decided limits request)
-    (λ own. refusal_by_screens screens (replace_to_screen limits request own)) _ _ _ _ _
-    (ap (refusal_by_screens screens) (replace_is_screened limits request book c.in-Ok.values
-    c.in-Ok.ensures (record { account = c.in-Some.account; symbol = c.in-Some.symbol })
-    c.in-Some.ensures.value ∙ ap Some (sym c.replace_seen.ensures))
-    ∙ sym c.in_default-ask_screens.ensures.refusal)
-    (replace_asked limits request
-    (record { account = c.in-Some.account; symbol = c.in-Some.symbol })
-    c.in-Ok.values book book c.args.told.now.acts.items
-    c.ask_above.new.told.acts.items (Some c.in-Some-ask_above.refusal) c.in-Ok.ensures
-    c.in-Some.ensures.value c.in-Some-ask_above.ensures.decides refl)
+pub invariant_of-desk : goal.invariant_of-desk
+invariant_of-desk g c =
+    let limits = c.desk.inside.limits.now in
+    let asked = c.args.request.now in
+    let screens = map g.K.Screen.meaning c.desk.inside.screens.items in
+    record {
+      over = still_over _ _ limits c.desk.invariant.over c.judge.ensures.after;
+      covers = offered_covers limits screens (replace_offer limits asked) (replace_next limits asked) _ _
+          c.in-Ok.offer _ _ _ (replace_covers limits asked screens c.desk.inside.book.value)
+          c.desk.invariant.covers c.in-Ok.ensures.value (c.in-None.ensures.decides _ _) (sym c.commit_replace.ensures.book);
+    }
+
+-- a screen or a tree refuses it
+pub returns-in-Some-clause-decides : goal.returns-in-Some-clause-decides
+returns-in-Some-clause-decides g c =
+    let limits = c.desk.inside.limits.now in
+    let asked = c.args.request.now in
+    let screens = map g.K.Screen.meaning c.desk.inside.screens.items in
+    rw (← c.desk.view_is) (offered_decides limits screens (replace_offer limits asked) (replace_next limits asked)
+    _ _ c.in-Ok.offer _ _ _ c.in-Ok.ensures.value (c.in-Some.ensures.decides _ _) refl)
+
+pub invariant_of-desk-in-Some : goal.invariant_of-desk-in-Some
+invariant_of-desk-in-Some g c =
+    let limits = c.desk.inside.limits.now in
+    let asked = c.args.request.now in
+    let screens = map g.K.Screen.meaning c.desk.inside.screens.items in
+    record {
+      over = still_over _ _ limits c.desk.invariant.over c.judge.ensures.after;
+      covers = offered_covers limits screens (replace_offer limits asked) (replace_next limits asked) _ _
+          c.in-Ok.offer _ _ _ (replace_covers limits asked screens c.desk.inside.book.value)
+          c.desk.invariant.covers c.in-Ok.ensures.value (c.in-Some.ensures.decides _ _) refl;
+    }

@@ -11,14 +11,14 @@ returns-in_default-clause-value c =
     let limits = c.args.limits.now in
     let order = c.args.order.now in
     ap (λ own. rows_at own (place_among order.symbol (symbol_names limits.symbols)))
-    (account_is limits order.account None c.requires.held c.in_default.ensures)
+    (account_is limits order.account None c.stand_in_a_file.ensures c.in_default.ensures)
 
 pub returns-in_default-symbol-clause-value : goal.returns-in_default-symbol-clause-value
 returns-in_default-symbol-clause-value c =
     let limits = c.args.limits.now in
     let order = c.args.order.now in
-    let symbol = symbol_is limits order.symbol None c.requires.held c.in_default-symbol.ensures in
-    let account = account_is limits order.account (Some c.in-Some.account) c.requires.held
+    let symbol = symbol_is limits order.symbol None c.stand_in_a_file.ensures c.in_default-symbol.ensures in
+    let account = account_is limits order.account (Some c.in-Some.account) c.stand_in_a_file.ensures
     c.in-Some.ensures in
     ap (rows_at (Some c.in-Some.account)) symbol
     ∙ ap (λ own. rows_at own (place_among order.symbol (symbol_names limits.symbols))) account
@@ -27,19 +27,17 @@ pub returns-clause-value : goal.returns-clause-value
 returns-clause-value c =
     let limits = c.args.limits.now in
     let order = c.args.order.now in
-    let symbol = symbol_is limits order.symbol (Some c.in-Some-symbol.symbol) c.requires.held
+    let symbol = symbol_is limits order.symbol (Some c.in-Some-symbol.symbol) c.stand_in_a_file.ensures
     c.in-Some-symbol.ensures in
-    let account = account_is limits order.account (Some c.in-Some.account) c.requires.held
+    let account = account_is limits order.account (Some c.in-Some.account) c.stand_in_a_file.ensures
     c.in-Some.ensures in
     ap (rows_at (Some c.in-Some.account)) symbol
     ∙ ap (λ own. rows_at own (place_among order.symbol (symbol_names limits.symbols))) account
 
-pub returns-clause-account : goal.returns-clause-account
-returns-clause-account c =
-    account_within c.args.limits.now c.args.order.now.account c.in-Some.account c.requires.held
-    c.in-Some.ensures
-
-pub returns-clause-symbol : goal.returns-clause-symbol
-returns-clause-symbol c =
-    symbol_within c.args.limits.now c.args.order.now.symbol c.in-Some-symbol.symbol
-    c.requires.held c.in-Some-symbol.ensures
+pub returns-clause-rows : goal.returns-clause-rows
+returns-clause-rows c = record {
+  account = account_within c.args.limits.now c.args.order.now.account c.in-Some.account
+      c.stand_in_a_file.ensures c.in-Some.ensures;
+  symbol = symbol_within c.args.limits.now c.args.order.now.symbol c.in-Some-symbol.symbol
+      c.stand_in_a_file.ensures c.in-Some-symbol.ensures;
+}

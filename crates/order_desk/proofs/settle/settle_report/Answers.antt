@@ -1,31 +1,25 @@
--- No value rose, so each of the three can be posted where it fell.
-use Rattle.exposure_book.specs.declared.answer.Applied.TheVariants as applied
+-- No value rose, and what is posted covers the orders after it.
 use Rattle.exposure_book.specs.Reports.{outcome_of_report}
-use Rattle.order_desk.specs.Values.{roomless}
-use Rattle.order_desk.proofs.Settling.{report_is_lower, settled_by_answer}
+use Rattle.admit_core.proofs.After.{still_over}
+use Rattle.order_desk.proofs.ReportedCovers.{report_covers, report_tells, settled_covers}
 use Rattle.order_desk.proofs.settle.settle_report.Goals as goal
 
-pub lower_told-requires-clause-firm_lower : goal.lower_told-requires-clause-firm_lower
-lower_told-requires-clause-firm_lower g c =
-    (report_is_lower c.args.limits.now c.args.told.now.acts.items c.args.book.now
-    c.args.report.now c.in-Applied.terms c.requires.backs c.in-Applied.ensures.answer
-    c.in-Applied.ensures.placed.0 c.in-Applied.ensures.placed.1).firm
+pub settle-requires-clause-lower : goal.settle-requires-clause-lower
+settle-requires-clause-lower g c =
+    rw c.apply-applied.ensures.answer (report_tells c.desk.inside.limits.now
+    c.desk.inside.hands.acts c.desk.inside.book.value c.desk.invariant.covers c.args.report.now)
 
-pub lower_told-requires-clause-account_lower : goal.lower_told-requires-clause-account_lower
-lower_told-requires-clause-account_lower g c =
-    (report_is_lower c.args.limits.now c.args.told.now.acts.items c.args.book.now
-    c.args.report.now c.in-Applied.terms c.requires.backs c.in-Applied.ensures.answer
-    c.in-Applied.ensures.placed.0 c.in-Applied.ensures.placed.1).account
-
-pub lower_told-requires-clause-symbol_lower : goal.lower_told-requires-clause-symbol_lower
-lower_told-requires-clause-symbol_lower g c =
-    (report_is_lower c.args.limits.now c.args.told.now.acts.items c.args.book.now
-    c.args.report.now c.in-Applied.terms c.requires.backs c.in-Applied.ensures.answer
-    c.in-Applied.ensures.placed.0 c.in-Applied.ensures.placed.1).symbol
-
-pub returns-in-Applied-clause-settled : goal.returns-in-Applied-clause-settled
-returns-in-Applied-clause-settled g c =
-    settled_by_answer c.args.limits.now c.args.told.now.acts.items
-    (outcome_of_report c.args.book.now c.args.report.now) c.args.book.now c.apply.new.self
-    (applied.Applied c.in-Applied.terms) _ c.in-Applied.ensures.answer c.in-Applied.ensures.orders
-    (c.lower_told.ensures.settled (roomless c.apply.new.self))
+pub invariant_of-desk : goal.invariant_of-desk
+invariant_of-desk g c =
+    let limits = c.desk.inside.limits.now in
+    let acts = c.desk.inside.hands.acts in
+    let book = c.desk.inside.book.value in
+    record {
+      over = still_over _ _ limits c.desk.invariant.over c.settle.ensures.after;
+      covers = settled_covers limits acts c.settle.new.hands.acts book
+          c.apply-applied.new.self.value c.apply-applied.result c.settle.result
+          (outcome_of_report book c.args.report.now)
+          (report_covers limits acts book c.desk.invariant.covers c.args.report.now)
+          c.apply-applied.ensures.answer c.apply-applied.ensures.orders
+          (c.settle.ensures.settled c.apply-applied.new.self.value);
+    }

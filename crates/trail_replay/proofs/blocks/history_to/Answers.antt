@@ -7,7 +7,7 @@ use Rattle.trail_replay.proofs.blocks.history_to.Goals as goal
 
 pub overflow_cast-len : goal.overflow_cast-len
 overflow_cast-len c =
-    let taken = c.args.taken.now in
+    let taken = c.args.prepared.now in
     let stamp = c.loop-stamp.stamp in
     let front = front_of taken.shape.levels taken.passes.items c.args.tree in
     let posts = posts_of_tree c.args.tree taken.passes.items in

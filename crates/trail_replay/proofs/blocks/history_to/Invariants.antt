@@ -7,8 +7,8 @@ use Rattle.trail_replay.proofs.blocks.history_to.Given as goal
 
 abbrev pub invariant-loop-stamp : goal.invariant-loop-stamp
 invariant-loop-stamp l = record {
-  lines : l.lines.items ≡ lines_of_tree l.taken l.tree l.stamp;
+  lines : l.lines.items ≡ lines_of_tree l.prepared l.tree l.stamp;
   places : l.places.items
-      ≡ places_to (front_of l.taken.shape.levels l.taken.passes.items l.tree)
-      (posts_of_tree l.tree l.taken.passes.items) l.stamp;
+      ≡ places_to (front_of l.prepared.shape.levels l.prepared.passes.items l.tree)
+      (posts_of_tree l.tree l.prepared.passes.items) l.stamp;
 }

@@ -2,7 +2,7 @@ use Rattle.std.proofs.Common.{◌≡◌, ◌≤◌, ◌<◌, ◌++◌, [], ◌�
 use Rattle.std.proofs.Common.{None, nat_eq}
 use Rattle.std.specs.Cmp.Lexicographic.{pointwise}
 use Rattle.indexmap.specs.IndexMap.{get, spare}
-use Rattle.exposure_book.specs.Books.{BookValue, place_of}
+use Rattle.exposure_book.specs.Books.{BookInMemory, place_of}
 use Rattle.exposure_book.proofs.Kept.{kept_named}
 use Rattle.exposure_book.proofs.Inserted.{entries-insert}
 use Rattle.exposure_book.proofs.book.Book.name.Goals as goal
@@ -11,10 +11,10 @@ use Rattle.exposure_book.proofs.book.Book.name.Goals.{After-insert-known}
 inserted : (c : After-insert-known) → c.insert-known.new.self.entries
     ≡ c.self.inside.ids.entries ++ (c.args.id.now, c.args.place) ∷ []
 inserted c =
-    let room = subst (λ (b : BookValue). 1 ≤ b.room) (sym c.self.view_is) c.requires.room in
+    let room = subst (λ (b : BookInMemory). 1 ≤ b.room) (sym c.self.view_is) c.requires.room in
     let spare_one : 0 < spare c.self.inside.ids = omega arith in
     let new : place_of c.args.id.now c.self.inside.ids.entries ≡ None =
-    subst (λ (b : BookValue). place_of c.args.id.now b.ids ≡ None) (sym c.self.view_is)
+    subst (λ (b : BookInMemory). place_of c.args.id.now b.value.ids ≡ None) (sym c.self.view_is)
     c.requires.new in
     let new_key : get (pointwise nat_eq) c.self.inside.ids c.new.result ≡ None =
     rw c.new.ensures new in
@@ -26,11 +26,11 @@ inserted c =
 pub invariant_of-self : goal.invariant_of-self
 invariant_of-self c =
     let within : c.args.place < length c.self.inside.orders.items =
-    subst (λ (b : BookValue). c.args.place < length b.orders) (sym c.self.view_is)
+    subst (λ (b : BookInMemory). c.args.place < length b.value.orders) (sym c.self.view_is)
     c.requires.within in
     rw (inserted c) (kept_named _ _ _ _ _ c.self.invariant c.args.id.now c.args.place within)
 
-pub returns-clause-same : goal.returns-clause-same
-returns-clause-same c =
+pub returns-clause-book : goal.returns-clause-book
+returns-clause-book c =
     let ids = inserted c in
-    rw (← c.self.view_is) (record { accounts = refl; symbols = refl; orders = refl; ids = ids })
+    rw (← c.self.view_is, ids) refl

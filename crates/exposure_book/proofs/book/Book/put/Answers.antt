@@ -1,7 +1,7 @@
 use Rattle.std.proofs.Common.{◌≡◌, ◌≤◌, ◌<◌, length, subst, sym, arith, Some}
 use Rattle.std.proofs.Common.{slice_get, set, ◌∙◌}
 use Rattle.std.proofs.lemmas.Option.{slice_get_within}
-use Rattle.exposure_book.specs.Books.{BookValue, firm_sum}
+use Rattle.exposure_book.specs.Books.{BookInMemory, firm_sum}
 use Rattle.exposure_book.specs.Totals.{most_exposure}
 use Rattle.exposure_book.proofs.Kept.{index_is, changed_capped, firm_has_order, account_has_order}
 use Rattle.exposure_book.proofs.Kept.{symbol_has_order, next_account, next_symbol, kept_set}
@@ -9,16 +9,16 @@ use Rattle.exposure_book.proofs.book.Book.put.Goals as goal
 
 pub exposure-new-requires : goal.exposure-new-requires
 exposure-new-requires c =
-    let within = slice_get_within c.args.self.now.orders c.args.place c.requires.place.before
+    let within = slice_get_within c.args.self.now.value.orders c.args.place c.requires.place.before
     c.requires.place.found in
-    let small = changed_capped c.args.self.now.orders c.args.place c.args.next.now within
+    let small = changed_capped c.args.self.now.value.orders c.args.place c.args.next.now within
     c.requires.capped in
     omega arith
 
 pub moved-self-inside-requires-clause-part : goal.moved-self-inside-requires-clause-part
 moved-self-inside-requires-clause-part c =
     let found : slice_get c.self.inside.orders.items c.args.place ≡ Some c.order.result =
-    subst (λ (b : BookValue). slice_get b.orders c.args.place ≡ Some c.order.result)
+    subst (λ (b : BookInMemory). slice_get b.value.orders c.args.place ≡ Some c.order.result)
     (sym c.self.view_is) c.order.ensures.found in
     rw c.exposure-old.ensures.value
     (firm_has_order _ _ _ _ _ c.self.invariant c.args.place c.order.result found)
@@ -26,7 +26,7 @@ moved-self-inside-requires-clause-part c =
 pub moved-requires-clause-part : goal.moved-requires-clause-part
 moved-requires-clause-part c =
     let found : slice_get c.self.inside.orders.items c.args.place ≡ Some c.order.result =
-    subst (λ (b : BookValue). slice_get b.orders c.args.place ≡ Some c.order.result)
+    subst (λ (b : BookInMemory). slice_get b.value.orders c.args.place ≡ Some c.order.result)
     (sym c.self.view_is) c.order.ensures.found in
     let before : Some c.requires.place.before ≡ Some c.order.result =
     sym c.requires.place.found ∙ c.order.ensures.found in
@@ -45,7 +45,7 @@ moved-requires-clause-part c =
 pub moved-requires-2-clause-part : goal.moved-requires-2-clause-part
 moved-requires-2-clause-part c =
     let found : slice_get c.self.inside.orders.items c.args.place ≡ Some c.order.result =
-    subst (λ (b : BookValue). slice_get b.orders c.args.place ≡ Some c.order.result)
+    subst (λ (b : BookInMemory). slice_get b.value.orders c.args.place ≡ Some c.order.result)
     (sym c.self.view_is) c.order.ensures.found in
     let before : Some c.requires.place.before ≡ Some c.order.result =
     sym c.requires.place.found ∙ c.order.ensures.found in
@@ -64,7 +64,7 @@ moved-requires-2-clause-part c =
 pub index_mut-requires-3 : goal.index_mut-requires-3
 index_mut-requires-3 c =
     let found : slice_get c.self.inside.orders.items c.args.place ≡ Some c.order.result =
-    subst (λ (b : BookValue). slice_get b.orders c.args.place ≡ Some c.order.result)
+    subst (λ (b : BookInMemory). slice_get b.value.orders c.args.place ≡ Some c.order.result)
     (sym c.self.view_is) c.order.ensures.found in
     let within : c.args.place < length c.self.inside.orders.items =
     slice_get_within c.self.inside.orders.items c.args.place c.order.result found in
@@ -74,7 +74,7 @@ index_mut-requires-3 c =
 pub invariant_of-self : goal.invariant_of-self
 invariant_of-self c =
     let found : slice_get c.self.inside.orders.items c.args.place ≡ Some c.order.result =
-    subst (λ (b : BookValue). slice_get b.orders c.args.place ≡ Some c.order.result)
+    subst (λ (b : BookInMemory). slice_get b.value.orders c.args.place ≡ Some c.order.result)
     (sym c.self.view_is) c.order.ensures.found in
     let before : Some c.requires.place.before ≡ Some c.order.result =
     sym c.requires.place.found ∙ c.order.ensures.found in
@@ -93,7 +93,7 @@ invariant_of-self c =
     below_symbol c.index-2.ensures in
     let capped : firm_sum (set c.self.inside.orders.items c.args.place c.args.next.now) ≤
     most_exposure =
-    subst (λ (b : BookValue). firm_sum (set b.orders c.args.place c.args.next.now) ≤
+    subst (λ (b : BookInMemory). firm_sum (set b.value.orders c.args.place c.args.next.now) ≤
     most_exposure) (sym c.self.view_is) c.requires.capped in
     rw (
       c.moved-self-inside.ensures.value,

@@ -1,6 +1,6 @@
 use Rattle.std.proofs.Common.{◌≡◌, subst, sym, Some}
 use Rattle.std.proofs.Common.{slice_get, ◌∙◌}
-use Rattle.exposure_book.specs.Books.{BookValue}
+use Rattle.exposure_book.specs.Books.{BookInMemory}
 use Rattle.exposure_book.proofs.Kept.{index_is, firm_has_order, account_has_order, symbol_has_order}
 use Rattle.exposure_book.proofs.Kept.{next_account, next_symbol, values_by}
 use Rattle.exposure_book.proofs.book.Book.values_with.Goals as goal
@@ -8,7 +8,7 @@ use Rattle.exposure_book.proofs.book.Book.values_with.Goals as goal
 pub moved-requires-clause-part : goal.moved-requires-clause-part
 moved-requires-clause-part c =
     let found : slice_get c.self.inside.orders.items c.args.place ≡ Some c.order.result =
-    subst (λ (b : BookValue). slice_get b.orders c.args.place ≡ Some c.order.result)
+    subst (λ (b : BookInMemory). slice_get b.value.orders c.args.place ≡ Some c.order.result)
     (sym c.self.view_is) c.order.ensures.found in
     rw c.exposure-old.ensures.value
     (firm_has_order _ _ _ _ _ c.self.invariant c.args.place c.order.result found)
@@ -16,7 +16,7 @@ moved-requires-clause-part c =
 pub moved-requires-2-clause-part : goal.moved-requires-2-clause-part
 moved-requires-2-clause-part c =
     let found : slice_get c.self.inside.orders.items c.args.place ≡ Some c.order.result =
-    subst (λ (b : BookValue). slice_get b.orders c.args.place ≡ Some c.order.result)
+    subst (λ (b : BookInMemory). slice_get b.value.orders c.args.place ≡ Some c.order.result)
     (sym c.self.view_is) c.order.ensures.found in
     let before : Some c.requires.place.before ≡ Some c.order.result =
     sym c.requires.place.found ∙ c.order.ensures.found in
@@ -35,7 +35,7 @@ moved-requires-2-clause-part c =
 pub moved-requires-3-clause-part : goal.moved-requires-3-clause-part
 moved-requires-3-clause-part c =
     let found : slice_get c.self.inside.orders.items c.args.place ≡ Some c.order.result =
-    subst (λ (b : BookValue). slice_get b.orders c.args.place ≡ Some c.order.result)
+    subst (λ (b : BookInMemory). slice_get b.value.orders c.args.place ≡ Some c.order.result)
     (sym c.self.view_is) c.order.ensures.found in
     let before : Some c.requires.place.before ≡ Some c.order.result =
     sym c.requires.place.found ∙ c.order.ensures.found in
@@ -51,10 +51,10 @@ moved-requires-3-clause-part c =
     (symbol_has_order _ _ _ _ _ c.self.invariant c.args.place c.order.result found
     c.args.next.now.symbol own)
 
-pub returns : goal.returns
-returns c =
+pub returns-clause-value : goal.returns-clause-value
+returns-clause-value c =
     let found : slice_get c.self.inside.orders.items c.args.place ≡ Some c.order.result =
-    subst (λ (b : BookValue). slice_get b.orders c.args.place ≡ Some c.order.result)
+    subst (λ (b : BookInMemory). slice_get b.value.orders c.args.place ≡ Some c.order.result)
     (sym c.self.view_is) c.order.ensures.found in
     let before : Some c.requires.place.before ≡ Some c.order.result =
     sym c.requires.place.found ∙ c.order.ensures.found in
@@ -77,4 +77,4 @@ returns c =
     c.index.result.now c.index-2.result.now c.exposure-old.ensures.value
     c.exposure-new.ensures.value
     c.moved.ensures.value account c.moved-2.ensures.value symbol c.moved-3.ensures.value in
-    rw (← c.self.view_is) (c.capped.ensures ∙ values)
+    rw (← c.self.view_is) (c.capped.ensures.value ∙ values)

@@ -21,10 +21,7 @@ create-tells x y c = record {
   empty = search rules;
   means = search rules;
   fresh = search rules;
-  cause = record {
-    later = same_never_falls _ _ c.ensures.writes;
-    rose = λ fault. absurd (c.ensures.only_memory fault);
-  };
+  cause = counted_has_cause _ _ _ _ _ c.ensures.writes (failed_is_failed c.result);
   reads = same_never_falls _ _ c.ensures.reads;
 }
 

@@ -11,4 +11,4 @@ returns-in-Some-clause-below g c =
     let inside = c.self.inside in
     subst (λ (s : Standing). IfSome (ascent_of s.view) (IsBelowRoot s.plan)) c.self.view_is
     (ascent_below_root g.F.Fold.under inside.plan inside.number inside.calls.items
-    inside.trail.items inside.ascent inside.seat.me.0 inside.keeps c.self.invariant.0)
+    inside.trail.items inside.ascent inside.seat.me.0 c.self.invariant.0)

@@ -64,7 +64,7 @@ invariant_of-climb g c =
           (let some = ap (λ s. s.spare) c.climb.view_is in let spare = c.requires.spare in
           omega arith) c.push_reserved.ensures.len c.push_reserved.ensures.capacity
           c.climb.invariant.2,
-      read_counted c.climb.inside.keeps c.climb.inside.plan c.climb.inside.calls.items
+      read_counted c.climb.inside.plan c.climb.inside.calls.items
           c.push_reserved.new.self.items c.climb.inside.counts.items c.args.tree c.stamp_of.result
           c.value_of.result made c.climb.invariant.3,
     )

@@ -50,7 +50,7 @@ invariant_of-climb g c =
           (let some = ap (λ s. s.spare) c.climb.view_is in let spare = c.requires.spare in
           omega arith) c.push_reserved.ensures.len c.push_reserved.ensures.capacity
           c.climb.invariant.2,
-      store_counted c.climb.inside.keeps c.climb.inside.plan c.climb.inside.calls.items
+      store_counted c.climb.inside.plan c.climb.inside.calls.items
           c.push_reserved.new.self.items c.climb.inside.counts.items _ c.args.tree c.args.value
           c.index-posts.result.now post.tree_own c.push_reserved.ensures.items post.posts_is refl
           c.climb.invariant.3,

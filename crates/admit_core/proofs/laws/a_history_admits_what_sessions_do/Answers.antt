@@ -1,0 +1,7 @@
+-- In a legal history what is admitted is what the sessions' own events admit.
+use Rattle.admit_core.proofs.OwnStandings.{admits_own}
+use Rattle.admit_core.proofs.laws.a_history_admits_what_sessions_do.Goals as goal
+
+pub returns : goal.returns
+returns c = λ whole unit limit components lines events legal.
+    admits_own whole unit limit components lines events legal

@@ -1,7 +1,0 @@
--- In a legal history what is admitted is what the sessions' own events admit.
-use Rattle.hand_acts.proofs.OwnStandings.{admits_own}
-use Rattle.hand_acts.proofs.laws.a_history_admits_what_sessions_do.Goals as goal
-
-pub returns : goal.returns
-returns c = λ whole unit limit components lines events legal.
-    admits_own whole unit limit components lines events legal

@@ -1,6 +1,0 @@
--- In a legal history of sums what is admitted stays within every limit.
-use Rattle.hand_acts.proofs.Within.{legal_stays_within}
-use Rattle.hand_acts.proofs.laws.admitted_stays_within.Goals as goal
-
-pub returns : goal.returns
-returns c = legal_stays_within

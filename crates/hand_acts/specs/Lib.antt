@@ -1,9 +1,0 @@
-pub mod Trees
-pub mod Hands
-pub mod Tapes
-pub mod Legs
-pub mod Asking
-pub mod Lowering
-pub mod Steps
-pub mod Telling
-pub mod Admitted

@@ -1,0 +1,10 @@
+pub mod Spelling
+pub mod PatternParts
+pub mod Messages
+pub mod Adding
+pub mod Counting
+pub mod NextOrder
+pub mod NextSession
+pub mod Lines
+pub mod WholeLoads
+pub mod LimitRows

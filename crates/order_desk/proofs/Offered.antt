@@ -1,0 +1,151 @@
+-- What is offered for a request, by what the book proposes.
+use Rattle.std.proofs.Common.{◌≡◌, ℕ, ◌<◌, List, length, Option, Some, None, Result, Ok, Err, refl}
+use Rattle.std.proofs.Common.{ap, subst, ◌∙◌, true, false, slice_get, All}
+use Rattle.std.proofs.lemmas.List.Elements.{All-get_or}
+use Rattle.std.proofs.lemmas.Option.{slice_get_within}
+use Rattle.fix_orders.specs.declared.message.NewOrder.{NewOrder}
+use Rattle.fix_orders.specs.declared.message.Replace.{Replace}
+use Rattle.limit_table.specs.Trees.{LimitsValue}
+use Rattle.exposure_book.specs.declared.answer.BookFault.{BookFault}
+use Rattle.exposure_book.specs.declared.answer.Proposal.{Proposal}
+use Rattle.exposure_book.specs.declared.order.Order.{Order}
+use Rattle.exposure_book.specs.Books.{BookValue, order_at, order_with, pair_of_order, place_of}
+use Rattle.exposure_book.specs.Proposals.{proposal_of_new, proposal_of_replace}
+use Rattle.exposure_book.specs.Totals.{IsPlaced}
+use Rattle.exposure_book.proofs.Sums.{item_at}
+use Rattle.admit_core.specs.declared.rows.OrderRows.{OrderRows}
+use Rattle.admit_core.specs.Legs.{AreRowsOf}
+use Rattle.order_desk.specs.declared.offer.Offer.{Offer}
+use Rattle.order_desk.specs.declared.refusal.Refusal.{Refusal}
+use Rattle.order_desk.specs.Offers.{new_seen, replace_seen, offered, new_offer, new_offer_at}
+use Rattle.order_desk.specs.Offers.{replace_offer, replace_offer_at}
+use Rattle.order_desk.specs.Rows.{rows_of, upper_price}
+use Rattle.order_desk.specs.Sending.{ProposesNew, ProposesReplace}
+
+-- the offer of an order (D) of these rows with these values
+abbrev pub offer_of_new : LimitsValue → NewOrder → OrderRows → Proposal → Offer
+offer_of_new limits order rows values = record {
+  seen = new_seen limits order rows;
+  rows = rows;
+  values = values;
+  always = true;
+}
+
+-- the offer of a replace (G) of an order of these rows with these values
+abbrev pub offer_of_replace : LimitsValue → Replace → OrderRows → Proposal → Offer
+offer_of_replace limits request rows values = record {
+  seen = replace_seen limits request rows;
+  rows = rows;
+  values = values;
+  always = false;
+}
+
+module _ (limits : LimitsValue) (order : NewOrder) (book : BookValue) where
+  pub new_is_offered : (rows : OrderRows) (values : Proposal)
+      → ProposesNew limits order rows values book
+      → new_offer limits order book ≡ Ok (offer_of_new limits order rows values)
+  new_is_offered rows values is =
+      ap (new_offer_at limits order book) is.found
+      ∙ ap (offered (new_seen limits order rows) rows true) is.proposed
+
+  -- the book proposes what is offered
+  pub record ComesOfNew (offer : Offer) : Type 0 where
+    pub proposes : ProposesNew limits order offer.rows offer.values book
+    pub is : offer ≡ offer_of_new limits order offer.rows offer.values
+
+  new_by_values : (rows : OrderRows) (offer : Offer) → rows_of limits order ≡ Ok rows
+      → (answer : Result Proposal BookFault)
+      → proposal_of_new book order rows.account rows.symbol (upper_price limits rows) ≡ answer
+      → offered (new_seen limits order rows) rows true answer ≡ Ok offer → ComesOfNew offer
+  new_by_values rows offer found (Err fault) proposed given = absurd cc
+  new_by_values rows offer found (Ok values) proposed given =
+      let same : offer_of_new limits order rows values ≡ offer = cc in
+      subst ComesOfNew same
+      (record { proposes = record { found = found; proposed = proposed }; is = refl })
+
+  new_by_rows : (offer : Offer) (found : Result OrderRows Refusal) → rows_of limits order ≡ found
+      → new_offer_at limits order book found ≡ Ok offer → ComesOfNew offer
+  new_by_rows offer (Err why) is given = absurd cc
+  new_by_rows offer (Ok rows) is given =
+      new_by_values rows offer is
+      (proposal_of_new book order rows.account rows.symbol (upper_price limits rows)) refl given
+
+  pub comes_of_new : (offer : Offer) → new_offer limits order book ≡ Ok offer → ComesOfNew offer
+  comes_of_new offer given = new_by_rows offer (rows_of limits order) refl given
+
+module _ (limits : LimitsValue) (request : Replace) (book : BookValue) where
+  pub replace_is_offered : (rows : OrderRows) (values : Proposal)
+      → ProposesReplace limits request rows values book
+      → replace_offer limits request book ≡ Ok (offer_of_replace limits request rows values)
+  replace_is_offered rows values is =
+      ap (λ answer. replace_offer_at limits request answer
+      (pair_of_order (order_with book request.orig))) is.proposed
+      ∙ ap (replace_offer_at limits request (Ok values)) is.found
+
+  -- the book proposes what is offered
+  pub record ComesOfReplace (offer : Offer) : Type 0 where
+    pub proposes : ProposesReplace limits request offer.rows offer.values book
+    pub is : offer ≡ offer_of_replace limits request offer.rows offer.values
+
+  replace_by_parts : (offer : Offer) (answer : Result Proposal BookFault)
+      → proposal_of_replace book request limits ≡ answer → (pair : Option (ℕ × ℕ))
+      → pair_of_order (order_with book request.orig) ≡ pair
+      → replace_offer_at limits request answer pair ≡ Ok offer → ComesOfReplace offer
+  replace_by_parts offer (Err fault) proposed pair found given = absurd cc
+  replace_by_parts offer (Ok values) proposed None found given = absurd cc
+  replace_by_parts offer (Ok values) proposed (Some pair) found given =
+      let rows : OrderRows = record { account = pair.0; symbol = pair.1 } in
+      let same : offer_of_replace limits request rows values ≡ offer = cc in
+      subst ComesOfReplace same
+      (record { proposes = record { proposed = proposed; found = found }; is = refl })
+
+  pub comes_of_replace : (offer : Offer) → replace_offer limits request book ≡ Ok offer
+      → ComesOfReplace offer
+  comes_of_replace offer given =
+      replace_by_parts offer (proposal_of_replace book request limits) refl
+      (pair_of_order (order_with book request.orig)) refl given
+
+-- the order at a place of a book is of the limits' rows
+pub order_is_placed : (book : BookValue) (place : ℕ) (order : Order)
+    → All (IsPlaced book.accounts book.symbols) book.orders
+    → slice_get book.orders place ≡ Some order → IsPlaced book.accounts book.symbols order
+order_is_placed book place order placed found =
+    subst (IsPlaced book.accounts book.symbols) (item_at book.orders place order found)
+    (All-get_or (IsPlaced book.accounts book.symbols) book.orders place order
+    (slice_get_within book.orders place order found) placed)
+
+-- the rows of an account and a symbol
+abbrev pub rows_by : Option (ℕ × ℕ) → OrderRows
+rows_by None = record { account = 0; symbol = 0 }
+rows_by (Some pair) = record { account = pair.0; symbol = pair.1 }
+
+-- the rows of a replace are among those of the limits
+module _ (limits : LimitsValue) (book : BookValue)
+    (accounts : book.accounts ≡ length limits.accounts)
+    (symbols : book.symbols ≡ length limits.symbols)
+    (placed : All (IsPlaced book.accounts book.symbols) book.orders) (rows : OrderRows) where
+  by_order : (place : ℕ) (order : Option Order) → slice_get book.orders place ≡ order
+      → pair_of_order order ≡ Some (rows.account, rows.symbol) → AreRowsOf limits rows
+  by_order place None found is = absurd cc
+  by_order place (Some order) found is =
+      let own = order_is_placed book place order placed found in
+      let same = ap rows_by is in
+      let account : order.account ≡ rows.account = ap (λ (r : OrderRows). r.account) same in
+      let symbol : order.symbol ≡ rows.symbol = ap (λ (r : OrderRows). r.symbol) same in
+      record {
+        account = subst (λ n. rows.account < n) accounts
+            (subst (λ n. n < book.accounts) account own.account);
+        symbol = subst (λ n. rows.symbol < n) symbols
+            (subst (λ n. n < book.symbols) symbol own.symbol);
+      }
+
+  by_place : (place : Option ℕ)
+      → pair_of_order (order_at book place) ≡ Some (rows.account, rows.symbol)
+      → AreRowsOf limits rows
+  by_place None is = absurd cc
+  by_place (Some place) is = by_order place (slice_get book.orders place) refl is
+
+  pub replaced_rows : (orig : List ℕ)
+      → pair_of_order (order_with book orig) ≡ Some (rows.account, rows.symbol)
+      → AreRowsOf limits rows
+  replaced_rows orig is = by_place (place_of orig book.ids) is
