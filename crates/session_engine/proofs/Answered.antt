@@ -1,5 +1,5 @@
 -- A session that decided, told and gave has taken its frame.
-use Rattle.std.proofs.Common.{◌≡◌, ℕ, List, [], ◌∷◌, ◌++◌, map, refl, sym, ap, ◌∙◌, subst}
+use Rattle.std.proofs.Common.{◌≡◌, ℕ, List, [], ◌∷◌, ◌++◌, map, refl, sym, ap, ◌∙◌, subst, codes}
 use Rattle.std.specs.Prelude.{Option, Some, None}
 use Rattle.std.specs.Io.KnownBytes.{Appends}
 use Rattle.exposure_book.specs.Books.{BookValue}
@@ -14,18 +14,57 @@ use Rattle.order_desk.specs.declared.refusal.Refusal.{Refusal}
 use Rattle.order_desk.specs.Decisions.{Decides}
 use Rattle.order_desk.specs.Desks.{DeskValue}
 use Rattle.order_desk.specs.Reported.{Settled}
+use Rattle.session_engine.specs.declared.counts.Counts.{Counts}
 use Rattle.session_engine.specs.Running.{Running, kept_of, HasTaken, TellsAnswer}
-use Rattle.session_engine.specs.Answers.{forward_text}
-use Rattle.session_engine.specs.Taken.{ReadsAs, answer_act, note_acts, note_by, counted_client}
+use Rattle.fix_orders.specs.declared.message.Stamp.{Stamp}
+use Rattle.session_engine.specs.Answers.{Wording, forward_text}
+use Rattle.session_engine.specs.Taken.{ReadsAs, answer_act, answer_stamp, note_acts, note_by, counted_client}
 use Rattle.session_engine.specs.Trips.{acts_tripped}
 use Rattle.session_engine.proofs.MessageFacts.{RequestFacts, ReportFacts}
 use Rattle.session_engine.proofs.ReportFrames.{Told, Settles, takes_report}
 use Rattle.session_engine.proofs.RequestFrames.{Asked, IsAnswered, takes_request}
 
+-- the answer to a request has the request's time
+pub answer_time : (refusal : Option Refusal) (time client_id : List ℕ) (counts : Counts)
+    → (answer_stamp refusal time client_id counts).time ≡ time
+answer_time None time client_id counts = refl
+answer_time (Some why) time client_id counts = refl
+
 module _ {H M K : Type 0} (meaning : K → ScreenValue) where
   -- with what its sinks are after they were given to
   abbrev pub given : Running H M K → SinkValue → SinkValue → Running H M K
   given told venue client = record told { venue = venue; client = client }
+
+  -- what was sent is its answer
+  pub sent_answer : (wording : Wording) (fields : List FieldValue) (refusal : Option Refusal)
+      (time : List ℕ) (told : Running H M K) (venue : SinkValue) (stamp : Stamp)
+      → refusal ≡ None → stamp ≡ answer_stamp refusal time told.client_id told.counts
+      → Appends told.venue.held venue.held (forward_text stamp.target stamp.seq fields)
+      → IsAnswered wording fields refusal (kept_of meaning told)
+      (kept_of meaning (given told venue told.client))
+  sent_answer wording fields (Some why) time told venue stamp is stamp_is given = absurd cc
+  sent_answer wording fields None time told venue stamp is stamp_is given = (
+    subst (λ (s : Stamp). Appends told.venue.held venue.held (forward_text s.target s.seq fields))
+        stamp_is given,
+    refl,
+  )
+
+  -- and so is what refuses it
+  pub refused_answer : (wording : Wording) (fields : List FieldValue) (refusal : Option Refusal)
+      (why : Refusal) (time : List ℕ) (told : Running H M K) (client : SinkValue) (stamp : Stamp)
+      → refusal ≡ Some why → stamp ≡ answer_stamp refusal time told.client_id told.counts
+      → Appends told.client.held client.held (wording stamp.target stamp.seq fields why)
+      → IsAnswered wording fields refusal (kept_of meaning told)
+      (kept_of meaning (given told told.venue client))
+  refused_answer wording fields None why time told client stamp is stamp_is given = absurd cc
+  refused_answer wording fields (Some other) why time told client stamp is stamp_is given =
+      let same : why ≡ other = cc in (
+        refl,
+        subst (λ (s : Stamp). Appends told.client.held client.held
+        (wording s.target s.seq fields other)) stamp_is
+        (subst (λ (r : Refusal). Appends told.client.held client.held
+        (wording stamp.target stamp.seq fields r)) same given),
+      )
 
   -- a request was decided on, told, and answered
   pub request_taken : (asked : Asked) (sound : FrameIn) (before : Running H M K)
@@ -73,12 +112,14 @@ module _ {H M K : Type 0} (meaning : K → ScreenValue) where
           → IsAnswered asked.wording fields refusal (kept_of meaning before)
           (kept_of meaning after)
       answered_from None before told after fields venue_is client_is is = (
-        subst (λ (v : SinkValue). Appends v.held after.venue.held _) venue_is is.0,
+        subst (λ (v : SinkValue). Appends v.held after.venue.held
+            (forward_text (codes "VENUE") after.counts.venue fields)) venue_is is.0,
         is.1 ∙ ap (λ (v : SinkValue). v.held) client_is,
       )
       answered_from (Some why) before told after fields venue_is client_is is = (
         is.0 ∙ ap (λ (v : SinkValue). v.held) venue_is,
-        subst (λ (v : SinkValue). Appends v.held after.client.held _) client_is is.1,
+        subst (λ (v : SinkValue). Appends v.held after.client.held
+            (asked.wording after.client_id after.counts.client fields why)) client_is is.1,
       )
 
   -- a report was settled, told, and passed on

@@ -108,6 +108,7 @@ impl<'a, H: Hand, M: Hand, K: Screen, V: Sink, C: Sink> Session<'a, H, M, K, V, 
         ensures client { sink_of C.held C.faults C.name result.client ≡ self.entry.client }
         ensures source { result.source ≡ source }
     {
+        self.desk.is_covered();
         let ended = self.desk.end(end);
         SessionDone {
             hands: Hands {

@@ -33,6 +33,7 @@ impl<'a, H: Hand, M: Hand, K: Screen, V: Sink, C: Sink> Session<'a, H, M, K, V, 
         ensures taken { IsOk result → HasTaken K.meaning sound.now self.old self.new }
         ensures failed { result ≡ Err PortFault.Failed → SinkFailed self.old self.new }
     {
+        self.desk.is_covered();
         let refusal = decide_new(&mut self.desk, order);
         let stamp = self.tell_answer(&order.head, refusal);
         match refusal {
@@ -93,6 +94,7 @@ impl<'a, H: Hand, M: Hand, K: Screen, V: Sink, C: Sink> Session<'a, H, M, K, V, 
         ensures taken { IsOk result → HasTaken K.meaning sound.now self.old self.new }
         ensures failed { result ≡ Err PortFault.Failed → SinkFailed self.old self.new }
     {
+        self.desk.is_covered();
         let refusal = decide_replace(&mut self.desk, replace);
         let stamp = self.tell_answer(&replace.head, refusal);
         match refusal {

@@ -84,6 +84,7 @@ impl<'a, H: Hand, M: Hand, K: Screen, V: Sink, C: Sink> Session<'a, H, M, K, V, 
         }
         self.counts.firms += 1;
         if is_trip_number(self.desk.limits().trip(), self.counts.firms) {
+            self.desk.is_covered();
             self.desk.trip();
         }
     }
