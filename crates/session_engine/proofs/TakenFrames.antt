@@ -27,7 +27,7 @@ some_fields : (sound : FrameIn) (fields : Option (List FieldValue)) → sound.fr
     → IsFrameOf sound.bytes sound.frame fields
     → (listed : List FieldValue) × HasFieldsIn sound.bytes sound.frame listed
 some_fields sound None is (from, stands, has) = absurd (false≢true (sym has ∙ is))
-some_fields sound (Some listed) is (from, stands, has) = (listed, from, stands)
+some_fields sound (Some listed) is (from, stands, has) = (listed, (from, stands))
 
 module _ {H M K : Type 0} (meaning : K → ScreenValue) where
   -- a session that took room is ready
