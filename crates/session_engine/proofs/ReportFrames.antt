@@ -42,7 +42,7 @@ pub record Told : Type 0 where
       → after_message limits fields message session
       ≡ after_settling fields (settle limits session.book session.acts) session
 
-pub report_told : Report → Told
+abbrev pub report_told : Report → Told
 report_told report = record {
   message = message.Report report;
   head = report.head;
@@ -51,7 +51,7 @@ report_told report = record {
   by = λ limits fields session. refl;
 }
 
-pub reject_told : CancelReject → Told
+abbrev pub reject_told : CancelReject → Told
 reject_told reject = record {
   message = message.CancelReject reject;
   head = reject.head;

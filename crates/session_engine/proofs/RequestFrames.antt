@@ -4,6 +4,7 @@ use Rattle.std.proofs.Common.{true, codes, arith}
 use Rattle.std.specs.Prelude.{Option, Some, None, Ok}
 use Rattle.std.specs.Option.{unwrap_or}
 use Rattle.std.specs.Io.KnownBytes.{Appends}
+use Rattle.std.proofs.lemmas.List.{append-nil}
 use Rattle.exposure_book.specs.Books.{BookValue}
 use Rattle.fix_fields.specs.Fields.{FieldValue}
 use Rattle.fix_orders.specs.declared.message.Cancel.{Cancel}
@@ -17,6 +18,7 @@ use Rattle.admit_core.specs.Tapes.{Tape, tape}
 use Rattle.order_desk.specs.declared.refusal.Refusal.{Refusal}
 use Rattle.order_desk.specs.Decisions.{Decision, Decides, new_screened, cancel_decided}
 use Rattle.order_desk.specs.Decisions.{replace_screened, screens_after}
+use Rattle.order_desk.specs.Desks.{DeskValue}
 use Rattle.order_desk.specs.Halting.{KeepsHalt}
 use Rattle.order_desk.specs.Offers.{new_offer, replace_offer}
 use Rattle.screen_kit.specs.Screens.{ScreenValue}
@@ -50,7 +52,7 @@ pub record Asked : Type 0 where
       (decide limits session.screens session.book (tape_of session))
       (record session { screens = screens limits session.screens session.book })
 
-pub order_asked : NewOrder → Asked
+abbrev pub order_asked : NewOrder → Asked
 order_asked order = record {
   message = message.New order;
   head = order.head;
@@ -60,7 +62,7 @@ order_asked order = record {
   by = λ limits fields session. refl;
 }
 
-pub cancel_asked : Cancel → Asked
+abbrev pub cancel_asked : Cancel → Asked
 cancel_asked cancel = record {
   message = message.Cancel cancel;
   head = cancel.head;
@@ -70,7 +72,7 @@ cancel_asked cancel = record {
   by = λ limits fields session. refl;
 }
 
-pub replace_asked : Replace → Asked
+abbrev pub replace_asked : Replace → Asked
 replace_asked replace = record {
   message = message.Replace replace;
   head = replace.head;
@@ -79,6 +81,22 @@ replace_asked replace = record {
   screens = λ limits screens book. screens_after screens (replace_offer limits replace book);
   by = λ limits fields session. refl;
 }
+
+-- a cancel is decided on with no post and no read
+pub cancel_decides : {H M K : Type 0} (cancel : Cancel) (before after : DeskValue H M K)
+    (refusal : Option Refusal) → after ≡ record before { book = after.book }
+    → ((own : Tape) → cancel_decided cancel before.book.value own
+    ≡ record { refusal = refusal; tape = own; book = after.book.value })
+    → Decides (cancel_decided cancel) before.hands.acts after.hands.acts before.book.value
+    after.book.value refusal
+cancel_decides {H} {M} {K} cancel before after refusal same decided =
+    let D : List Act → Type 0 = λ acts. Decides (cancel_decided cancel) before.hands.acts acts
+    before.book.value after.book.value refusal in
+    subst D (sym (ap (λ (d : DeskValue H M K). d.hands.acts) same)) (record {
+      seen = [];
+      reads_are = sym (append-nil (reads_of before.hands.acts));
+      decided = λ more. decided (tape before.hands.acts more);
+    })
 
 -- what was decided posted nothing in the halt tree
 pub decided_trips : (limits : LimitsValue) (decide : BookValue → Tape → Decision)

@@ -27,15 +27,13 @@ forward-requires-clause-time g c = λ fields has.
     ∙ (reject_facts fields c.args.reject.now (c.requires.read.each fields has)).time
 
 pub returns-clause-taken : goal.returns-clause-taken
-returns-clause-taken g c =
-    rw (← c.self.view_is) (λ taken.
-    let acts = rw (← c.self-2.view_is) at c.tell_effect-stamp.ensures.acts in
-    let others = rw (← c.self-2.view_is) at c.tell_effect-stamp.ensures.others in
-    let stamp_is = rw (← c.self-2.view_is) at c.tell_effect-stamp.ensures.stamp in
-    report_taken g.K.Screen.meaning (reject_told c.args.reject.now) c.args.sound.now _
-    c.settle_reject-effect.new.desk c.settle_reject-effect.result _ _ c.requires.read
+returns-clause-taken g c = λ taken.
+    report_taken g.K.Screen.meaning (reject_told c.args.reject.now) c.args.sound.now c.args.self.now _
+    c.settle_reject-effect.new.desk c.settle_reject-effect.result c.tell_effect-stamp.new.self _ _ c.self.view_is c.self-2.view_is
+    c.requires.read
     (λ fields has. reject_facts fields c.args.reject.now (c.requires.read.each fields has))
-    c.settle_reject-effect.ensures.screens c.settle_reject-effect.ensures.settled acts others
+    c.settle_reject-effect.ensures.screens c.settle_reject-effect.ensures.settled c.tell_effect-stamp.ensures.acts
+    c.tell_effect-stamp.ensures.others
     (λ fields has. subst (λ (s : Stamp). Appends (g.C.Sink.held c.self-2.inside.client)
-    (g.C.Sink.held c.forward.new.sink) (forward_text s.target s.seq fields)) stamp_is
-    (c.forward.ensures.given taken fields has)))
+    (g.C.Sink.held c.forward.new.sink) (forward_text s.target s.seq fields))
+    c.tell_effect-stamp.ensures.stamp (c.forward.ensures.given taken fields has))

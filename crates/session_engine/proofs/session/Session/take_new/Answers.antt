@@ -5,9 +5,10 @@ use Rattle.fix_orders.specs.declared.message.Message.TheVariants as message
 use Rattle.fix_orders.specs.declared.message.Stamp.{Stamp}
 use Rattle.order_desk.specs.Backing.{Covers}
 use Rattle.order_desk.proofs.HaltKept.{new_keeps}
+use Rattle.fix_orders.specs.Writing.{order_reject_fields}
 use Rattle.session_engine.specs.Answers.{order_refusal}
 use Rattle.session_engine.proofs.Answered.{answer_time, sent_answer, refused_answer}
-use Rattle.session_engine.proofs.Answered.{request_taken}
+use Rattle.session_engine.proofs.Answered.{request_taken, continues_answered}
 use Rattle.session_engine.proofs.MessageFacts.{new_facts, new_id}
 use Rattle.session_engine.proofs.RefusalTexts.{order_refusal_is}
 use Rattle.session_engine.proofs.RequestFrames.{order_asked, decided_trips}
@@ -43,31 +44,34 @@ forward-requires-clause-time g c = λ fields has.
 
 -- sent, it went on to the venue
 pub returns-in-None-clause-taken : goal.returns-in-None-clause-taken
-returns-in-None-clause-taken g c =
-    rw (← c.self.view_is) (λ taken.
-    let tells = rw (← c.self-2.view_is) at c.tell_answer-stamp.ensures.told in
-    let stamp_is = rw (← c.self-2.view_is) at c.tell_answer-stamp.ensures.stamp in
-    request_taken g.K.Screen.meaning (order_asked c.args.order.now) c.args.sound.now _
-    c.decide_new-refusal.new.desk c.decide_new-refusal.result _ _ _ c.requires.read
+returns-in-None-clause-taken g c = λ taken.
+    request_taken g.K.Screen.meaning (order_asked c.args.order.now) c.args.sound.now c.args.self.now _
+    c.decide_new-refusal.new.desk c.decide_new-refusal.result c.tell_answer-stamp.new.self _ _ _ c.self.view_is
+    c.self-2.view_is c.requires.read
     (λ fields has. new_facts fields c.args.order.now (c.requires.read.each fields has))
-    c.decide_new-refusal.ensures.later.limits_are c.decide_new-refusal.ensures.decides c.decide_new-refusal.ensures.screens tells
+    c.decide_new-refusal.ensures.later.limits_are c.decide_new-refusal.ensures.decides c.decide_new-refusal.ensures.screens
+    c.tell_answer-stamp.ensures.told
     (λ fields has. sent_answer g.K.Screen.meaning order_refusal fields c.decide_new-refusal.result
-    c.args.order.now.head.time _ _ c.tell_answer-stamp.result c.in-None.is stamp_is
-    (c.forward.ensures.given taken fields has)))
+    c.args.order.now.head.time c.tell_answer-stamp.new.self _ _ c.tell_answer-stamp.result
+    c.self-2.view_is c.in-None.is c.tell_answer-stamp.ensures.stamp
+    (c.forward.ensures.given taken fields has))
 
 -- refused, the client was told so
 pub returns-in-Some-clause-continues : goal.returns-in-Some-clause-continues
-returns-in-Some-clause-continues g c = ?
+returns-in-Some-clause-continues g c =
+    continues_answered g.H.Hand.SameOrigin g.M.Hand.SameOrigin g.met.H.Hand.origin_next
+    g.met.M.Hand.origin_next c.args.self.now _ c.decide_new-refusal.new.desk c.tell_answer-stamp.new.self _ _
+    c.self.view_is c.self-2.view_is c.decide_new-refusal.ensures.later c.tell_answer-stamp.ensures.continues
+    (record { name_is = c.give_written.ensures.name; faults_are = c.give_written.ensures.cause.later })
 
 pub returns-in-Some-clause-taken : goal.returns-in-Some-clause-taken
-returns-in-Some-clause-taken g c =
-    rw (← c.self.view_is) (λ taken.
-    let tells = rw (← c.self-2.view_is) at c.tell_answer-stamp.ensures.told in
-    let stamp_is = rw (← c.self-2.view_is) at c.tell_answer-stamp.ensures.stamp in
-    request_taken g.K.Screen.meaning (order_asked c.args.order.now) c.args.sound.now _
-    c.decide_new-refusal.new.desk c.decide_new-refusal.result _ _ _ c.requires.read
+returns-in-Some-clause-taken g c = λ taken.
+    request_taken g.K.Screen.meaning (order_asked c.args.order.now) c.args.sound.now c.args.self.now _
+    c.decide_new-refusal.new.desk c.decide_new-refusal.result c.tell_answer-stamp.new.self _ _ _ c.self.view_is
+    c.self-2.view_is c.requires.read
     (λ fields has. new_facts fields c.args.order.now (c.requires.read.each fields has))
-    c.decide_new-refusal.ensures.later.limits_are c.decide_new-refusal.ensures.decides c.decide_new-refusal.ensures.screens tells
+    c.decide_new-refusal.ensures.later.limits_are c.decide_new-refusal.ensures.decides c.decide_new-refusal.ensures.screens
+    c.tell_answer-stamp.ensures.told
     (λ fields has.
     let put = c.write_reject_order.ensures fields
     (rw (c.bytes.ensures.bytes, c.frame.ensures.frame) has) in
@@ -82,8 +86,11 @@ returns-in-Some-clause-taken g c =
     let P : List ℕ → Type 0 = λ m. Appends (g.C.Sink.held c.self-2.inside.client)
     (g.C.Sink.held c.give_written.new.sink) m in
     refused_answer g.K.Screen.meaning order_refusal fields c.decide_new-refusal.result c.in-Some.why
-    c.args.order.now.head.time _ _ c.tell_answer-stamp.result c.in-Some.is stamp_is
-    (subst P text (c.give_written.ensures.given taken _ put))))
+    c.args.order.now.head.time c.tell_answer-stamp.new.self _ _ c.tell_answer-stamp.result
+    c.self-2.view_is c.in-Some.is c.tell_answer-stamp.ensures.stamp
+    (subst P text (c.give_written.ensures.given taken (order_reject_fields fields
+    c.args.order.now.id c.tell_answer-stamp.result c.order_reason_of.result
+    c.bytes-in-Some.result.now) put)))
 
 pub write_reject_order-requires-clause-accepted : goal.write_reject_order-requires-clause-accepted
 write_reject_order-requires-clause-accepted g c =

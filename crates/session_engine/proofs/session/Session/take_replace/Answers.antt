@@ -5,9 +5,10 @@ use Rattle.fix_orders.specs.declared.message.Message.TheVariants as message
 use Rattle.fix_orders.specs.declared.message.Stamp.{Stamp}
 use Rattle.order_desk.specs.Backing.{Covers}
 use Rattle.order_desk.proofs.HaltKept.{replace_keeps}
+use Rattle.fix_orders.specs.Writing.{cancel_reject_fields}
 use Rattle.session_engine.specs.Answers.{replace_refusal}
 use Rattle.session_engine.proofs.Answered.{answer_time, sent_answer, refused_answer}
-use Rattle.session_engine.proofs.Answered.{request_taken}
+use Rattle.session_engine.proofs.Answered.{request_taken, continues_answered}
 use Rattle.session_engine.proofs.MessageFacts.{replace_facts, replace_ids}
 use Rattle.session_engine.proofs.RefusalTexts.{request_refusal_is}
 use Rattle.session_engine.proofs.RequestFrames.{replace_asked, decided_trips}
@@ -45,31 +46,34 @@ forward-requires-clause-time g c = λ fields has.
 
 -- sent, it went on to the venue
 pub returns-in-None-clause-taken : goal.returns-in-None-clause-taken
-returns-in-None-clause-taken g c =
-    rw (← c.self.view_is) (λ taken.
-    let tells = rw (← c.self-2.view_is) at c.tell_answer-stamp.ensures.told in
-    let stamp_is = rw (← c.self-2.view_is) at c.tell_answer-stamp.ensures.stamp in
-    request_taken g.K.Screen.meaning (replace_asked c.args.replace.now) c.args.sound.now _
-    c.decide_replace-refusal.new.desk c.decide_replace-refusal.result _ _ _ c.requires.read
+returns-in-None-clause-taken g c = λ taken.
+    request_taken g.K.Screen.meaning (replace_asked c.args.replace.now) c.args.sound.now c.args.self.now _
+    c.decide_replace-refusal.new.desk c.decide_replace-refusal.result c.tell_answer-stamp.new.self _ _ _ c.self.view_is
+    c.self-2.view_is c.requires.read
     (λ fields has. replace_facts fields c.args.replace.now (c.requires.read.each fields has))
-    c.decide_replace-refusal.ensures.later.limits_are c.decide_replace-refusal.ensures.decides c.decide_replace-refusal.ensures.screens tells
+    c.decide_replace-refusal.ensures.later.limits_are c.decide_replace-refusal.ensures.decides c.decide_replace-refusal.ensures.screens
+    c.tell_answer-stamp.ensures.told
     (λ fields has. sent_answer g.K.Screen.meaning replace_refusal fields c.decide_replace-refusal.result
-    c.args.replace.now.head.time _ _ c.tell_answer-stamp.result c.in-None.is stamp_is
-    (c.forward.ensures.given taken fields has)))
+    c.args.replace.now.head.time c.tell_answer-stamp.new.self _ _ c.tell_answer-stamp.result
+    c.self-2.view_is c.in-None.is c.tell_answer-stamp.ensures.stamp
+    (c.forward.ensures.given taken fields has))
 
 -- refused, the client was told so
 pub returns-in-Some-clause-continues : goal.returns-in-Some-clause-continues
-returns-in-Some-clause-continues g c = ?
+returns-in-Some-clause-continues g c =
+    continues_answered g.H.Hand.SameOrigin g.M.Hand.SameOrigin g.met.H.Hand.origin_next
+    g.met.M.Hand.origin_next c.args.self.now _ c.decide_replace-refusal.new.desk c.tell_answer-stamp.new.self _ _
+    c.self.view_is c.self-2.view_is c.decide_replace-refusal.ensures.later c.tell_answer-stamp.ensures.continues
+    (record { name_is = c.give_written.ensures.name; faults_are = c.give_written.ensures.cause.later })
 
 pub returns-in-Some-clause-taken : goal.returns-in-Some-clause-taken
-returns-in-Some-clause-taken g c =
-    rw (← c.self.view_is) (λ taken.
-    let tells = rw (← c.self-2.view_is) at c.tell_answer-stamp.ensures.told in
-    let stamp_is = rw (← c.self-2.view_is) at c.tell_answer-stamp.ensures.stamp in
-    request_taken g.K.Screen.meaning (replace_asked c.args.replace.now) c.args.sound.now _
-    c.decide_replace-refusal.new.desk c.decide_replace-refusal.result _ _ _ c.requires.read
+returns-in-Some-clause-taken g c = λ taken.
+    request_taken g.K.Screen.meaning (replace_asked c.args.replace.now) c.args.sound.now c.args.self.now _
+    c.decide_replace-refusal.new.desk c.decide_replace-refusal.result c.tell_answer-stamp.new.self _ _ _ c.self.view_is
+    c.self-2.view_is c.requires.read
     (λ fields has. replace_facts fields c.args.replace.now (c.requires.read.each fields has))
-    c.decide_replace-refusal.ensures.later.limits_are c.decide_replace-refusal.ensures.decides c.decide_replace-refusal.ensures.screens tells
+    c.decide_replace-refusal.ensures.later.limits_are c.decide_replace-refusal.ensures.decides c.decide_replace-refusal.ensures.screens
+    c.tell_answer-stamp.ensures.told
     (λ fields has.
     let put = c.write_reject_cancel.ensures in
     let ids = replace_ids fields c.args.replace.now (c.requires.read.each fields has) in
@@ -84,5 +88,8 @@ returns-in-Some-clause-taken g c =
     let P : List ℕ → Type 0 = λ m. Appends (g.C.Sink.held c.self-2.inside.client)
     (g.C.Sink.held c.give_written.new.sink) m in
     refused_answer g.K.Screen.meaning replace_refusal fields c.decide_replace-refusal.result c.in-Some.why
-    c.args.replace.now.head.time _ _ c.tell_answer-stamp.result c.in-Some.is stamp_is
-    (subst P text (c.give_written.ensures.given taken _ put))))
+    c.args.replace.now.head.time c.tell_answer-stamp.new.self _ _ c.tell_answer-stamp.result
+    c.self-2.view_is c.in-Some.is c.tell_answer-stamp.ensures.stamp
+    (subst P text (c.give_written.ensures.given taken (cancel_reject_fields c.args.replace.now.id
+    c.args.replace.now.orig c.tell_answer-stamp.result 2 c.request_reason_of.result
+    c.bytes.result.now) put)))
