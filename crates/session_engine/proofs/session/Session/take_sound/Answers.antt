@@ -1,6 +1,7 @@
 -- What was read of the frame leads to the next session.
 use Rattle.std.proofs.Common.{◌≡◌, refl, sym, ◌∙◌, ap}
 use Rattle.std.specs.Prelude.{Ok}
+use Rattle.fix_orders.specs.declared.message.Message.{Message}
 use Rattle.fix_orders.specs.declared.message.Message.TheVariants as message
 use Rattle.fix_orders.specs.Reading.{read_of}
 use Rattle.session_engine.specs.Running.{kept_of}
@@ -19,7 +20,7 @@ take_new-requires-clause-read g c = record {
   is_sound = c.bytes.ensures.sound;
   each = λ fields has.
       sym (c.read_message.ensures fields (rw (c.bytes.ensures.bytes, c.frame.ensures.frame) has))
-      ∙ c.in-Ok-New.is;
+      ∙ c.in-Ok-New.is ∙ ap (λ (m : Message). Ok m) c.in-Ok-New.field-0-is;
 }
 
 pub take_cancel-requires-clause-read : goal.take_cancel-requires-clause-read
@@ -27,7 +28,7 @@ take_cancel-requires-clause-read g c = record {
   is_sound = c.bytes.ensures.sound;
   each = λ fields has.
       sym (c.read_message.ensures fields (rw (c.bytes.ensures.bytes, c.frame.ensures.frame) has))
-      ∙ c.in-Ok-Cancel.is;
+      ∙ c.in-Ok-Cancel.is ∙ ap (λ (m : Message). Ok m) c.in-Ok-Cancel.field-0-is;
 }
 
 pub take_replace-requires-clause-read : goal.take_replace-requires-clause-read
@@ -35,7 +36,7 @@ take_replace-requires-clause-read g c = record {
   is_sound = c.bytes.ensures.sound;
   each = λ fields has.
       sym (c.read_message.ensures fields (rw (c.bytes.ensures.bytes, c.frame.ensures.frame) has))
-      ∙ c.in-Ok-Replace.is;
+      ∙ c.in-Ok-Replace.is ∙ ap (λ (m : Message). Ok m) c.in-Ok-Replace.field-0-is;
 }
 
 pub take_report-requires-clause-read : goal.take_report-requires-clause-read
@@ -43,7 +44,7 @@ take_report-requires-clause-read g c = record {
   is_sound = c.bytes.ensures.sound;
   each = λ fields has.
       sym (c.read_message.ensures fields (rw (c.bytes.ensures.bytes, c.frame.ensures.frame) has))
-      ∙ c.in-Ok-Report.is;
+      ∙ c.in-Ok-Report.is ∙ ap (λ (m : Message). Ok m) c.in-Ok-Report.field-0-is;
 }
 
 pub take_cancel_reject-requires-clause-read : goal.take_cancel_reject-requires-clause-read
@@ -51,14 +52,15 @@ take_cancel_reject-requires-clause-read g c = record {
   is_sound = c.bytes.ensures.sound;
   each = λ fields has.
       sym (c.read_message.ensures fields (rw (c.bytes.ensures.bytes, c.frame.ensures.frame) has))
-      ∙ c.in-Ok-CancelReject.is;
+      ∙ c.in-Ok-CancelReject.is ∙ ap (λ (m : Message). Ok m) c.in-Ok-CancelReject.field-0-is;
 }
 
 pub returns-in-Ok-Admin-clause-taken : goal.returns-in-Ok-Admin-clause-taken
 returns-in-Ok-Admin-clause-taken g c =
     rw (← c.self.view_is) (λ taken fields has session own.
     let read : read_of fields ≡ Ok message.Admin = sym (c.read_message.ensures fields
-    (rw (c.bytes.ensures.bytes, c.frame.ensures.frame) has)) ∙ c.in-Ok-Admin.is in
+    (rw (c.bytes.ensures.bytes, c.frame.ensures.frame) has)) ∙ c.in-Ok-Admin.is
+    ∙ ap (λ (m : Message). Ok m) c.in-Ok-Admin.field-0-is in
     takes_admin c.self.inside.desk.limits fields session _ _ (admin_is_no_request fields read)
     read own (record {
       book = refl;
@@ -72,7 +74,8 @@ returns-in-Ok-Admin-clause-taken g c =
 pub returns-in-Ok-Other-clause-taken : goal.returns-in-Ok-Other-clause-taken
 returns-in-Ok-Other-clause-taken g c = λ taken fields has session own.
     let read : read_of fields ≡ Ok message.Other = sym (c.read_message.ensures fields
-    (rw (c.bytes.ensures.bytes, c.frame.ensures.frame) has)) ∙ c.in-Ok-Other.is in
+    (rw (c.bytes.ensures.bytes, c.frame.ensures.frame) has)) ∙ c.in-Ok-Other.is
+    ∙ ap (λ (m : Message). Ok m) c.in-Ok-Other.field-0-is in
     let noted = c.note_frame.ensures.noted in
     takes_other c.args.self.now.desk.limits fields session
     (kept_of g.K.Screen.meaning c.args.self.now) (kept_of g.K.Screen.meaning c.note_frame.new.self)
