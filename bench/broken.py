@@ -146,6 +146,14 @@ def tag_of(field):
     return int(tag) if tag.isdigit() else None
 
 
+def with_value(frame, tag, value):
+    """The frame with another value of its first field of this tag."""
+    fields = parts(frame)[2].split(SOH)[:-1]
+    at = next(at for at, field in enumerate(fields) if tag_of(field) == tag)
+    fields[at] = b"%d=%s" % (tag, value)
+    return framed(body_of(fields))
+
+
 @of_fields
 def odd_tag(dice, fields):
     """A tag with zeros before it, too long, empty or no number; or a field without `=`."""

@@ -5,9 +5,10 @@ plain model.
 usage: fuzz.py [--runs N] [--seed N] [--only NUMBER] [--jobs N] [--gate PATH] [--keep FOLDER]
 
 20,000 runs, seed 1, one job. A run has 1 to 4 sessions, made of worked runs (`rows.py`), of random
-sessions (`loads.py`) or of reports on orders in every state, with up to three changes in each
-(`broken.py`). It is judged as `stress.py` judges: acts, streams, totals and status are those of the
-model in `model`. It depends on the seed and its number alone, so `--only` repeats one. It prints
+sessions (`loads.py`), of messages with each value at the limits of a field, or of reports on orders
+in every state, with up to three changes in each (`broken.py`). It is judged as `stress.py` judges:
+acts, streams, totals and status are those of the model in `model`; and so is the fault of a limit
+file that has one. It depends on the seed and its number alone, so `--only` repeats one. It prints
 what it ran and saw. At a run that is wrong it looks for a smaller one that is wrong too, leaves its
 files in FOLDER, where one is given, and ends with status 1.
 """
@@ -29,7 +30,7 @@ from model.judge import Wrong, demand, judge_run
 from model.limits import Limits, first_fault
 from model.screens import own_screens
 from model.session import ENDS, Session, take_frames
-from rows import ROWS, base
+from rows import ROWS, base, buy, cancel, refusal, replace, trade
 from stress import PROGRAM, call, count, results
 
 # The status of a limit file with a fault, and what is answered to one that isn't served.
@@ -134,9 +135,31 @@ def limits_of(dice):
     return text
 
 
+def asked_of(kind, place):
+    """What comes before a message of a kind, and the message, with ids of their own."""
+    own, other = f"o{place}", f"r{place}"
+    first = buy("C1", own, 2, "2.5")
+    return {"D": (b"", first), "F": (first, cancel(other, own)),
+            "G": (first, replace(other, own, 3, "2.5")), "8": (first, trade(own, 1, "2")),
+            "9": (first + cancel(other, own), refusal(other, own))}[kind]
+
+
+def ladder(dice):
+    """One kind of message, once with each value at the limits of one of its fields."""
+    kind, data = dice.choice("DFG89"), []
+    tag = dice.choice([tag for tag in broken.VALUES if b"\x01%d=" % tag in asked_of(kind, 0)[1]])
+    for place, value in enumerate(broken.VALUES[tag]):
+        before, message = asked_of(kind, place)
+        data += before, broken.with_value(message, tag, value)
+    return b"".join(data)
+
+
 def session_of(dice, number, limits):
     """A session's input, before it is changed."""
-    if dice.random() < 0.4:
+    choice = dice.random()
+    if choice < 0.2:
+        return ladder(dice)
+    if choice < 0.5:
         return loads.session(dice, number, dice.randint(1, 12))
     desk = Desk(dice, number, Limits(limits))
     # Now and then more than the program's buffer holds.

@@ -60,6 +60,16 @@ class Broken(unittest.TestCase):
                     found = next_frame(frames[0], 0)
                     self.assertEqual((found.start, found.end), (0, len(frames[0])))
 
+    def test_a_field_has_the_value_that_it_is_given(self):
+        """In each kind of message, for a field that it is read of; and no other field changes."""
+        for kind, tag in (("D", 38), ("F", 41), ("G", 44), ("8", 31), ("9", 11)):
+            with self.subTest(kind):
+                frame = fuzz.asked_of(kind, 0)[1]
+                given = next_frame(broken.with_value(frame, tag, b"7"), 0).fields
+                wanted = [(own, b"7" if own == tag else value)
+                          for own, value in next_frame(frame, 0).fields]
+                self.assertEqual(given, wanted)
+
     def test_what_is_split_is_the_input(self):
         """Frames and the rest behind them, with what is passed over."""
         data = b"\r\n" + FIRST + b"\n" + FIRST[:40]
@@ -117,6 +127,15 @@ class Program(unittest.TestCase):
         """A hundred."""
         _, wrong = fuzz.chunk(SimpleNamespace(seed=2, gate=GATE), range(100))
         self.assertIsNone(wrong)
+
+    def test_each_front_of_a_frame(self):
+        """Also of frames whose BodyLength is of too many digits, of none, or no number."""
+        lengths = (b"", b"0", b"x", b"5", b"0000005", b"00000005", b"8192", b"8193", b"9999999")
+        frames = [broken.HEAD + length + b"\x0135=0\x0110=163\x01" for length in lengths]
+        fronts = [frame[:end] for frame in frames + [FIRST] for end in range(len(frame) + 1)]
+        for at in range(0, len(fronts), 32):
+            inputs = fronts[at:at + 32]
+            self.assertIsNone(fuzz.wrong_of(GATE, base(1_000), inputs, Counter()), inputs)
 
     @unittest.skipUnless(shutil.which("cc"), "there is no C compiler")
     def test_refused_allocations(self):

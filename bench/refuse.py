@@ -5,13 +5,13 @@ usage: refuse.py [--onward] [--gate PATH] [--keep FOLDER] [--most N] [RUN...]   
 
 `refuse/refuse.c`, which `cc` makes here, is loaded in front of the C library's malloc. The first
 allocation is refused, then in a run of its own the second, and so on, until a run makes fewer than
-that; with `--onward` all behind it are refused too. Sessions are tasks, so how many a run makes, and
-which is which, differs a little from run to run. Each run has to end with status 8 or as it does
-with ample memory: with one session the same bytes, text and status; with several a run that the
-judge of `stress.py` takes. Where it ends with 8 and a whole journal stands, that has to be legal,
-and each session is judged: one that ended for want of memory has the acts and messages of a number
-of first frames, so no post without its frame's verdict. It ends with status 1 at the first run that
-does otherwise, whose files it leaves in FOLDER, where one is given.
+that; with `--onward` all behind it are refused too. Sessions are tasks, so how many a run makes,
+and which is which, differs a little from run to run. Each run has to end with status 8 or as it
+does with ample memory: with one session the same bytes, text and status; with several a run that
+the judge of `stress.py` takes. Where it ends with 8 and a whole journal stands, that has to be
+legal, and each session is judged: one that ended for want of memory has the acts and messages of a
+number of first frames, so no post without its frame's verdict. It ends with status 1 at the first
+run that does otherwise, whose files it leaves in FOLDER, where one is given.
 """
 import argparse
 import os

@@ -27,7 +27,7 @@ import tempfile
 from beside import copy_beside
 
 BENCH = os.path.dirname(os.path.abspath(__file__))
-CRATES = ("fold_law", "risk_board", "stamp_word", "node_rule", "double_refresh", "f_array", "trail_replay")
+CRATES = ("fold_law", "fork_all", "risk_board", "stamp_word", "node_rule", "double_refresh", "f_array", "trail_replay")
 USED = ("fold_law", "stamp_word", "node_rule", "f_array", "trail_replay", "risk_board", "atomic_table")
 WORKS = ("record", "prepared", "each")
 PASSES = 32

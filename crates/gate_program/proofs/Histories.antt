@@ -15,8 +15,8 @@ use Rattle.risk_board.specs.declared.hand.Line.{Line}
 use Rattle.risk_board.specs.History.{IsLegal, Event, components_of}
 use Rattle.risk_journal.specs.declared.acts.Act.{Act}
 use Rattle.risk_journal.specs.ActLists.{events_of}
-use Rattle.session_engine.specs.Trees.{fold_of, limit_of, halt_tree, tree_limits, account_limits}
-use Rattle.session_engine.specs.Trees.{symbol_limits}
+use Rattle.limit_table.specs.Trees.{fold_of, limit_of, halt_tree, tree_limits, account_limits}
+use Rattle.limit_table.specs.Trees.{symbol_limits}
 use Rattle.session_engine.specs.Admitted.{AdmitsOwn, StaysWithin}
 use Rattle.gate_program.specs.Histories.{AreHistories, AreLegalLines}
 use Rattle.gate_program.specs.Run.{IsHistory}

@@ -1,6 +1,5 @@
 pub mod Lists
 pub mod LimitFiles
-pub mod LimitQuota
 pub mod LimitTexts
 pub mod Chains
 pub mod Outputs

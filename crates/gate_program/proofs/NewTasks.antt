@@ -3,8 +3,7 @@ use Rattle.std.proofs.Common.{◌≡◌, ℕ, zero, suc, ◌≤◌, List, [], �
 use Rattle.std.proofs.Common.{subst}
 use Rattle.std.specs.List.{AllByRecursion}
 use Rattle.limit_table.specs.declared.limits.Limits.{Limits}
-use Rattle.limit_table.specs.Files.{IsHeldByFile}
-use Rattle.session_engine.specs.Trees.{halt_tree}
+use Rattle.limit_table.specs.Trees.{halt_tree}
 use Rattle.node_rule.specs.declared.view.Plan.{Plan}
 use Rattle.node_rule.specs.Standing.{Forested}
 use Rattle.f_array.specs.Passes.{PassValue, IsPassOf, new_pass, new_passes}
@@ -25,8 +24,7 @@ all_fresh forest (suc n) =
     all_pushed (IsFresh forest) (new_passes forest n) (new_pass forest n) (all_fresh forest n)
     ((refl, refl), refl)
 
-module _ (limits : Limits) (sums halts : Forested) (sessions : ℕ) (held : IsHeldByFile limits)
-    (some : 1 ≤ limits.quota) (own : IsForestFor (halt_tree limits) sessions limits.quota sums)
+module _ (limits : Limits) (sums halts : Forested) (sessions : ℕ) (some : 1 ≤ limits.quota) (own : IsForestFor (halt_tree limits) sessions limits.quota sums)
     (other : IsForestFor 1 sessions limits.quota halts) where
   ready_each : {A : Type 0} (sum halt : A → PassValue) (tasks : List A)
       → AllByRecursion (IsFresh sums) (map sum tasks)
@@ -35,7 +33,6 @@ module _ (limits : Limits) (sums halts : Forested) (sessions : ℕ) (held : IsHe
   ready_each sum halt [] p q = tt
   ready_each sum halt (task ∷ tasks) p q = (
     record {
-      held = held;
       sum_trees = ap (λ (x : Plan). x.trees) own.plan;
       sum_quota = ap (λ (x : Plan). x.quota) own.plan;
       halt_trees = ap (λ (x : Plan). x.trees) other.plan;

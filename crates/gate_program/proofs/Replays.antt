@@ -18,7 +18,7 @@ use Rattle.risk_journal.specs.ActLists.{calls_below, calls_at, events_of, placed
 use Rattle.risk_journal.specs.ActLists.{unplaced}
 use Rattle.risk_journal.proofs.PlacedActs.{alike}
 use Rattle.limit_table.specs.declared.limits.Limits.{Limits}
-use Rattle.session_engine.specs.Trees.{halt_tree}
+use Rattle.limit_table.specs.Trees.{halt_tree}
 use Rattle.node_rule.specs.declared.view.Plan.{Plan}
 use Rattle.f_array.specs.Passes.{PassValue}
 use Rattle.f_array.specs.declared.record.Record.{Record}
@@ -289,10 +289,10 @@ all_alike place (own ∷ acts) =
     (alike place own)
     ∙ ap (λ (l : List (List Act)). map unplaced own ∷ l) (all_alike place acts)
 
-pub told_alike : (place : ℕ → ℕ → ℕ) (placed acts : List (List Act))
-    → placed ≡ map (map (placed_by place)) acts
-    → map (map unplaced) placed ≡ map (map unplaced) acts
-told_alike place placed acts are = ap (map (map unplaced)) are ∙ all_alike place acts
+pub told_alike : (place : ℕ → ℕ → ℕ) (told acts : List (List Act))
+    → told ≡ map (map (placed_by place)) acts
+    → map (map unplaced) told ≡ map (map unplaced) acts
+told_alike place told acts are = ap (map (map unplaced)) are ∙ all_alike place acts
 
 did_calls : (passes : List PassValue)
     → map (λ did. did.calls) (map did_of passes) ≡ map (λ pass. pass.track.calls) passes

@@ -15,7 +15,7 @@ use Rattle.risk_journal.specs.declared.acts.Act.{Act}
 use Rattle.risk_journal.specs.declared.acts.End.{End}
 use Rattle.risk_journal.specs.declared.totals.SessionTotal.{SessionTotal}
 use Rattle.risk_journal.specs.declared.totals.TreeTotal.{TreeTotal}
-use Rattle.session_engine.specs.Trees.{limit_of, account_limits, symbol_limits, tree_limits}
+use Rattle.limit_table.specs.Trees.{limit_of, account_limits, symbol_limits, tree_limits}
 use Rattle.gate_program.specs.Totals.{session_total, session_totals, tree_total, tree_totals_from}
 use Rattle.gate_program.specs.Totals.{or_zero, name_of, tree_names}
 use Rattle.gate_program.proofs.Lists.{take_one, map_at, there_still, behind}

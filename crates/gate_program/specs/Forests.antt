@@ -3,10 +3,9 @@ use Rattle.std.specs.Prelude.{◌≡◌, ℕ, ◌≤◌, List, [], length, map, 
 use Rattle.fold_law.specs.declared.limits.TheConstants.{LEAF}
 use Rattle.fold_law.specs.Sum.{sum_of}
 use Rattle.limit_table.specs.declared.limits.Limits.{Limits}
-use Rattle.limit_table.specs.Files.{IsHeldByFile}
 use Rattle.risk_journal.specs.declared.acts.Act.{Act}
 use Rattle.risk_journal.specs.ActLists.{calls_below, calls_at}
-use Rattle.session_engine.specs.Trees.{halt_tree}
+use Rattle.limit_table.specs.Trees.{halt_tree}
 use Rattle.stamp_word.specs.Places.{IsLeast}
 use Rattle.node_rule.specs.declared.view.Plan.{Plan}
 use Rattle.node_rule.specs.Standing.{Forested, plan_of}
@@ -38,7 +37,6 @@ pub record AreNew (sessions : ℕ) (forests : Forests) (passes : Passes) : Type 
 
 -- the forests are those of the limits, and these passes are of them and made no call
 pub record AreReady (limits : Limits) (sums halts : Forested) (sum halt : PassValue) : Type 0 where
-  pub held : IsHeldByFile limits
   pub sum_trees : sums.plan.trees ≡ halt_tree limits
   pub sum_quota : sums.plan.quota ≡ limits.quota
   pub halt_trees : halts.plan.trees ≡ 1

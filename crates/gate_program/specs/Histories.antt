@@ -7,7 +7,7 @@ use Rattle.risk_board.specs.declared.hand.Line.{Line}
 use Rattle.risk_board.specs.History.{IsLegal, components_of}
 use Rattle.risk_journal.specs.declared.acts.Act.{Act}
 use Rattle.risk_journal.specs.ActLists.{events_of}
-use Rattle.session_engine.specs.Trees.{tree_count, fold_of}
+use Rattle.limit_table.specs.Trees.{tree_count, fold_of}
 use Rattle.gate_program.specs.Totals.{HaveTotals}
 
 -- the lines of so many trees of sums and of one halt tree are with the acts one legal history each,

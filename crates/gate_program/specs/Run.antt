@@ -11,7 +11,7 @@ use Rattle.risk_journal.specs.declared.acts.Act.{Act}
 use Rattle.risk_journal.specs.declared.acts.End.{End}
 use Rattle.risk_journal.specs.declared.acts.End.TheVariants as ending
 use Rattle.limit_table.specs.declared.limits.Limits.{Limits}
-use Rattle.session_engine.specs.Trees.{tree_count, fold_of, limit_of}
+use Rattle.limit_table.specs.Trees.{tree_count, fold_of, limit_of}
 use Rattle.risk_journal.specs.ActLists.{events_of}
 use Rattle.session_engine.specs.Admitted.{AdmitsOwn, StaysWithin}
 use Rattle.gate_program.specs.Words.{RunWords, venue_name, client_name}

@@ -17,7 +17,7 @@ use Rattle.risk_journal.specs.declared.totals.TreeKind.{TreeKind}
 use Rattle.risk_journal.specs.declared.totals.TreeKind.TheVariants as kind
 use Rattle.risk_journal.specs.declared.totals.TreeTotal.{TreeTotal}
 use Rattle.risk_journal.specs.TotalsText.{totals_text}
-use Rattle.session_engine.specs.Trees.{halt_tree, fold_of, limit_of}
+use Rattle.limit_table.specs.Trees.{halt_tree, fold_of, limit_of}
 
 abbrev pub is_sent : Act → Bool
 is_sent (act.Sent frame) = true

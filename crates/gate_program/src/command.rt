@@ -9,7 +9,6 @@ ghost use Rattle.gate_program.specs.Gate.{HasLimits, GateRun, RunWent, SessionsW
 ghost use Rattle.gate_program.specs.Names.{AreNames};
 ghost use Rattle.gate_program.specs.Objects.{objects_of, EachOwn};
 ghost use Rattle.gate_program.specs.Room.{HasNone, HasSpare};
-ghost use Rattle.limit_table.specs.Files.{IsHeldByFile};
 ghost use Rattle.gate_program.specs.Stages.{folder_of, folder_with};
 ghost use Rattle.gate_program.specs.Statuses.{answer_number, answer_text};
 ghost use Rattle.gate_program.specs.Words.{is_run, journal_name, session_most};
@@ -71,7 +70,6 @@ fn finish_run<R: Threads + Sync, D: Folder>(
     ended: Ended<D::In, D::Out>,
     folder: &mut D,
 ) -> Answer
-    requires held { IsHeldByFile limits.now }
     requires most { length run.now.sessions.now ≤ session_most }
     requires names { AreNames run.now.out.now (length run.now.sessions.now)
         names.now.sessions.items }
@@ -92,6 +90,7 @@ fn finish_run<R: Threads + Sync, D: Folder>(
         (map (objects_of D.In.left D.In.name D.In.faults D.Out.held D.Out.name D.Out.faults)
         ended.opened.items) (answer_text result) (answer_number result) }
 {
+    limits.stand_in_a_file();
     let Ended {
         passes,
         acts,
@@ -127,7 +126,6 @@ fn run_opened<R: Threads + Sync, D: Folder, G: Gate>(
     opened: Vec<Opened<D::In, D::Out>>,
     folder: &mut D,
 ) -> Answer
-    requires held { IsHeldByFile limits.now }
     requires run { IsTrue (is_run (run_value run.now)) }
     requires names { AreNames run.now.out.now (length run.now.sessions.now)
         ready.names.sessions.items }
@@ -178,7 +176,6 @@ fn run_limited<R: Threads + Sync, D: Folder, G: Gate>(
 ) -> Answer
     requires run { IsTrue (is_run (run_value run.now)) }
     requires limits { HasLimits (D.texts folder.old) run.now.limits.now limits.now }
-    requires held { IsHeldByFile limits.now }
     requires sets { length screens.items ≡ session_most }
     ensures { (answer_number result ≡ 8) ⊎ SessionsWent (run_value run.now)
         (map (λ set. map (λ b. (Screen-box b).meaning b.value) set.items) screens.items)

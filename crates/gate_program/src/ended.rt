@@ -2,7 +2,6 @@
 ghost use Rattle.std.specs.Prelude.{◌≡◌, ◌^◌, ◌≤◌, ◌<◌, [], length, map, IfErr, IfOk, vec_capacity};
 ghost use Rattle.std.specs.List.{AllByRecursion};
 ghost use Rattle.f_array.specs.Passes.{new_passes};
-ghost use Rattle.limit_table.specs.Files.{IsHeldByFile};
 ghost use Rattle.gate_program.specs.Forests.{AreOpened, HaveRun};
 ghost use Rattle.gate_program.specs.Objects.{objects_of, HaveDone};
 ghost use Rattle.gate_program.specs.Room.{HasNone, HasSpare};
@@ -108,7 +107,6 @@ pub(crate) fn run_sessions<R: Threads + Sync, D: Folder, G: Gate>(
     tasks: Vec<Task<D::In, D::Out>>,
     room: Ended<D::In, D::Out>,
 ) -> Result<Ended<D::In, D::Out>, Vec<Opened<D::In, D::Out>>>
-    requires held { IsHeldByFile limits.now }
     requires some { 1 ≤ length tasks.items }
     requires forests { AreOpened limits.now (length tasks.items) forests.now }
     requires sums { map (λ t. t.sum) tasks.items
@@ -130,6 +128,7 @@ pub(crate) fn run_sessions<R: Threads + Sync, D: Folder, G: Gate>(
         (map (λ own. own.items) ended.acts.items) ended.ends.items) }
     ensures err { IfErr result (λ back. back.items ≡ map (λ t. t.opened) tasks.items) }
 {
+    limits.stand_in_a_file();
     match run_tasks::<R, D, G>(rt, alloc, limits, gate, forests, tasks) {
         Ok(done) => Ok(taken_apart(done, room)),
         Err(tasks) => Err(opened_of(tasks, room.opened)),

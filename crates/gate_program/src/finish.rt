@@ -2,7 +2,6 @@
 ghost use Rattle.std.specs.Prelude.{◌≡◌, ◌^◌, ◌<◌, ◌≤◌, ◌⊎◌, length, map, All, string_bytes};
 ghost use Rattle.std.specs.Prelude.{OnOk, IsErrOf};
 ghost use Rattle.std.specs.Io.KnownBytes.{Appends};
-ghost use Rattle.limit_table.specs.Files.{IsHeldByFile};
 ghost use Rattle.gate_program.specs.CommandOf.{run_value};
 ghost use Rattle.gate_program.specs.Finish.{HasAnswer, HasStood, HasFinished};
 ghost use Rattle.gate_program.specs.Totals.{HaveTotals};
@@ -71,7 +70,6 @@ fn answer_after<R: Threads + Sync>(
     ends: &[End],
     refused: bool,
 ) -> Answer
-    requires held { IsHeldByFile limits.now }
     requires few { length journal.now.acts.items ≤ session_most }
     requires ends { length ends.now ≡ length journal.now.acts.items }
     requires acts { All (λ own. length own.items < 2 ^ 32) journal.now.acts.items }
@@ -102,7 +100,6 @@ fn keep_journal<R: Threads + Sync, D: Folder>(
     ends: &[End],
     folder: &mut D,
 ) -> Answer
-    requires held { IsHeldByFile limits.now }
     requires few { length journal.now.acts.items ≤ session_most }
     requires ends { length ends.now ≡ length journal.now.acts.items }
     requires few_trees { length journal.now.lines.items < 2 ^ 32 }
@@ -147,7 +144,6 @@ pub(crate) fn finish<R: Threads + Sync, D: Folder>(
     finished: Finished<D::In, D::Out>,
     folder: &mut D,
 ) -> Answer
-    requires held { IsHeldByFile limits.now }
     requires most { length run.now.sessions.now ≤ session_most }
     requires names { AreNames run.now.out.now (length run.now.sessions.now)
         names.now.sessions.items }

@@ -4,7 +4,6 @@ ghost use Rattle.std.specs.Prelude.{◌≡◌, ◌≤◌, IfOk};
 ghost use Rattle.f_array.specs.Records.{AreAllOf};
 ghost use Rattle.gate_program.specs.Forests.{AreBack, AreNew, AreOpened, HasClosed, HaveClosed};
 ghost use Rattle.gate_program.specs.Words.{session_most};
-ghost use Rattle.limit_table.specs.Files.{IsHeldByFile};
 
 use f_array::{Forest, Keeper, Pass, Record};
 use fold_law::{Fold, Max, Memory, Sum};
@@ -40,15 +39,14 @@ pub(crate) struct Opening {
 
 /// Opens the forests of these limits for so many sessions.
 pub(crate) fn open_forests(alloc: Global, limits: &Limits, sessions: u32) -> Result<Opening, Memory>
-    requires held { IsHeldByFile limits.now }
     requires sessions { (1 ≤ sessions) × (sessions ≤ session_most) }
     ensures forests { IfOk result (λ made. AreOpened limits.now sessions made.forests) }
     ensures passes { IfOk result (λ made. AreNew sessions made.forests made.passes) }
 {
     let shape = Shape::of(sessions, limits.halt_tree());
-    let (sums, sum_keeper, own) = Forest::<Sum>::open(alloc, shape, sessions, limits.quota)?;
+    let (sums, sum_keeper, own) = Forest::<Sum>::open(alloc, shape, sessions, limits.quota())?;
     let shape = Shape::of(sessions, 1);
-    let (halts, halt_keeper, others) = Forest::<Max>::open(alloc, shape, sessions, limits.quota)?;
+    let (halts, halt_keeper, others) = Forest::<Max>::open(alloc, shape, sessions, limits.quota())?;
     Ok(Opening {
         forests: Forests {
             sums,

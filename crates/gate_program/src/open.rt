@@ -1,7 +1,6 @@
 //! What is read and opened before a session runs.
 ghost use Rattle.std.specs.Prelude.{◌≡◌, ◌+◌, [], IfOk, IfErr, IsTrue, length, map, string_bytes};
 ghost use Rattle.std.specs.Option.{option_map};
-ghost use Rattle.limit_table.specs.Files.{IsHeldByFile};
 ghost use Rattle.gate_program.specs.Stages.{folder_of, Went, HasFront, HasLimitsFault};
 ghost use Rattle.gate_program.specs.Gate.{HasLimits};
 ghost use Rattle.gate_program.specs.Stages.{IsUnread, IsUnmade, IsUnopened, IsNewSource, IsNewSink};
@@ -59,7 +58,6 @@ pub(crate) fn read_limits<D: Folder>(
     ensures texts { D.texts folder.new ≡ D.texts folder.old }
     ensures ok { IfOk result (λ limits.
         HasLimits (D.texts folder.old) name.now limits) }
-    ensures held { IfOk result (λ limits. IsHeldByFile limits) }
     ensures err { IfErr result (λ status.
         HasLimitsFault (folder_of D.texts D.read_faults D.write_faults folder.old)
         (folder_of D.texts D.read_faults D.write_faults folder.new) name.now status) }

@@ -1,7 +1,7 @@
 //! The journal of sessions that have ended, from the records of their forests.
 ghost use Rattle.std.specs.Prelude.{◌≡◌, ℕ, IfOk, length, map};
 ghost use Rattle.risk_journal.specs.ActLists.{placed_by, place_in, unplaced};
-ghost use Rattle.session_engine.specs.Trees.{LimitsValue};
+ghost use Rattle.limit_table.specs.Trees.{LimitsValue};
 ghost use Rattle.gate_program.specs.Forests.{HaveLeft, HaveRun};
 ghost use Rattle.gate_program.specs.Histories.{AreHistories, AreLegalLines};
 ghost use Rattle.gate_program.specs.Totals.{HaveTotals};

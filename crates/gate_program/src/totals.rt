@@ -1,9 +1,8 @@
 //! The totals of a run, as text.
 ghost use Rattle.std.specs.Prelude.{◌≡◌, ◌^◌, ◌≤◌, ◌<◌, length, map, All, IfOk, count_by};
 ghost use Rattle.std.specs.List.{AllByRecursion};
-ghost use Rattle.limit_table.specs.Files.{IsHeldByFile};
 ghost use Rattle.risk_board.specs.History.{array_after};
-ghost use Rattle.session_engine.specs.Trees.{halt_tree, fold_of, limit_of};
+ghost use Rattle.limit_table.specs.Trees.{halt_tree, fold_of, limit_of};
 ghost use Rattle.gate_program.specs.Totals.{HasTotal, HaveTotals};
 ghost use Rattle.gate_program.specs.Statuses.{number_of};
 ghost use Rattle.gate_program.specs.Totals.{is_sent, is_refused, is_noted, session_total};
@@ -100,18 +99,17 @@ struct Row {
 
 /// What the limit file says of the tree of this number.
 fn row_of(limits: &Limits, tree: usize) -> Row
-    requires { IsHeldByFile limits.now }
     ensures kind { result.kind ≡ kind_of limits.now tree }
     ensures name { result.name ≡ name_of limits.now tree }
     ensures limit { result.limit ≡ or_zero (limit_of limits.now tree) }
 {
-    let accounts = limits.accounts.rows();
-    let symbols = limits.symbols.rows();
+    let accounts = limits.accounts();
+    let symbols = limits.symbols();
     if tree == 0 {
         Row {
             kind: TreeKind::Firm,
             name: Id64::of(b"-"),
-            limit: limits.firm,
+            limit: limits.firm(),
         }
     } else if tree < 1 + accounts.len() {
         let row = &accounts[tree - 1];
@@ -159,7 +157,6 @@ fn tree_total(
     tree: usize,
     lines: &[Line],
 ) -> Result<TreeTotal, Memory>
-    requires held { IsHeldByFile limits.now }
     requires few { sessions ≤ session_most }
     requires lines { HasTotal sessions lines.now }
     ensures { IfOk result (λ total. total ≡ tree_total limits.now sessions tree lines.now) }
@@ -187,7 +184,6 @@ fn tree_totals(
     sessions: usize,
     lines: &[Vec<Line>],
 ) -> Result<Vec<TreeTotal>, Memory>
-    requires held { IsHeldByFile limits.now }
     requires few { sessions ≤ session_most }
     requires lines { HaveTotals sessions (map (λ own. own.items) lines.now) }
     ensures { IfOk result (λ all. all.items
@@ -212,7 +208,6 @@ pub(crate) fn totals_text<R: Threads + Sync>(
     ends: &[End],
     status: Status,
 ) -> Result<Vec<u8>, Memory>
-    requires held { IsHeldByFile limits.now }
     requires few { length journal.now.acts.items ≤ session_most }
     requires ends { length ends.now ≡ length journal.now.acts.items }
     requires acts { All (λ own. length own.items < 2 ^ 32) journal.now.acts.items }

@@ -5,3 +5,4 @@ pub mod Loads
 pub mod Values
 pub mod LoadLimits
 pub mod Pens
+pub mod Summary

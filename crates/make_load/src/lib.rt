@@ -13,9 +13,11 @@ mod orders;
 mod part;
 mod patterns;
 mod session;
+mod summary;
 
 pub use laws::{load_limits_are_a_file, loads_are_whole, worked_draws};
 pub use load::{Load, make_load};
+pub use summary::{Asked, Counts, summary_text};
 
 #[cfg(test)]
 mod tests;

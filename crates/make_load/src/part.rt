@@ -46,7 +46,7 @@ pub(crate) fn add(text: &mut Vec<u8>, bytes: &[u8]) -> Result<(), Memory>
 }
 
 /// Adds a number in decimal.
-fn add_number(text: &mut Vec<u8>, number: u32) -> Result<(), Memory>
+pub(crate) fn add_number(text: &mut Vec<u8>, number: u32) -> Result<(), Memory>
     ensures { OnOk result (text.new.items ≡ text.old.items ++ decimal number) }
 {
     let mut digits = Buffer::new();

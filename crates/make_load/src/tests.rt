@@ -1,7 +1,7 @@
 //! What no clause says: whole files, byte for byte, as the rule of loads gives them by hand, and that a
 //! load is made where memory is ample.
 
-use crate::make_load;
+use crate::{Asked, Counts, make_load, summary_text};
 use std::test::*;
 
 const LEFT: &[u8] =
@@ -78,5 +78,29 @@ fn messages_are_counted_over_all_sessions(rt: HostRuntime) -> Result<(), Fail> {
         let load = make_load(rt.alloc(), number, sessions, orders)?;
         assert_eq!(rt; [load.new, load.cancel, load.report], want, "{name}");
     }
+    Ok(())
+}
+
+#[test]
+fn a_load_of_one_order_is_summed_up(rt: HostRuntime) -> Result<(), Fail> {
+    let asked = Asked {
+        number: 0,
+        sessions: 1,
+        orders: 1,
+    };
+    let counts = Counts {
+        new: 1,
+        cancel: 0,
+        report: 1,
+        bytes: 272,
+        reads: 4,
+    };
+    let text = summary_text(rt.alloc(), &asked, &counts)?;
+    assert!(rt;
+        text.starts_with(b"make 0 1 1\nnew 1 cancel 0 report 1 bytes 272\nreads 4\ntree 0 firm")
+    );
+    assert!(rt;
+        text.ends_with(b"tree 12 symbol S7 LEGAL WITHIN LIMITS\ntree 13 halt LEGAL\nstatus 0\n")
+    );
     Ok(())
 }

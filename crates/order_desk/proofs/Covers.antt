@@ -20,7 +20,7 @@ use Rattle.admit_core.specs.Asking.{Asked, is_short, asking, verdict_of, settled
 use Rattle.admit_core.specs.Asking.{post_old}
 use Rattle.admit_core.specs.Legs.{Leg, AreRowsOf, legs_of, leg_with}
 use Rattle.admit_core.specs.Lowering.{lowering}
-use Rattle.admit_core.specs.Tapes.{IsNoCall, Tape, tape}
+use Rattle.admit_core.specs.Tapes.{IsNoCall, Tape, tape, with_post}
 use Rattle.limit_table.specs.Trees.{LimitsValue, halt_tree, account_tree, symbol_tree, limit_of}
 use Rattle.admit_core.proofs.AskedTrees.{all_three, leg_in, none_in_front, KeepsTree}
 use Rattle.admit_core.proofs.AskedTrees.{asked_keeps, asked_posts, back_keeps, back_posts}
@@ -29,8 +29,11 @@ use Rattle.admit_core.proofs.LoweredTrees.{leg_has, legs_apart, lowering_keeps, 
 use Rattle.admit_core.proofs.LoweredTrees.{lowered_admits}
 use Rattle.admit_core.specs.declared.ask.Verdict.TheVariants.{Firm, Account, Symbol}
 use Rattle.admit_core.proofs.Noted.{noted_keeps, noted_admits}
+use Rattle.admit_core.proofs.Tripped.{tripped_keeps, tripped_admits}
+use Rattle.order_desk.specs.declared.refusal.Refusal.{Refusal}
+use Rattle.order_desk.specs.declared.refusal.Refusal.TheVariants as refusal
 use Rattle.order_desk.specs.Backing.{IsBacked, Backs, Covers}
-use Rattle.order_desk.specs.Decisions.{decided_by, committed}
+use Rattle.order_desk.specs.Decisions.{decided_by}
 use Rattle.order_desk.specs.Refusals.{refusal_by}
 use Rattle.order_desk.specs.Values.{value_in, first_book}
 use Rattle.order_desk.proofs.TreeValues.{value_in-none, IsOtherTree}
@@ -100,45 +103,82 @@ other_tree limits rows acts values tree none =
           true≢false (sym (eq-eqb (symbol_tree limits rows.symbol) tree (sym e)) ∙ three.0);
     }
 
--- orders become others that are worth the same in each tree
-pub covers_same : (limits : LimitsValue) (acts : List Act) (book next : BookValue)
+-- a tree that keeps its posts backs what is worth the same
+kept_backed : (limits : LimitsValue) (acts after : List Act) (book changed : BookValue) (tree : ℕ)
+    → IsBacked limits acts book tree → KeepsTree tree acts after
+    → value_in limits tree changed.orders ≡ value_in limits tree book.orders
+    → IsBacked limits after changed tree
+kept_backed limits acts after book changed tree was kept same = record {
+  within = omega (arith, same, was.within, kept.last);
+  exact = λ left. same ∙ was.exact (omega (arith, left, kept.posts)) ∙ sym kept.last;
+}
+
+-- the acts keep what is posted in each tree of sums, and the orders are worth the same there
+pub covers_kept : (limits : LimitsValue) (acts after : List Act) (book next : BookValue)
     → Covers limits acts book → next.accounts ≡ book.accounts → next.symbols ≡ book.symbols
     → All (IsPlaced next.accounts next.symbols) next.orders
+    → ((tree : ℕ) → tree < halt_tree limits → KeepsTree tree acts after)
     → ((tree : ℕ) → value_in limits tree next.orders ≡ value_in limits tree book.orders)
-    → Covers limits acts next
-covers_same limits acts book next covers accounts symbols placed same = record {
+    → AdmitsLast limits after → Covers limits after next
+covers_kept limits acts after book next covers accounts symbols placed kept same admits = record {
   backs = record {
     accounts = accounts ∙ covers.backs.accounts;
     symbols = symbols ∙ covers.backs.symbols;
     placed = placed;
     trees = λ tree inside.
-        let was = covers.backs.trees tree inside in
-        record {
-          within = omega (arith, same tree, was.within);
-          exact = λ left. same tree ∙ was.exact left;
-        };
+        kept_backed limits acts after book next tree (covers.backs.trees tree inside)
+        (kept tree inside) (same tree);
   };
-  admitted = covers.admitted;
+  admitted = admits;
 }
 
 -- an act that is no call
 pub covers_noted : (limits : LimitsValue) (acts : List Act) (book : BookValue) (act : Act)
     → IsNoCall act → Covers limits acts book → Covers limits (acts ++ act ∷ []) book
-covers_noted limits acts book act none covers = record {
-  backs = record {
-    accounts = covers.backs.accounts;
-    symbols = covers.backs.symbols;
-    placed = covers.backs.placed;
-    trees = λ tree inside.
-        let was = covers.backs.trees tree inside in
-        let kept = noted_keeps tree acts act none in
-        record {
-          within = omega (arith, was.within, kept.last);
-          exact = λ left. was.exact (omega (arith, left, kept.posts)) ∙ sym kept.last;
-        };
-  };
-  admitted = noted_admits limits acts act none covers.admitted;
-}
+covers_noted limits acts book act none covers =
+    covers_kept limits acts (acts ++ act ∷ []) book book covers refl refl covers.backs.placed
+    (λ tree inside. noted_keeps tree acts act none) (λ tree. refl)
+    (noted_admits limits acts act none covers.admitted)
+
+-- a post in the halt tree
+pub covers_tripped : (limits : LimitsValue) (value : ℕ) (acts : List Act) (book : BookValue)
+    → Covers limits acts book → Covers limits (with_post (halt_tree limits) value acts) book
+covers_tripped limits value acts book covers =
+    covers_kept limits acts (with_post (halt_tree limits) value acts) book book covers refl refl
+    covers.backs.placed (λ tree below. tripped_keeps limits value tree acts below) (λ tree. refl)
+    (tripped_admits limits value acts covers.admitted)
+
+-- whatever is so where too few posts are left, where the values stand posted and where the old ones are
+-- posted back, is so of what asking comes to
+module _ (limits : LimitsValue) (legs : List Leg) (before : Tape) (P : Asked → Type 0)
+    (quota : P (record { verdict = verdict.Quota; tape = before }))
+    (sent : P (record { verdict = verdict.Sent; tape = posted_and_read limits legs before }))
+    (back : (answer : Verdict) (why : Refusal) → refusal_by answer ≡ Some why
+    → P (record {
+      verdict = answer;
+      tape = fold post_old (posted_and_read limits legs before) legs;
+    })) where
+  by_verdict : (answer : Verdict) → P (record {
+    verdict = answer;
+    tape = settled legs answer (posted_and_read limits legs before);
+  })
+  by_verdict verdict.Sent = sent
+  by_verdict verdict.Firm = back verdict.Firm refusal.Firm refl
+  by_verdict verdict.Account = back verdict.Account refusal.Account refl
+  by_verdict verdict.Symbol = back verdict.Symbol refusal.Symbol refl
+  by_verdict verdict.Halt = back verdict.Halt refusal.Halt refl
+  by_verdict verdict.Quota = back verdict.Quota refusal.Quota refl
+
+  by_shortage : (short : Bool) → P (cond {A = Asked} short
+      (record { verdict = verdict.Quota; tape = before }) (record {
+        verdict = verdict_of legs before.reads;
+        tape = settled legs (verdict_of legs before.reads) (posted_and_read limits legs before);
+      }))
+  by_shortage true = quota
+  by_shortage false = by_verdict (verdict_of legs before.reads)
+
+  pub asking_is : P (asking limits legs before)
+  asking_is = by_shortage (is_short limits before.acts legs)
 
 -- orders become others, and the three trees of these rows are asked or lowered
 module _ (limits : LimitsValue) (rows : OrderRows) (are : AreRowsOf limits rows) (values : List ℕ)
@@ -186,19 +226,20 @@ module _ (limits : LimitsValue) (rows : OrderRows) (are : AreRowsOf limits rows)
       let has = leg_has (IsLegFor limits acts) tree own legs found legs_for in
       has.1.old ∙ ap (λ t. last_post t acts) has.0
 
-  -- a tree that keeps its posts backs what is worth the same
-  kept_backed : (after : List Act) (changed : BookValue) (tree : ℕ) → tree < halt_tree limits
-      → KeepsTree tree acts after
-      → value_in limits tree changed.orders ≡ value_in limits tree book.orders
-      → IsBacked limits after changed tree
-  kept_backed after changed tree inside kept same =
-      let was = covers.backs.trees tree inside in
-      record {
-        within = omega (arith, same, was.within, kept.last);
-        exact = λ left. same ∙ was.exact (omega (arith, left, kept.posts)) ∙ sym kept.last;
-      }
-
   -- backed in each tree by whether it has a leg
+  by_leg : (after : List Act) (changed : BookValue)
+      → ((tree : ℕ) → leg_in tree legs ≡ None → KeepsTree tree acts after)
+      → ((tree : ℕ) → leg_in tree legs ≡ None
+      → value_in limits tree changed.orders ≡ value_in limits tree book.orders)
+      → ((tree : ℕ) (own : Leg) → leg_in tree legs ≡ Some own → tree < halt_tree limits
+      → IsBacked limits after changed tree)
+      → (tree : ℕ) → tree < halt_tree limits → (found : Option Leg) → leg_in tree legs ≡ found
+      → IsBacked limits after changed tree
+  by_leg after changed keeps same posts tree inside None none =
+      kept_backed limits acts after book changed tree (covers.backs.trees tree inside)
+      (keeps tree none) (same tree none)
+  by_leg after changed keeps same posts tree inside (Some own) found = posts tree own found inside
+
   backed_by : (after : List Act)
       → ((tree : ℕ) → leg_in tree legs ≡ None → KeepsTree tree acts after)
       → ((tree : ℕ) (own : Leg) → leg_in tree legs ≡ Some own → tree < halt_tree limits
@@ -208,14 +249,9 @@ module _ (limits : LimitsValue) (rows : OrderRows) (are : AreRowsOf limits rows)
     accounts = accounts ∙ covers.backs.accounts;
     symbols = symbols ∙ covers.backs.symbols;
     placed = placed;
-    trees = λ tree inside. by_leg tree inside (leg_in tree legs) refl;
+    trees = λ tree inside.
+        by_leg after next keeps others_same posts tree inside (leg_in tree legs) refl;
   }
-    where
-      by_leg : (tree : ℕ) → tree < halt_tree limits → (found : Option Leg)
-          → leg_in tree legs ≡ found → IsBacked limits after next tree
-      by_leg tree inside None none =
-          kept_backed after next tree inside (keeps tree none) (others_same tree none)
-      by_leg tree inside (Some own) found = posts tree own found inside
 
   -- Nothing is posted: the values are at most what was last posted, and no less than before.
   pub covers_at_once : All (λ leg. leg.new ≤ leg.old) legs
@@ -305,57 +341,36 @@ module _ (limits : LimitsValue) (rows : OrderRows) (are : AreRowsOf limits rows)
         })
 
     -- the old values stand posted again
-    backs_refused : Backs limits (fold post_old posted legs).acts book
-    backs_refused = record {
-      accounts = covers.backs.accounts;
-      symbols = covers.backs.symbols;
-      placed = covers.backs.placed;
-      trees = λ tree inside. by_leg tree inside (leg_in tree legs) refl;
-    }
-      where
-        by_leg : (tree : ℕ) → tree < halt_tree limits → (found : Option Leg)
-            → leg_in tree legs ≡ found
-            → IsBacked limits (fold post_old posted legs).acts book tree
-        by_leg tree inside None none =
-            kept_backed (fold post_old posted legs).acts book tree inside
-            (back_keeps limits legs before tree none) refl
-        by_leg tree inside (Some own) found =
-            let posts = back_posts limits legs before tree own found
+    covers_refused : AdmitsLast limits (fold post_old posted legs).acts
+        → Covers limits (fold post_old posted legs).acts book
+    covers_refused admits = record {
+      backs = record {
+        accounts = covers.backs.accounts;
+        symbols = covers.backs.symbols;
+        placed = covers.backs.placed;
+        trees = λ tree inside.
+            by_leg (fold post_old posted legs).acts book
+            (λ own none. back_keeps limits legs before own none) (λ own none. refl)
+            (λ own leg found below.
+            let posts = back_posts limits legs before own leg found
             (legs_apart limits rows acts values are.account) in
-            let old = own_old tree own found in
-            let was = covers.backs.trees tree inside in
+            let old = own_old own leg found in
+            let was = covers.backs.trees own below in
             record {
               within = omega (arith, was.within, old, posts.last);
               exact = λ left.
                   was.exact (omega (arith, left, posts.posts)) ∙ sym old ∙ sym posts.last;
-            }
-
-    covers_refused : AdmitsLast limits (fold post_old posted legs).acts
-        → Covers limits (fold post_old posted legs).acts book
-    covers_refused admits = record { backs = backs_refused; admitted = admits }
-
-    by_verdict : (answer : Verdict) → AdmitsLast limits (settled legs answer posted).acts
-        → Covers limits (settled legs answer posted).acts (committed (refusal_by answer) book next)
-    by_verdict verdict.Sent admits = record { backs = backs_sent; admitted = admits }
-    by_verdict verdict.Firm admits = covers_refused admits
-    by_verdict verdict.Account admits = covers_refused admits
-    by_verdict verdict.Symbol admits = covers_refused admits
-    by_verdict verdict.Halt admits = covers_refused admits
-    by_verdict verdict.Quota admits = covers_refused admits
-
-    by_shortage : (short : Bool)
-        → (let asked : Asked = cond {A = Asked} short
-        (record { verdict = verdict.Quota; tape = before }) (record {
-          verdict = verdict_of legs reads;
-          tape = settled legs (verdict_of legs reads) posted;
-        }) in
-        AdmitsLast limits asked.tape.acts
-        → Covers limits (decided_by book next asked).tape.acts (decided_by book next asked).book)
-    by_shortage true admits = covers
-    by_shortage false admits = by_verdict (verdict_of legs reads) admits
+            }) tree inside (leg_in tree legs) refl;
+      };
+      admitted = admits;
+    }
 
     pub covers_asked : (let asked = asking limits legs (tape acts reads) in
         Covers limits (decided_by book next asked).tape.acts (decided_by book next asked).book)
     covers_asked =
-        by_shortage (is_short limits acts legs)
+        asking_is limits legs before
+        (λ asked. AdmitsLast limits asked.tape.acts
+        → Covers limits (decided_by book next asked).tape.acts (decided_by book next asked).book)
+        (λ admits. covers) (λ admits. record { backs = backs_sent; admitted = admits })
+        (λ answer why is admits. rw is (covers_refused admits))
         (asked_admits limits legs before legs_for covers.admitted raised_legs)

@@ -20,34 +20,34 @@ use Rattle.exposure_book.specs.Books.{pair_of_order}
 use Rattle.exposure_book.specs.Commits.{with_new, named, with_request, with_replace_in}
 use Rattle.exposure_book.specs.Commits.{replaced_at, with_replace_pending, with_cancel}
 use Rattle.exposure_book.specs.Commits.{cancel_at, with_cancel_pending}
-use Rattle.exposure_book.specs.Orders.{Lowers, is_closed, exposure_of}
+use Rattle.exposure_book.specs.Orders.{Lowers, is_closed}
 use Rattle.exposure_book.specs.Pendings.{is_pending, is_same_id}
 use Rattle.exposure_book.specs.Proposals.{new_order, capped, is_within_cap, is_known, requested}
-use Rattle.exposure_book.specs.Proposals.{requested_at, open_for_request, proposal_of_new}
+use Rattle.exposure_book.specs.Proposals.{requested_at, open_for_request}
 use Rattle.exposure_book.specs.Proposals.{fault_alone, with_replace}
 use Rattle.exposure_book.specs.Proposals.{is_of_order, replace_of, proposal_of_cancel}
 use Rattle.exposure_book.specs.Proposals.{replace_at as proposed_at}
 use Rattle.exposure_book.specs.Totals.{IsPlaced}
-use Rattle.exposure_book.proofs.Lowering.{lowers_without_pending}
+use Rattle.exposure_book.proofs.Lowering.{lowers_with_cancel, lowers_without_pending}
 use Rattle.screen_kit.specs.Screens.{ScreenValue}
 use Rattle.risk_journal.specs.declared.acts.Act.{Act}
 use Rattle.admit_core.specs.declared.rows.OrderRows.{OrderRows}
 use Rattle.admit_core.specs.Legs.{Leg, AreRowsOf, legs_of}
 use Rattle.admit_core.specs.Tapes.{Tape, tape}
 use Rattle.limit_table.specs.Trees.{LimitsValue}
-use Rattle.order_desk.specs.declared.offer.Offer.{Offer}
 use Rattle.order_desk.specs.Backing.{Covers}
 use Rattle.order_desk.specs.Decisions.{Decision, cancel_by, cancel_decided, is_above_last, new_next}
-use Rattle.order_desk.specs.Decisions.{new_screened, replace_screened, taken_up, tree_decided}
-use Rattle.order_desk.specs.Offers.{new_offer, replace_offer}
+use Rattle.order_desk.specs.Decisions.{decided_on, new_screened, replace_screened, taken_up}
+use Rattle.order_desk.specs.Decisions.{tree_decided}
 use Rattle.order_desk.specs.Rows.{upper_price}
 use Rattle.order_desk.specs.Sending.{ProposesNew}
 use Rattle.order_desk.specs.Values.{values_of, value_in}
-use Rattle.order_desk.proofs.Covers.{Tells, covers_asked, covers_at_once, covers_same}
+use Rattle.order_desk.proofs.Covers.{Tells, covers_asked, covers_at_once, covers_kept}
 use Rattle.order_desk.proofs.Covers.{none_passes, not_less}
-use Rattle.order_desk.proofs.Deciding.{decided_is}
+use Rattle.order_desk.proofs.Deciding.{judged_is}
 use Rattle.order_desk.proofs.Places.{known_rows}
-use Rattle.order_desk.proofs.Offered.{comes_of_new, comes_of_replace, offer_of_new, offer_of_replace}
+use Rattle.order_desk.proofs.Offered.{new_offer_is, offer_of_new, offer_of_replace}
+use Rattle.order_desk.proofs.Offered.{replace_offer_is}
 use Rattle.order_desk.proofs.Offered.{order_is_placed, rows_by}
 use Rattle.order_desk.proofs.TreeValues.{value_in-account, value_in-symbol, value_in-push_le}
 use Rattle.order_desk.proofs.TreeValues.{value_in-push_other, value_in-set_ge, value_in-set_le}
@@ -57,15 +57,18 @@ use Rattle.order_desk.proofs.TreeValues.{value_in-set_other, IsOtherTree}
 abbrev IsCovered : LimitsValue → Decision → Type 0
 IsCovered limits decision = Covers limits decision.tape.acts decision.book
 
--- values that are given are those that were proposed
-capped_is : (proposed values : Proposal) → capped proposed ≡ Ok values → proposed ≡ values
-capped_is proposed values is = by_test (is_within_cap proposed) is
-  where
-    by_test : (within : Bool)
-        → cond {A = Result Proposal BookFault} within (Ok proposed) (Err fault.Cap) ≡ Ok values
-        → proposed ≡ values
-    by_test true given = cc
-    by_test false given = absurd cc
+-- what is given past a test that faults
+passes : {A B : Type 0} (test : Bool) (fault : B) (rest : Result A B) (given : A)
+    → cond {A = Result A B} test (Err fault) rest ≡ Ok given
+    → (test ≡ false) × (rest ≡ Ok given)
+passes true fault rest given is = absurd cc
+passes false fault rest given is = (refl, is)
+
+-- what is given by a test that faults where it fails
+chosen : {A B : Type 0} (test : Bool) (own given : A) (fault : B)
+    → cond {A = Result A B} test (Ok own) (Err fault) ≡ Ok given → own ≡ given
+chosen true own given fault is = cc
+chosen false own given fault is = absurd cc
 
 -- the values of what is proposed, by the other orders
 proposal_tells : (limits : LimitsValue) (rows : OrderRows) (values : Proposal)
@@ -92,25 +95,15 @@ module _ (limits : LimitsValue) (order : NewOrder) (book : BookValue) (before : 
   abbrev more : OrderRows → BookValue
   more rows = with_new order rows.account rows.symbol (upper_price limits rows) book
 
-  proposed_is : (rows : OrderRows) (values : Proposal)
-      → proposal_of_new book order rows.account rows.symbol (upper_price limits rows) ≡ Ok values
-      → proposal_of (more rows).orders rows.account rows.symbol ≡ values
-  proposed_is rows values is = by_test (is_known book order.id) is
-    where
-      by_test : (known : Bool)
-          → cond {A = Result Proposal BookFault} known (Err fault.Duplicate)
-          (capped (proposal_of (more rows).orders rows.account rows.symbol)) ≡ Ok values
-          → proposal_of (more rows).orders rows.account rows.symbol ≡ values
-      by_test true given = absurd cc
-      by_test false given =
-          capped_is (proposal_of (more rows).orders rows.account rows.symbol) values given
-
   new_taken : (rows : OrderRows) (values : Proposal)
       → ProposesNew limits order rows values book
       → IsCovered limits
       (tree_decided limits (offer_of_new limits order rows values) book (more rows) before)
   new_taken rows values is =
       let are = known_rows limits order rows is.found in
+      let proposed = proposal_of (more rows).orders rows.account rows.symbol in
+      let within = passes (is_known book order.id) fault.Duplicate (capped proposed) values
+      is.proposed in
       covers_asked limits rows are (values_of values) before.acts book (more rows) covers refl refl
       (All-push (IsPlaced book.accounts book.symbols) book.orders (one rows) covers.backs.placed
       (record {
@@ -118,7 +111,7 @@ module _ (limits : LimitsValue) (order : NewOrder) (book : BookValue) (before : 
         symbol = subst (λ n. rows.symbol < n) (sym covers.backs.symbols) are.symbol;
       }))
       (proposal_tells limits rows values book.orders (more rows).orders are
-      (proposed_is rows values is.proposed)
+      (chosen (is_within_cap proposed) proposed values fault.Cap within.1)
       (λ tree other. value_in-push_other limits tree book.orders (one rows) other))
       before.reads (λ tree. value_in-push_le limits tree book.orders (one rows))
 
@@ -126,13 +119,14 @@ pub new_covers : (limits : LimitsValue) (order : NewOrder) (screens : List Scree
     (book : BookValue) (before : Tape) → Covers limits before.acts book
     → IsCovered limits (new_screened limits order screens book before)
 new_covers limits order screens book before covers =
-    decided_is limits screens (new_next order book) book before (IsCovered limits) (λ why. covers)
-    (new_offer limits order book)
-    (λ offer is.
-    let comes = comes_of_new limits order book offer is in
-    subst (λ (o : Offer). IsCovered limits
-    (tree_decided limits o book (new_next order book o) before)) (sym comes.is)
-    (new_taken limits order book before covers offer.rows offer.values comes.proposes))
+    new_offer_is limits order book
+    (λ offered. IsCovered limits
+    (decided_on limits screens (new_next order book) book before offered)) (λ why. covers)
+    (λ rows values is.
+    judged_is limits screens book before (IsCovered limits) (λ why. covers)
+    (offer_of_new limits order rows values)
+    (with_new order rows.account rows.symbol (upper_price limits rows) book)
+    (new_taken limits order book before covers rows values is))
 
 -- a request that nothing stands against: the order that it names, at its place, with none pending
 record RequestsOn (book : BookValue) (orig : List ℕ) (place : ℕ) : Type 0 where
@@ -151,24 +145,15 @@ requests_order : (book : BookValue) (orig : List ℕ) (own place : ℕ) (found :
     → open_for_request orig own found ≡ Ok place → RequestsOn book orig place
 requests_order book orig own place None at is given = absurd cc
 requests_order book orig own place (Some order) at is given =
-    by_tests (is_closed order) (is_pending order.pending) refl (is_same_id orig order.current) given
-  where
-    by_tests : (closed asked : Bool) → is_pending order.pending ≡ asked → (same : Bool)
-        → cond {A = Result ℕ BookFault} closed (Err fault.Closed)
-        (cond {A = Result ℕ BookFault} asked (Err fault.Pending)
-        (cond {A = Result ℕ BookFault} same (Ok own) (Err fault.Unknown))) ≡ Ok place
-        → RequestsOn book orig place
-    by_tests true asked idle same answer = absurd cc
-    by_tests false true idle same answer = absurd cc
-    by_tests false false idle false answer = absurd cc
-    by_tests false false idle true answer =
-        let here : own ≡ place = cc in
-        record {
-          order = order;
-          at = at ∙ ap Some here;
-          found = ap (slice_get book.orders) (sym here) ∙ is;
-          idle = is_idle order.pending idle;
-        }
+    let open_ = passes (is_closed order) fault.Closed _ place given in
+    let idle = passes (is_pending order.pending) fault.Pending _ place open_.1 in
+    let here = chosen (is_same_id orig order.current) own place fault.Unknown idle.1 in
+    record {
+      order = order;
+      at = at ∙ ap Some here;
+      found = ap (slice_get book.orders) (sym here) ∙ is;
+      idle = is_idle order.pending idle.0;
+    }
 
 requests_place : (book : BookValue) (orig : List ℕ) (place : ℕ) (at : Option ℕ)
     → place_of orig book.ids ≡ at → requested_at book orig at ≡ Ok place
@@ -179,14 +164,9 @@ requests_place book orig place (Some own) is given =
 
 requests_on : (book : BookValue) (id orig : List ℕ) (place : ℕ)
     → requested book id orig ≡ Ok place → RequestsOn book orig place
-requests_on book id orig place given = by_test (is_known book id) given
-  where
-    by_test : (known : Bool)
-        → cond {A = Result ℕ BookFault} known (Err fault.Duplicate)
-        (requested_at book orig (place_of orig book.ids)) ≡ Ok place
-        → RequestsOn book orig place
-    by_test true answer = absurd cc
-    by_test false answer = requests_place book orig place (place_of orig book.ids) refl answer
+requests_on book id orig place given =
+    requests_place book orig place (place_of orig book.ids) refl
+    (passes (is_known book id) fault.Duplicate _ place given).1
 
 -- a request is pending on an order with none
 module _ (order : Order) (idle : order.pending ≡ pending.Nothing) where
@@ -198,14 +178,6 @@ module _ (order : Order) (idle : order.pending ≡ pending.Nothing) where
   lowers_to_order next =
       subst (Lowers (record order { pending = next })) cleared
       (lowers_without_pending (record order { pending = next }))
-
-  cancel_same : (id : List ℕ) → exposure_of (record order { pending = pending.Cancel id })
-      ≡ exposure_of order
-  cancel_same id = ap exposure_of cleared
-
-  lowers_to_cancel : (id : List ℕ) → Lowers order (record order { pending = pending.Cancel id })
-  lowers_to_cancel id =
-      record { account = refl; symbol = refl; exposure = omega (arith, cancel_same id) }
 
 -- a request (F or G) on an order of a covered book
 module _ (limits : LimitsValue) (book : BookValue) (before : Tape)
@@ -230,16 +202,17 @@ module _ (limits : LimitsValue) (book : BookValue) (before : Tape)
   cancel_covers_on : (request : Cancel)
       → Covers limits before.acts (next_book request.id (pending.Cancel request.id))
   cancel_covers_on request =
-      covers_same limits before.acts book (next_book request.id (pending.Cancel request.id))
-      covers refl refl (next_placed (pending.Cancel request.id))
+      covers_kept limits before.acts before.acts book
+      (next_book request.id (pending.Cancel request.id)) covers refl refl
+      (next_placed (pending.Cancel request.id)) (λ tree inside. record { posts = refl; last = refl })
       (λ tree.
       let less = value_in-set_le limits tree book.orders place on.order
       (next_order (pending.Cancel request.id)) on.found
-      (lowers_to_cancel on.order on.idle request.id) in
+      (lowers_with_cancel on.order request.id) in
       let more = value_in-set_ge limits tree book.orders place on.order
       (next_order (pending.Cancel request.id)) on.found
       (lowers_to_order on.order on.idle (pending.Cancel request.id)) in
-      omega (arith, less, more))
+      omega (arith, less, more)) covers.admitted
 
   abbrev own_rows : OrderRows
   own_rows = record { account = on.order.account; symbol = on.order.symbol }
@@ -313,74 +286,58 @@ replace_told : (limits : LimitsValue) (request : Replace) (book : BookValue) (pl
     → proposal_of (slice_set book.orders place (with_replace request limits order))
     order.account order.symbol ≡ values
 replace_told limits request book place order values is =
-    by_tests (not (is_of_order request limits order)) (nat_le request.quantity order.filled) is
-  where
-    by_tests : (other few : Bool)
-        → cond {A = Result Proposal BookFault} other (Err fault.Mismatch)
-        (cond {A = Result Proposal BookFault} few (Err fault.Quantity)
-        (capped (proposal_of (slice_set book.orders place (with_replace request limits order))
-        order.account order.symbol))) ≡ Ok values
-        → proposal_of (slice_set book.orders place (with_replace request limits order))
-        order.account order.symbol ≡ values
-    by_tests true few given = absurd cc
-    by_tests false true given = absurd cc
-    by_tests false false given =
-        capped_is (proposal_of (slice_set book.orders place (with_replace request limits order))
-        order.account order.symbol) values given
+    let other = passes (not (is_of_order request limits order)) fault.Mismatch _ values is in
+    let few = passes (nat_le request.quantity order.filled) fault.Quantity _ values other.1 in
+    chosen _ _ values fault.Cap few.1
 
--- a replace that the book proposes
-replace_covers_on : (limits : LimitsValue) (request : Replace) (rows : OrderRows)
-    (values : Proposal) (book : BookValue) (before : Tape) (covers : Covers limits before.acts book)
-    (place : ℕ) → RequestsOn book request.orig place
-    → replace_of book request limits place (slice_get book.orders place) ≡ Ok values
-    → pair_of_order (order_with book request.orig) ≡ Some (rows.account, rows.symbol)
-    → IsCovered limits (tree_decided limits (offer_of_replace limits request rows values) book
-    (with_replace_pending request limits book) before)
-replace_covers_on limits request rows values book before covers place on is found =
-    let told = replace_told limits request book place on.order values
-    (ap (replace_of book request limits place) (sym on.found) ∙ is) in
-    let next : with_replace_pending request limits book
-    ≡ replaced limits book before covers request.orig place on request values told =
-    ap (replaced_at request limits book) on.at
-    ∙ ap (λ o. with_request request.id place (with_replace_in request limits o) book) on.found in
-    let pair : pair_of_order (order_with book request.orig)
-    ≡ Some (on.order.account, on.order.symbol) =
-    ap (λ p. pair_of_order (order_at book p)) on.at ∙ ap pair_of_order on.found in
-    let own = own_rows limits book before covers request.orig place on in
-    let same : own ≡ rows = ap rows_by (sym pair ∙ found) in
-    subst (λ (r : OrderRows). IsCovered limits (tree_decided limits
-    (offer_of_replace limits request r values) book (with_replace_pending request limits book)
-    before)) same
-    (subst (λ (b : BookValue). IsCovered limits (tree_decided limits
-    (offer_of_replace limits request own values) book b before)) (sym next)
-    (replace_taken limits book before covers request.orig place on request values told
-    (is_above_last (legs_of limits own before.acts (values_of values))) refl))
+-- a replace (G) that the book proposes
+module _ (limits : LimitsValue) (request : Replace) (rows : OrderRows) (values : Proposal)
+    (book : BookValue) (before : Tape) (covers : Covers limits before.acts book)
+    (found : pair_of_order (order_with book request.orig) ≡ Some (rows.account, rows.symbol)) where
+  abbrev taken : OrderRows → BookValue → Decision
+  taken own next = tree_decided limits (offer_of_replace limits request own values) book next before
 
--- a replace by what stands against it
-replace_covers_by : (limits : LimitsValue) (request : Replace) (rows : OrderRows)
-    (values : Proposal) (book : BookValue) (before : Tape) → Covers limits before.acts book
-    → (answer : Result ℕ BookFault) → requested book request.id request.orig ≡ answer
-    → proposed_at book request limits answer ≡ Ok values
-    → pair_of_order (order_with book request.orig) ≡ Some (rows.account, rows.symbol)
-    → IsCovered limits (tree_decided limits (offer_of_replace limits request rows values) book
-    (with_replace_pending request limits book) before)
-replace_covers_by limits request rows values book before covers (Err why) is given found = absurd cc
-replace_covers_by limits request rows values book before covers (Ok place) is given found =
-    replace_covers_on limits request rows values book before covers place
-    (requests_on book request.id request.orig place is) given found
+  replace_on : (place : ℕ) → RequestsOn book request.orig place
+      → replace_of book request limits place (slice_get book.orders place) ≡ Ok values
+      → IsCovered limits (taken rows (with_replace_pending request limits book))
+  replace_on place on is =
+      let told = replace_told limits request book place on.order values
+      (ap (replace_of book request limits place) (sym on.found) ∙ is) in
+      let next : with_replace_pending request limits book
+      ≡ replaced limits book before covers request.orig place on request values told =
+      ap (replaced_at request limits book) on.at
+      ∙ ap (λ o. with_request request.id place (with_replace_in request limits o) book) on.found in
+      let pair : pair_of_order (order_with book request.orig)
+      ≡ Some (on.order.account, on.order.symbol) =
+      ap (λ p. pair_of_order (order_at book p)) on.at ∙ ap pair_of_order on.found in
+      let own = own_rows limits book before covers request.orig place on in
+      let same : own ≡ rows = ap rows_by (sym pair ∙ found) in
+      subst (λ (r : OrderRows). IsCovered limits (taken r (with_replace_pending request limits book)))
+      same (subst (λ (b : BookValue). IsCovered limits (taken own b)) (sym next)
+      (replace_taken limits book before covers request.orig place on request values told
+      (is_above_last (legs_of limits own before.acts (values_of values))) refl))
+
+  -- by what stands against it
+  replace_by : (answer : Result ℕ BookFault) → requested book request.id request.orig ≡ answer
+      → proposed_at book request limits answer ≡ Ok values
+      → IsCovered limits (taken rows (with_replace_pending request limits book))
+  replace_by (Err why) is given = absurd cc
+  replace_by (Ok place) is given =
+      replace_on place (requests_on book request.id request.orig place is) given
 
 pub replace_covers : (limits : LimitsValue) (request : Replace) (screens : List ScreenValue)
     (book : BookValue) (before : Tape) → Covers limits before.acts book
     → IsCovered limits (replace_screened limits request screens book before)
 replace_covers limits request screens book before covers =
     let next = with_replace_pending request limits book in
-    decided_is limits screens (λ offer. next) book before (IsCovered limits) (λ why. covers)
-    (replace_offer limits request book)
-    (λ offer is.
-    let comes = comes_of_replace limits request book offer is in
-    subst (λ (o : Offer). IsCovered limits (tree_decided limits o book next before)) (sym comes.is)
-    (replace_covers_by limits request offer.rows offer.values book before covers
-    (requested book request.id request.orig) refl comes.proposes.proposed comes.proposes.found))
+    replace_offer_is limits request book
+    (λ offered. IsCovered limits (decided_on limits screens (λ offer. next) book before offered))
+    (λ why. covers)
+    (λ rows values is.
+    judged_is limits screens book before (IsCovered limits) (λ why. covers)
+    (offer_of_replace limits request rows values) next
+    (replace_by limits request rows values book before covers is.found
+    (requested book request.id request.orig) refl is.proposed))
 
 -- a cancel that the book proposed is committed
 pub sent_cancel_covers : (limits : LimitsValue) (request : Cancel) (acts : List Act)

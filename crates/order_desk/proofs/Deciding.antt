@@ -1,5 +1,5 @@
 -- What was decided on what is offered: case by case, by the reads that came, and with a screen's code.
-use Rattle.std.proofs.Common.{◌≡◌, ℕ, List, [], ◌++◌, Option, Some, None, Result, Ok, Err, refl}
+use Rattle.std.proofs.Common.{◌≡◌, ℕ, List, [], ◌++◌, Option, Some, None, Result, Ok, Err}
 use Rattle.std.proofs.Common.{sym, ap, subst, ◌∙◌, Bool, true, false, ◌||◌}
 use Rattle.std.proofs.lemmas.List.{append-nil}
 use Rattle.limit_table.specs.Trees.{LimitsValue}
@@ -20,56 +20,24 @@ use Rattle.order_desk.specs.Decisions.{Decision, Decides, refused, committed, sc
 use Rattle.order_desk.specs.Decisions.{is_above_last, judged, offer_legs, taken_up, tree_decided}
 use Rattle.order_desk.specs.Refusals.{refusal_by, refusal_by_code}
 
--- whatever is so of a refusal, and of what the trees decide on what is offered, is so of what is decided
-module _ (limits : LimitsValue) (screens : List ScreenValue) (next : Offer → BookValue)
-    (book : BookValue) (before : Tape) (P : Decision → Type 0)
-    (refuses : (why : Refusal) → P (refused why book before)) where
-  behind_screens : (decision : Decision) → P decision → (why : Option Refusal)
+-- whatever is so of a refusal, and of what the trees decide on an offer, is so of what is decided
+module _ (limits : LimitsValue) (screens : List ScreenValue) (book : BookValue) (before : Tape)
+    (P : Decision → Type 0) (refuses : (why : Refusal) → P (refused why book before)) where
+  by_screens : (decision : Decision) → P decision → (why : Option Refusal)
       → P (screened why book before decision)
-  behind_screens decision holds None = holds
-  behind_screens decision holds (Some why) = refuses why
+  by_screens decision holds None = holds
+  by_screens decision holds (Some why) = refuses why
 
-  pub decided_is : (offered : Result Offer Refusal)
-      → ((offer : Offer) → offered ≡ Ok offer
-      → P (tree_decided limits offer book (next offer) before))
-      → P (decided_on limits screens next book before offered)
-  decided_is (Err why) takes = refuses why
-  decided_is (Ok offer) takes =
-      behind_screens (tree_decided limits offer book (next offer) before) (takes offer refl)
+  pub judged_is : (offer : Offer) (next : BookValue)
+      → P (tree_decided limits offer book next before)
+      → P (judged limits screens offer book next before)
+  judged_is offer next holds =
+      by_screens (tree_decided limits offer book next before) holds
       (refusal_by_code (first_code offer.seen screens))
 
 -- a choice by the book and the tape
 abbrev Choice : Type 0
 Choice = BookValue → Tape → Decision
-
--- decided with no act
-at_once_decides : (decide : Choice) (acts : List Act) (book after : BookValue)
-    (answer : Option Refusal)
-    → ((reads : List SeenAt) → decide book (tape acts reads)
-    ≡ record { refusal = answer; tape = tape acts reads; book = after })
-    → Decides decide acts acts book after answer
-at_once_decides decide acts book after answer is = record {
-  seen = [];
-  reads_are = sym (append-nil (reads_of acts));
-  decided = is;
-}
-
--- decided by another choice that comes to the same
-decides_as : (decide other : Choice) (acts acts_after : List Act)
-    (book after after_too : BookValue) (answer : Option Refusal)
-    → ((reads : List SeenAt) → other book (tape acts reads) ≡ decide book (tape acts reads))
-    → after ≡ after_too → Decides decide acts acts_after book after answer
-    → Decides other acts acts_after book after_too answer
-decides_as decide other acts acts_after book after after_too answer same is decides = record {
-  seen = decides.seen;
-  reads_are = decides.reads_are;
-  decided = λ more. same (decides.seen ++ more) ∙ decides.decided more
-      ∙ ap (λ (own : BookValue). record {
-        refusal = answer;
-        tape = tape acts_after more;
-        book = own;
-      }) is;
-}
 
 -- what is kept, whatever is read, is kept by what was decided
 pub decides_covers : (decide : Choice) (limits : LimitsValue) (acts acts_after : List Act)
@@ -91,9 +59,12 @@ module _ (limits : LimitsValue) (screens : List ScreenValue)
 
   pub unoffered_decides : (why : Refusal) → Err why ≡ offered book
       → Decides by_offer acts acts book book (Some why)
-  unoffered_decides why is =
-      at_once_decides by_offer acts book book (Some why)
-      (λ reads. ap (decided_on limits screens (next book) book (tape acts reads)) (sym is))
+  unoffered_decides why is = record {
+    seen = [];
+    reads_are = sym (append-nil (reads_of acts));
+    decided = λ reads.
+        ap (decided_on limits screens (next book) book (tape acts reads)) (sym is);
+  }
 
   pub offered_decides : (offer : Offer) (acts_after : List Act) (after : BookValue)
       (answer : Option Refusal) → Ok offer ≡ offered book
@@ -101,11 +72,18 @@ module _ (limits : LimitsValue) (screens : List ScreenValue)
       acts_after book (committed answer book (next book offer)) answer
       → committed answer book (next book offer) ≡ after
       → Decides by_offer acts acts_after book after answer
-  offered_decides offer acts_after after answer is decides kept =
-      decides_as (λ own before. judged limits screens offer own (next book offer) before) by_offer
-      acts acts_after book (committed answer book (next book offer)) after answer
-      (λ reads. ap (decided_on limits screens (next book) book (tape acts reads)) (sym is)) kept
-      decides
+  offered_decides offer acts_after after answer is decides kept = record {
+    seen = decides.seen;
+    reads_are = decides.reads_are;
+    decided = λ more.
+        ap (decided_on limits screens (next book) book (tape acts (decides.seen ++ more))) (sym is)
+        ∙ decides.decided more
+        ∙ ap (λ (own : BookValue). record {
+          refusal = answer;
+          tape = tape acts_after more;
+          book = own;
+        }) kept;
+  }
 
   -- what keeps the book covered, whatever is read, has kept it so
   pub offered_covers : (offer : Offer) (acts_after : List Act) (after : BookValue)
@@ -142,13 +120,14 @@ module _ (book : BookValue) (before : Tape) (code : ℕ) where
       absurd (never_by
       (asking limits (offer_legs limits offer before.acts) before).verdict code is)
 
+  alone : (why : Refusal) → IsAlone (refused why book before)
+  alone why is = let same : why ≡ Screen code = cc in ap (λ w. refused w book before) same
+
   pub refused_alone : (limits : LimitsValue) (screens : List ScreenValue)
       (next : Offer → BookValue) (offered : Result Offer Refusal)
       → IsAlone (decided_on limits screens next book before offered)
-  refused_alone limits screens next offered =
-      decided_is limits screens next book before IsAlone
-      (λ why is. let same : why ≡ Screen code = cc in
-      ap (λ w. refused w book before) same) offered
-      (λ offer given. taken_alone
-      (offer.always || is_above_last (offer_legs limits offer before.acts)) limits offer
-      (next offer))
+  refused_alone limits screens next (Err why) = alone why
+  refused_alone limits screens next (Ok offer) =
+      judged_is limits screens book before IsAlone alone offer (next offer)
+      (taken_alone (offer.always || is_above_last (offer_legs limits offer before.acts)) limits
+      offer (next offer))

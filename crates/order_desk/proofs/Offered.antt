@@ -17,8 +17,10 @@ use Rattle.admit_core.specs.declared.rows.OrderRows.{OrderRows}
 use Rattle.admit_core.specs.Legs.{AreRowsOf}
 use Rattle.order_desk.specs.declared.offer.Offer.{Offer}
 use Rattle.order_desk.specs.declared.refusal.Refusal.{Refusal}
+use Rattle.order_desk.specs.declared.refusal.Refusal.TheVariants as refusal
 use Rattle.order_desk.specs.Offers.{new_seen, replace_seen, offered, new_offer, new_offer_at}
 use Rattle.order_desk.specs.Offers.{replace_offer, replace_offer_at}
+use Rattle.order_desk.specs.Refusals.{refusal_of}
 use Rattle.order_desk.specs.Rows.{rows_of, upper_price}
 use Rattle.order_desk.specs.Sending.{ProposesNew, ProposesReplace}
 
@@ -40,6 +42,7 @@ offer_of_replace limits request rows values = record {
   always = false;
 }
 
+-- what is offered for an order (D): nothing, or what the book proposes
 module _ (limits : LimitsValue) (order : NewOrder) (book : BookValue) where
   pub new_is_offered : (rows : OrderRows) (values : Proposal)
       → ProposesNew limits order rows values book
@@ -48,31 +51,29 @@ module _ (limits : LimitsValue) (order : NewOrder) (book : BookValue) where
       ap (new_offer_at limits order book) is.found
       ∙ ap (offered (new_seen limits order rows) rows true) is.proposed
 
-  -- the book proposes what is offered
-  pub record ComesOfNew (offer : Offer) : Type 0 where
-    pub proposes : ProposesNew limits order offer.rows offer.values book
-    pub is : offer ≡ offer_of_new limits order offer.rows offer.values
+  module _ (P : Result Offer Refusal → Type 0) (refuses : (why : Refusal) → P (Err why))
+      (offers : (rows : OrderRows) (values : Proposal)
+      → ProposesNew limits order rows values book
+      → P (Ok (offer_of_new limits order rows values))) where
+    new_by_values : (rows : OrderRows) → rows_of limits order ≡ Ok rows
+        → (answer : Result Proposal BookFault)
+        → proposal_of_new book order rows.account rows.symbol (upper_price limits rows) ≡ answer
+        → P (offered (new_seen limits order rows) rows true answer)
+    new_by_values rows found (Err fault) is = refuses (refusal_of fault)
+    new_by_values rows found (Ok values) is =
+        offers rows values (record { found = found; proposed = is })
 
-  new_by_values : (rows : OrderRows) (offer : Offer) → rows_of limits order ≡ Ok rows
-      → (answer : Result Proposal BookFault)
-      → proposal_of_new book order rows.account rows.symbol (upper_price limits rows) ≡ answer
-      → offered (new_seen limits order rows) rows true answer ≡ Ok offer → ComesOfNew offer
-  new_by_values rows offer found (Err fault) proposed given = absurd cc
-  new_by_values rows offer found (Ok values) proposed given =
-      let same : offer_of_new limits order rows values ≡ offer = cc in
-      subst ComesOfNew same
-      (record { proposes = record { found = found; proposed = proposed }; is = refl })
+    new_by_rows : (found : Result OrderRows Refusal) → rows_of limits order ≡ found
+        → P (new_offer_at limits order book found)
+    new_by_rows (Err why) is = refuses why
+    new_by_rows (Ok rows) is =
+        new_by_values rows is
+        (proposal_of_new book order rows.account rows.symbol (upper_price limits rows)) refl
 
-  new_by_rows : (offer : Offer) (found : Result OrderRows Refusal) → rows_of limits order ≡ found
-      → new_offer_at limits order book found ≡ Ok offer → ComesOfNew offer
-  new_by_rows offer (Err why) is given = absurd cc
-  new_by_rows offer (Ok rows) is given =
-      new_by_values rows offer is
-      (proposal_of_new book order rows.account rows.symbol (upper_price limits rows)) refl given
+    pub new_offer_is : P (new_offer limits order book)
+    new_offer_is = new_by_rows (rows_of limits order) refl
 
-  pub comes_of_new : (offer : Offer) → new_offer limits order book ≡ Ok offer → ComesOfNew offer
-  comes_of_new offer given = new_by_rows offer (rows_of limits order) refl given
-
+-- what is offered for a replace (G)
 module _ (limits : LimitsValue) (request : Replace) (book : BookValue) where
   pub replace_is_offered : (rows : OrderRows) (values : Proposal)
       → ProposesReplace limits request rows values book
@@ -82,28 +83,24 @@ module _ (limits : LimitsValue) (request : Replace) (book : BookValue) where
       (pair_of_order (order_with book request.orig))) is.proposed
       ∙ ap (replace_offer_at limits request (Ok values)) is.found
 
-  -- the book proposes what is offered
-  pub record ComesOfReplace (offer : Offer) : Type 0 where
-    pub proposes : ProposesReplace limits request offer.rows offer.values book
-    pub is : offer ≡ offer_of_replace limits request offer.rows offer.values
+  module _ (P : Result Offer Refusal → Type 0) (refuses : (why : Refusal) → P (Err why))
+      (offers : (rows : OrderRows) (values : Proposal)
+      → ProposesReplace limits request rows values book
+      → P (Ok (offer_of_replace limits request rows values))) where
+    replace_by_parts : (answer : Result Proposal BookFault)
+        → proposal_of_replace book request limits ≡ answer → (pair : Option (ℕ × ℕ))
+        → pair_of_order (order_with book request.orig) ≡ pair
+        → P (replace_offer_at limits request answer pair)
+    replace_by_parts (Err fault) is pair found = refuses (refusal_of fault)
+    replace_by_parts (Ok values) is None found = refuses refusal.Unknown
+    replace_by_parts (Ok values) is (Some pair) found =
+        offers (record { account = pair.0; symbol = pair.1 }) values
+        (record { proposed = is; found = found })
 
-  replace_by_parts : (offer : Offer) (answer : Result Proposal BookFault)
-      → proposal_of_replace book request limits ≡ answer → (pair : Option (ℕ × ℕ))
-      → pair_of_order (order_with book request.orig) ≡ pair
-      → replace_offer_at limits request answer pair ≡ Ok offer → ComesOfReplace offer
-  replace_by_parts offer (Err fault) proposed pair found given = absurd cc
-  replace_by_parts offer (Ok values) proposed None found given = absurd cc
-  replace_by_parts offer (Ok values) proposed (Some pair) found given =
-      let rows : OrderRows = record { account = pair.0; symbol = pair.1 } in
-      let same : offer_of_replace limits request rows values ≡ offer = cc in
-      subst ComesOfReplace same
-      (record { proposes = record { proposed = proposed; found = found }; is = refl })
-
-  pub comes_of_replace : (offer : Offer) → replace_offer limits request book ≡ Ok offer
-      → ComesOfReplace offer
-  comes_of_replace offer given =
-      replace_by_parts offer (proposal_of_replace book request limits) refl
-      (pair_of_order (order_with book request.orig)) refl given
+    pub replace_offer_is : P (replace_offer limits request book)
+    replace_offer_is =
+        replace_by_parts (proposal_of_replace book request limits) refl
+        (pair_of_order (order_with book request.orig)) refl
 
 -- the order at a place of a book is of the limits' rows
 pub order_is_placed : (book : BookValue) (place : ℕ) (order : Order)

@@ -98,28 +98,6 @@ symbol_is limits name place held at =
     place_is (symbol_names limits.symbols) name place
     (held_is_file_limits limits held).symbols.distinct at
 
--- the place of a known account is that of one of its rows
-pub account_within : (limits : LimitsValue) (name : Name) (place : ℕ) → IsHeldByFile limits
-    → IsPlaceOf (account_names limits.accounts) name (Some place) → place < length limits.accounts
-account_within limits name place held at =
-    omega (
-      arith,
-      within (account_names limits.accounts) name place
-          (sym (account_is limits name (Some place) held at)),
-      length-map limits.accounts (λ row. row.name),
-    )
-
--- the place of a known symbol is that of one of its rows
-pub symbol_within : (limits : LimitsValue) (name : Name) (place : ℕ) → IsHeldByFile limits
-    → IsPlaceOf (symbol_names limits.symbols) name (Some place) → place < length limits.symbols
-symbol_within limits name place held at =
-    omega (
-      arith,
-      within (symbol_names limits.symbols) name place
-          (sym (symbol_is limits name (Some place) held at)),
-      length-map limits.symbols (λ row. row.name),
-    )
-
 -- both places of known rows
 places_of_rows : (account symbol : Option ℕ) (rows : OrderRows) → rows_at account symbol ≡ Ok rows
     → (account ≡ Some rows.account) × (symbol ≡ Some rows.symbol)

@@ -84,37 +84,40 @@ module _ (limits : LimitsValue) (acts : List Act) (book : BookValue)
       covers_lowered limits (rows_told terms) are_rows (values_told terms) acts book after covers
       refl refl placed told less
 
--- what is so of the outcome of a report and of a cancel reject on a covered book
+-- what a report or a cancel reject comes to on a covered book
 module _ (limits : LimitsValue) (acts : List Act) (book : BookValue)
     (covers : Covers limits acts book) where
+  -- it is covered, and tells what is no more than was last posted
+  pub record KeepsCover (outcome : Outcome) : Type 0 where
+    pub covered : IsCovered limits (settled limits book acts outcome)
+    pub tells : TellsLower limits acts outcome.answer
+
+  lowered_keeps : (place : ℕ) (old next : Order) → slice_get book.orders place ≡ Some old
+      → Lowers old next → KeepsCover (outcome_with book place (Some next))
+  lowered_keeps place old next found lowers = record {
+    covered = applied_covers limits acts book covers place old next found lowers;
+    tells = (
+      are_rows limits acts book covers place old next found lowers,
+      less limits acts book covers place old next found lowers,
+    );
+  }
+
+  pub report_keeps_cover : (report : Report) → KeepsCover (outcome_of_report book report)
+  report_keeps_cover report =
+      report_comes book KeepsCover (record { covered = covers; tells = tt })
+      (record { covered = covers; tells = tt }) lowered_keeps report
+
+  pub reject_keeps_cover : (reject : CancelReject) → KeepsCover (outcome_of_reject book reject)
+  reject_keeps_cover reject =
+      reject_comes book KeepsCover (record { covered = covers; tells = tt })
+      (record { covered = covers; tells = tt }) lowered_keeps reject
+
   pub report_covers : (report : Report) → IsCovered limits (report_settled limits report book acts)
-  report_covers report =
-      report_comes book (λ outcome. IsCovered limits (settled limits book acts outcome)) covers
-      covers (applied_covers limits acts book covers) report
+  report_covers report = (report_keeps_cover report).covered
 
   pub reject_covers : (reject : CancelReject)
       → IsCovered limits (reject_settled limits reject book acts)
-  reject_covers reject =
-      reject_comes book (λ outcome. IsCovered limits (settled limits book acts outcome)) covers
-      covers (applied_covers limits acts book covers) reject
-
-  lowered_tells : (place : ℕ) (old next : Order) → slice_get book.orders place ≡ Some old
-      → Lowers old next
-      → TellsLower limits acts (outcome_with book place (Some next)).answer
-  lowered_tells place old next found lowers = (
-    are_rows limits acts book covers place old next found lowers,
-    less limits acts book covers place old next found lowers,
-  )
-
-  pub report_tells : (report : Report)
-      → TellsLower limits acts (outcome_of_report book report).answer
-  report_tells report =
-      report_comes book (λ outcome. TellsLower limits acts outcome.answer) tt tt lowered_tells report
-
-  pub reject_tells : (reject : CancelReject)
-      → TellsLower limits acts (outcome_of_reject book reject).answer
-  reject_tells reject =
-      reject_comes book (λ outcome. TellsLower limits acts outcome.answer) tt tt lowered_tells reject
+  reject_covers reject = (reject_keeps_cover reject).covered
 
 -- what was settled is covered, by what the book applied
 pub settled_covers : (limits : LimitsValue) (acts acts_after : List Act) (book next : BookValue)

@@ -169,11 +169,6 @@ module _ (limits : LimitsValue) (tree : ℕ) (orders : List Order) (place : ℕ)
   value_in-set_ge lowers =
       units_up-le _ _ (omega (arith, set_is, part_within, part_in-le limits tree new old lowers))
 
-  -- that counts for the same there
-  value_in-set_same : part_in limits tree new ≡ part_in limits tree old
-      → value_in limits tree (slice_set orders place new) ≡ value_in limits tree orders
-  value_in-set_same same = ap units_up (omega (arith, set_is, part_within, same))
-
   -- of the same account and symbol, in a tree in which neither counts
   pub value_in-set_other : new.account ≡ old.account → new.symbol ≡ old.symbol
       → IsOtherTree limits new.account new.symbol tree
@@ -184,5 +179,5 @@ module _ (limits : LimitsValue) (tree : ℕ) (orders : List Order) (place : ℕ)
         not_account = λ e. other.not_account (e ∙ ap account_tree (sym account));
         not_symbol = λ e. other.not_symbol (e ∙ ap (symbol_tree limits) (sym symbol));
       } in
-      value_in-set_same
-      (part_in-other limits tree new other ∙ sym (part_in-other limits tree old before))
+      let same = part_in-other limits tree new other ∙ sym (part_in-other limits tree old before) in
+      ap units_up (omega (arith, set_is, part_within, same))

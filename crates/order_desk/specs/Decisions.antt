@@ -1,6 +1,6 @@
 -- What is decided on an order, a cancel and a replace, as a function of the book, the acts and the
 -- reads.
-use Rattle.std.specs.Prelude.{◌≡◌, ℕ, List, ◌++◌, Option, Some, None, Result, Ok, Err, Bool}
+use Rattle.std.specs.Prelude.{◌≡◌, List, ◌++◌, Option, Some, None, Result, Ok, Err, Bool}
 use Rattle.std.specs.Prelude.{[], true, false, ◌||◌, nat_lt}
 use Rattle.std.specs.List.{list_any}
 use Rattle.fix_orders.specs.declared.message.NewOrder.{NewOrder}
@@ -143,3 +143,10 @@ pub record Decides (decide : BookValue → Tape → Decision) (acts acts_after :
   pub reads_are : reads_of acts_after ≡ reads_of acts ++ seen
   pub decided : (more : List SeenAt) → decide book (tape acts (seen ++ more))
       ≡ record { refusal = answer; tape = tape acts_after more; book = book_after }
+
+-- It was decided so whatever the book is, and whatever it becomes if the request is sent.
+abbrev pub Judges : (BookValue → BookValue → Tape → Decision) → List Act → List Act
+    → Option Refusal → Type 0
+Judges decide acts acts_after answer =
+    (book next : BookValue) → Decides (λ own before. decide own next before) acts acts_after book
+    (committed answer book next) answer

@@ -1,10 +1,9 @@
 //! What the screens and the trees say to what is offered.
 ghost use Rattle.std.specs.Prelude.{◌≡◌, ◌≤◌, map};
-ghost use Rattle.exposure_book.specs.Books.{BookValue};
 ghost use Rattle.screen_kit.specs.Sets.{after_asking};
 ghost use Rattle.admit_core.specs.declared.ask.TheConstants.{MOST_CALLS};
 ghost use Rattle.admit_core.specs.Hands.{IsOver, IsAfter};
-ghost use Rattle.order_desk.specs.Decisions.{Decides, committed, judged, tree_decided};
+ghost use Rattle.order_desk.specs.Decisions.{Judges, judged, tree_decided};
 ghost use Rattle.order_desk.specs.Offers.{IsSoundFor};
 
 use crate::offer::Offer;
@@ -26,9 +25,8 @@ fn ask_trees<H: Hand, M: Hand>(
     requires sound { IsSoundFor limits.now offer.now }
     requires room { MOST_CALLS ≤ hands.old.room }
     ensures after { IsAfter H.SameOrigin M.SameOrigin hands.old hands.new MOST_CALLS }
-    ensures decides { (book next : BookValue) → Decides
-        (λ own before. tree_decided limits.now offer.now own next before)
-        hands.old.acts hands.new.acts book (committed result book next) result }
+    ensures decides { Judges (tree_decided limits.now offer.now)
+        hands.old.acts hands.new.acts result }
 {
     let values = values_of(&offer.values);
     let above = is_above_last(hands, limits, &offer.rows, &values);
@@ -51,9 +49,8 @@ pub(crate) fn judge<H: Hand, M: Hand, K: Screen>(
     requires sound { IsSoundFor limits.now offer.now }
     requires room { MOST_CALLS ≤ hands.old.room }
     ensures after { IsAfter H.SameOrigin M.SameOrigin hands.old hands.new MOST_CALLS }
-    ensures decides { (book next : BookValue) → Decides (λ own before.
-        judged limits.now (map K.meaning screens.old.items) offer.now own next before)
-        hands.old.acts hands.new.acts book (committed result book next) result }
+    ensures decides { Judges (judged limits.now (map K.meaning screens.old.items) offer.now)
+        hands.old.acts hands.new.acts result }
     ensures screens { map K.meaning screens.new.items
         ≡ after_asking offer.now.seen (map K.meaning screens.old.items) }
 {

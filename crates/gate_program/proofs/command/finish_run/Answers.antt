@@ -23,8 +23,8 @@ finish-requires-clause-few_trees g c κs within =
       arith,
       legal.count,
       length-map lines (λ own. own.items),
-      held_accounts limits c.requires.held,
-      held_symbols limits c.requires.held,
+      held_accounts limits c.stand_in_a_file.ensures,
+      held_symbols limits c.stand_in_a_file.ensures,
     )
 
 pub finish-requires-clause-act_count : goal.finish-requires-clause-act_count

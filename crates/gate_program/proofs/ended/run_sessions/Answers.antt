@@ -3,13 +3,13 @@ use Rattle.std.proofs.lemmas.List.{length-map}
 use Rattle.std.specs.List.{AllByRecursion}
 use Rattle.risk_journal.specs.declared.acts.Act.{Act}
 use Rattle.risk_journal.specs.ActLists.{calls_below, calls_at}
-use Rattle.session_engine.specs.Trees.{halt_tree}
+use Rattle.limit_table.specs.Trees.{halt_tree}
 use Rattle.node_rule.specs.declared.view.Plan.{Plan}
 use Rattle.f_array.specs.Records.{AreAllOf}
 use Rattle.gate_program.specs.Forests.{AreOpened}
 use Rattle.gate_program.specs.Objects.{objects_of}
 use Rattle.gate_program.specs.Room.{HasSpare}
-use Rattle.gate_program.proofs.LimitQuota.{quota_in_range}
+use Rattle.limit_table.proofs.Quotas.{quota_in_range}
 use Rattle.gate_program.proofs.NewTasks.{all_ready}
 use Rattle.gate_program.proofs.TasksBack.{zip_long, all_back, calls_back, each_back, have_done}
 use Rattle.gate_program.proofs.TasksBack.{mapped_twice}
@@ -19,7 +19,7 @@ pub run_tasks-requires-clause-ready : goal.run_tasks-requires-clause-ready
 run_tasks-requires-clause-ready g c κs within =
     all_ready c.args.limits.now c.args.forests.now.sums c.args.forests.now.halts
     (length c.args.tasks.items)
-    c.requires.held (quota_in_range c.args.limits.now c.requires.held).0
+    (quota_in_range c.args.limits.now c.stand_in_a_file.ensures).0
     c.requires.forests.sums c.requires.forests.halts
     (λ t. t.sum) (λ t. t.halt) c.args.tasks.items (length c.args.tasks.items) c.requires.sums
     c.requires.halts

@@ -1,4 +1,4 @@
-use Rattle.std.proofs.Common.{ℕ, ◌∙◌, map, sym, subst, string_bytes}
+use Rattle.std.proofs.Common.{◌∙◌, sym, string_bytes}
 use Rattle.std.proofs.lemmas.List.{length-map}
 use Rattle.gate_program.specs.CommandOf.{run_value}
 use Rattle.gate_program.specs.Objects.{objects_of}

@@ -1,6 +1,6 @@
-use Rattle.std.proofs.Common.{ℕ, map, length, subst}
+use Rattle.std.proofs.Common.{ℕ, map, subst}
 use Rattle.std.proofs.lemmas.List.{length-map}
-use Rattle.session_engine.specs.Trees.{halt_tree}
+use Rattle.limit_table.specs.Trees.{halt_tree}
 use Rattle.gate_program.specs.Totals.{HaveTotals}
 use Rattle.gate_program.proofs.Histories.{are_legal_lines}
 use Rattle.gate_program.proofs.Replays.{have_left}

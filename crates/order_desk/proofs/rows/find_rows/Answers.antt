@@ -1,9 +1,9 @@
 -- The rows are those of the look-ups.
-use Rattle.std.proofs.Common.{ap, ◌∙◌}
+use Rattle.std.proofs.Common.{ap, sym, ◌∙◌}
 use Rattle.std.specs.Prelude.{Some, None}
 use Rattle.limit_table.specs.Places.{symbol_names}
 use Rattle.order_desk.specs.Rows.{rows_at, place_among}
-use Rattle.order_desk.proofs.Places.{account_is, symbol_is, account_within, symbol_within}
+use Rattle.order_desk.proofs.Places.{account_is, symbol_is, known_rows}
 use Rattle.order_desk.proofs.rows.find_rows.Goals as goal
 
 pub returns-in_default-clause-value : goal.returns-in_default-clause-value
@@ -35,9 +35,5 @@ returns-clause-value c =
     ∙ ap (λ own. rows_at own (place_among order.symbol (symbol_names limits.symbols))) account
 
 pub returns-clause-rows : goal.returns-clause-rows
-returns-clause-rows c = record {
-  account = account_within c.args.limits.now c.args.order.now.account c.in-Some.account
-      c.stand_in_a_file.ensures c.in-Some.ensures;
-  symbol = symbol_within c.args.limits.now c.args.order.now.symbol c.in-Some-symbol.symbol
-      c.stand_in_a_file.ensures c.in-Some-symbol.ensures;
-}
+returns-clause-rows c =
+    known_rows c.args.limits.now c.args.order.now _ (sym (returns-clause-value c))

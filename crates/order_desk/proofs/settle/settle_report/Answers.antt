@@ -1,13 +1,13 @@
 -- No value rose, and what is posted covers the orders after it.
 use Rattle.exposure_book.specs.Reports.{outcome_of_report}
 use Rattle.admit_core.proofs.After.{still_over}
-use Rattle.order_desk.proofs.ReportedCovers.{report_covers, report_tells, settled_covers}
+use Rattle.order_desk.proofs.ReportedCovers.{report_keeps_cover, settled_covers}
 use Rattle.order_desk.proofs.settle.settle_report.Goals as goal
 
 pub settle-requires-clause-lower : goal.settle-requires-clause-lower
 settle-requires-clause-lower g c =
-    rw c.apply-applied.ensures.answer (report_tells c.desk.inside.limits.now
-    c.desk.inside.hands.acts c.desk.inside.book.value c.desk.invariant.covers c.args.report.now)
+    rw c.apply-applied.ensures.answer (report_keeps_cover c.desk.inside.limits.now
+    c.desk.inside.hands.acts c.desk.inside.book.value c.desk.invariant.covers c.args.report.now).tells
 
 pub invariant_of-desk : goal.invariant_of-desk
 invariant_of-desk g c =
@@ -19,7 +19,7 @@ invariant_of-desk g c =
       covers = settled_covers limits acts c.settle.new.hands.acts book
           c.apply-applied.new.self.value c.apply-applied.result c.settle.result
           (outcome_of_report book c.args.report.now)
-          (report_covers limits acts book c.desk.invariant.covers c.args.report.now)
+          (report_keeps_cover limits acts book c.desk.invariant.covers c.args.report.now).covered
           c.apply-applied.ensures.answer c.apply-applied.ensures.orders
           (c.settle.ensures.settled c.apply-applied.new.self.value);
     }

@@ -1,6 +1,6 @@
 -- A post in the halt tree keeps the orders covered.
 use Rattle.admit_core.proofs.After.{still_over}
-use Rattle.order_desk.proofs.HaltKept.{covers_tripped}
+use Rattle.order_desk.proofs.Covers.{covers_tripped}
 use Rattle.order_desk.proofs.desk.Desk.trip.Goals as goal
 
 pub invariant_of-self : goal.invariant_of-self

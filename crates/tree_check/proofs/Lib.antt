@@ -1,0 +1,10 @@
+pub mod Below
+pub mod Bucketed
+pub mod ByTree
+pub mod Moments
+pub mod Stays
+pub mod PlaceSteps
+pub mod Standings
+pub mod WalkedReads
+pub mod Within
+pub mod Answered
