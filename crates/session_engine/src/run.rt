@@ -140,9 +140,9 @@ fn run_start<'a, H: Hand, M: Hand, K: Screen, S: Source, V: Sink, C: Sink, G: Ga
     ensures halt { IsHandDone M.SameOrigin M.meaning start.entry.hands.halt result.hands.halt
         (calls_at (halt_tree start.entry.limits.now) result.acts.items) }
     ensures follows { IsByInput result.end → FollowsSource start.entry.limits.now
-        (armed_for start.entry.limits.now (map K.meaning screens.items))
-        (S.left source) result.acts.items result.end (V.held start.entry.venue)
-        (V.held result.venue) (C.held start.entry.client) (C.held result.client) }
+        (armed_for start.entry.limits.now (map K.meaning screens.items)) (S.left source)
+        result.acts.items result.end (V.held start.entry.venue) (V.held result.venue)
+        (C.held start.entry.client) (C.held result.client) }
     ensures source { IsSourceDone S.left S.faults S.name S.is_ended source result.source result.end }
     ensures sinks { AreSinksDone V.faults V.name C.faults C.name start.entry.venue result.venue
         start.entry.client result.client result.end }
