@@ -6,9 +6,9 @@ use Rattle.std.proofs.lemmas.Bool.{eq-eqb}
 use Rattle.std.proofs.lemmas.Bool.Decides.{nat_tests}
 use Rattle.risk_journal.specs.declared.acts.Act.{Act}
 use Rattle.risk_journal.specs.ActLists.{posts_in}
-use Rattle.hand_acts.specs.Tapes.{with_post}
-use Rattle.hand_acts.specs.Trees.{LimitsValue, halt_tree}
-use Rattle.hand_acts.proofs.Standings.{posts_in-own}
+use Rattle.admit_core.specs.Tapes.{with_post}
+use Rattle.limit_table.specs.Trees.{LimitsValue, halt_tree}
+use Rattle.admit_core.proofs.Standings.{posts_in-own}
 use Rattle.exposure_book.specs.Books.{BookValue}
 use Rattle.order_desk.specs.declared.refusal.Refusal.{Refusal}
 use Rattle.order_desk.specs.Backing.{Covers}
