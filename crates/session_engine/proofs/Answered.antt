@@ -5,7 +5,6 @@ use Rattle.std.specs.Io.KnownBytes.{Appends}
 use Rattle.exposure_book.specs.Books.{BookValue}
 use Rattle.fix_fields.specs.Fields.{FieldValue}
 use Rattle.fix_fields.specs.Places.{HasFieldsIn}
-use Rattle.risk_journal.specs.declared.acts.Act.{Act}
 use Rattle.screen_kit.specs.Screens.{ScreenValue}
 use Rattle.frame_run.specs.Frames.{FrameIn}
 use Rattle.frame_run.specs.Sinks.{SinkValue, IsLaterSink}
@@ -22,7 +21,7 @@ use Rattle.session_engine.specs.Answers.{Wording, forward_text}
 use Rattle.session_engine.specs.Taken.{Kept, TakesSound, ReadsAs, answer_act, answer_stamp, note_acts, note_by, counted_client}
 use Rattle.session_engine.specs.Trips.{acts_tripped}
 use Rattle.session_engine.proofs.MessageFacts.{RequestFacts, ReportFacts}
-use Rattle.session_engine.proofs.ReportFrames.{Told, Settles, takes_report}
+use Rattle.session_engine.proofs.ReportFrames.{Told, takes_report}
 use Rattle.session_engine.proofs.RequestFrames.{Asked, Answers, IsAnswered, takes_request}
 
 -- the answer to a request has the request's time
@@ -48,7 +47,7 @@ module _ {H M K : Type 0} (meaning : K → ScreenValue) where
       absurd cc
   sent_answer wording fields None time now told venue stamp told_is is stamp_is gives = (
     subst (λ (c : Counts). Appends told.venue.held venue
-    (forward_text (codes "VENUE") c.venue fields))
+        (forward_text (codes "VENUE") c.venue fields))
         (sym (ap (λ (r : Running H M K). r.counts) told_is))
         (subst (λ (s : Stamp). Appends told.venue.held venue
         (forward_text s.target s.seq fields)) stamp_is gives),

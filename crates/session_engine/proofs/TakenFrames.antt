@@ -1,5 +1,5 @@
 -- A frame that was noted, or taken up and taken, is one frame more.
-use Rattle.std.proofs.Common.{◌≡◌, ◌<◌, List, [], ◌∷◌, ◌++◌, length, refl, sym, ap, ◌∙◌, subst, true, false}
+use Rattle.std.proofs.Common.{◌≡◌, ◌<◌, List, [], ◌∷◌, ◌++◌, length, sym, ap, ◌∙◌, subst, true, false}
 use Rattle.std.specs.Prelude.{ℕ, Option, Some, None}
 use Rattle.std.proofs.lemmas.Bool.{false≢true}
 use Rattle.fix_fields.specs.Fields.{FieldValue}
@@ -10,13 +10,12 @@ use Rattle.limit_table.specs.Trees.{LimitsValue}
 use Rattle.frame_run.specs.Ends.{input_most}
 use Rattle.frame_run.specs.Frames.{FrameIn, IsFrameOf}
 use Rattle.order_desk.specs.Desks.{HasRoom}
-use Rattle.risk_journal.specs.declared.acts.Act.{Act}
 use Rattle.session_engine.specs.declared.counts.Counts.{Counts}
 use Rattle.session_engine.specs.declared.note.Note.TheVariants as note
 use Rattle.session_engine.specs.Running.{Running, kept_of, HasTaken, IsReady, TookFrames}
 use Rattle.session_engine.specs.Running.{frame_acts}
 use Rattle.session_engine.specs.Session.{after_frame, orders_with}
-use Rattle.session_engine.specs.Taken.{Kept, HasSmallCounts, CountsTrips, TakesFrom, TakesSound}
+use Rattle.session_engine.specs.Taken.{Kept, HasSmallCounts, TakesFrom, TakesSound}
 use Rattle.session_engine.specs.Taken.{counted, noted_act}
 use Rattle.session_engine.proofs.PassedFrames.{sound_takes, unsound_takes}
 use Rattle.session_engine.proofs.RunLemmas.{small_counts, trips_kept, took_next}

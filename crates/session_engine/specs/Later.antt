@@ -1,5 +1,5 @@
 -- A session stays the same one over what it does, and a fault stays one.
-use Rattle.std.specs.Prelude.{◌≡◌, ◌⊎◌, ℕ, ◌+◌, ◌-◌, ◌*◌, ◌^◌, ◌≤◌, min}
+use Rattle.std.specs.Prelude.{ℕ, ◌+◌, ◌*◌, ◌≤◌}
 use Rattle.std.proofs.Common.{arith, refl, ◌∙◌, inl, inr}
 use Rattle.gate_ports.specs.Faults.{Rose}
 use Rattle.frame_run.specs.Sinks.{SinkValue, IsLaterSink}

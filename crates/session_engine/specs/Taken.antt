@@ -22,7 +22,7 @@ use Rattle.order_desk.specs.declared.refusal.Refusal.{Refusal}
 use Rattle.session_engine.specs.declared.counts.Counts.{Counts}
 use Rattle.session_engine.specs.declared.note.Note.{Note}
 use Rattle.session_engine.specs.declared.note.Note.TheVariants as note
-use Rattle.session_engine.specs.Answers.{Wording, forward_text, refused_act, note_code, stamp_of}
+use Rattle.session_engine.specs.Answers.{refused_act, note_code, stamp_of}
 use Rattle.session_engine.specs.Session.{LimitsValue, SessionValue, after_sound, asks}
 use Rattle.session_engine.specs.Session.{with_frame}
 use Rattle.session_engine.specs.Stands.{StandsFor}

@@ -1,6 +1,5 @@
 -- A request was decided on, told and answered.
-use Rattle.std.proofs.Common.{ℕ, List, [], map, refl, sym, ap, ◌∙◌, subst}
-
+use Rattle.std.proofs.Common.{ℕ, List, map, refl, ap, ◌∙◌, subst}
 use Rattle.std.specs.Io.KnownBytes.{Appends}
 use Rattle.fix_orders.specs.declared.message.Message.TheVariants as message
 use Rattle.fix_orders.specs.declared.message.Stamp.{Stamp}
@@ -39,7 +38,7 @@ returns-in-None-clause-taken g c = λ taken.
     c.decide_cancel-refusal.new.desk c.decide_cancel-refusal.result c.tell_answer-stamp.new.self _ _ _ c.self.view_is
     c.self-2.view_is c.requires.read
     (λ fields has. cancel_facts fields c.args.cancel.now (c.requires.read.each fields has))
-    (ap (λ (d : DeskValue _ _ _). d.limits) c.decide_cancel-refusal.ensures.same) 
+    (ap (λ (d : DeskValue _ _ _). d.limits) c.decide_cancel-refusal.ensures.same)
     (cancel_decides c.args.cancel.now c.self.inside.desk c.decide_cancel-refusal.new.desk
     c.decide_cancel-refusal.result c.decide_cancel-refusal.ensures.same
     c.decide_cancel-refusal.ensures.decides) (ap (λ (d : DeskValue _ _ _). map g.K.Screen.meaning d.screens)
@@ -56,7 +55,7 @@ returns-in-Some-clause-taken g c = λ taken.
     c.decide_cancel-refusal.new.desk c.decide_cancel-refusal.result c.tell_answer-stamp.new.self _ _ _ c.self.view_is
     c.self-2.view_is c.requires.read
     (λ fields has. cancel_facts fields c.args.cancel.now (c.requires.read.each fields has))
-    (ap (λ (d : DeskValue _ _ _). d.limits) c.decide_cancel-refusal.ensures.same) 
+    (ap (λ (d : DeskValue _ _ _). d.limits) c.decide_cancel-refusal.ensures.same)
     (cancel_decides c.args.cancel.now c.self.inside.desk c.decide_cancel-refusal.new.desk
     c.decide_cancel-refusal.result c.decide_cancel-refusal.ensures.same
     c.decide_cancel-refusal.ensures.decides) (ap (λ (d : DeskValue _ _ _). map g.K.Screen.meaning d.screens)

@@ -1,9 +1,8 @@
 -- A request was decided on, told and answered.
-use Rattle.std.proofs.Common.{ℕ, List, map, refl, sym, ap, ◌∙◌, subst, Bool}
+use Rattle.std.proofs.Common.{ℕ, List, map, refl, ap, ◌∙◌, subst}
 use Rattle.std.specs.Io.KnownBytes.{Appends}
 use Rattle.fix_orders.specs.declared.message.Message.TheVariants as message
 use Rattle.fix_orders.specs.declared.message.Stamp.{Stamp}
-use Rattle.order_desk.specs.Backing.{Covers}
 use Rattle.order_desk.proofs.HaltKept.{new_keeps}
 use Rattle.fix_orders.specs.Writing.{order_reject_fields}
 use Rattle.session_engine.specs.Answers.{order_refusal}
