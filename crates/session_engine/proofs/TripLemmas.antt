@@ -12,7 +12,7 @@ use Rattle.admit_core.proofs.Standings.{posts_in-own}
 use Rattle.exposure_book.specs.Books.{BookValue}
 use Rattle.order_desk.specs.declared.refusal.Refusal.{Refusal}
 use Rattle.order_desk.specs.Backing.{Covers}
-use Rattle.order_desk.proofs.HaltKept.{covers_tripped}
+use Rattle.order_desk.proofs.Covers.{covers_tripped}
 use Rattle.session_engine.specs.Trips.{is_firm, firms_after, is_trip_number, is_trip, acts_tripped}
 use Rattle.session_engine.specs.Trips.{is_reached, trips_by}
 

@@ -7,6 +7,7 @@ use Rattle.fix_fields.specs.Places.{HasFieldsIn, IsSoundIn}
 use Rattle.fix_orders.specs.declared.message.FieldFault.{FieldFault}
 use Rattle.fix_orders.specs.declared.message.Message.{Message}
 use Rattle.fix_orders.specs.declared.message.Stamp.{Stamp}
+use Rattle.fix_orders.specs.Faults.{value_of}
 use Rattle.fix_orders.specs.Put.{seq_most}
 use Rattle.fix_orders.specs.Reading.{read_of}
 use Rattle.exposure_book.specs.Books.{BookValue}
@@ -22,7 +23,7 @@ use Rattle.order_desk.specs.declared.refusal.Refusal.{Refusal}
 use Rattle.session_engine.specs.declared.counts.Counts.{Counts}
 use Rattle.session_engine.specs.declared.note.Note.{Note}
 use Rattle.session_engine.specs.declared.note.Note.TheVariants as note
-use Rattle.session_engine.specs.Answers.{refused_act, note_code, stamp_of}
+use Rattle.session_engine.specs.Answers.{forward_text, refused_act, note_code, stamp_of}
 use Rattle.session_engine.specs.Session.{LimitsValue, SessionValue, after_sound, asks}
 use Rattle.session_engine.specs.Session.{with_frame}
 use Rattle.session_engine.specs.Stands.{StandsFor}
@@ -56,6 +57,18 @@ abbrev pub FailsAs : FrameIn → FieldFault → Bool → Type 0
 FailsAs sound fault request =
     (fields : List FieldValue) → HasFieldsIn sound.bytes sound.frame fields
     → (read_of fields ≡ Err fault) × (asks fields ≡ request)
+
+-- whatever the fields of the frame are, the stamp has their time
+abbrev pub HasItsTime : FrameIn → Stamp → Type 0
+HasItsTime sound stamp =
+    (fields : List FieldValue) → HasFieldsIn sound.bytes sound.frame fields
+    → stamp.time ≡ value_of 52 fields
+
+-- whatever the fields of the frame are, the sink took its message with this stamp
+abbrev pub Forwards : FrameIn → Stamp → Option (List ℕ) → Option (List ℕ) → Type 0
+Forwards sound stamp held held_after =
+    (fields : List FieldValue) → HasFieldsIn sound.bytes sound.frame fields
+    → Appends held held_after (forward_text stamp.target stamp.seq fields)
 
 -- one frame more is counted, and one more message has a number of at most eight digits in either
 -- stream

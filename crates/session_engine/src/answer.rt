@@ -3,11 +3,9 @@ ghost use Rattle.std.specs.Prelude.{◌≡◌, List, codes, IsOk, IsErrOf, IsSom
 ghost use Rattle.std.specs.Io.KnownBytes.{Appends};
 ghost use Rattle.fix_fields.specs.Fields.{FieldValue};
 ghost use Rattle.fix_fields.specs.Messages.{message_text};
-ghost use Rattle.fix_fields.specs.Places.{HasFieldsIn};
-ghost use Rattle.fix_orders.specs.Faults.{value_of};
 ghost use Rattle.fix_orders.specs.Put.{HasPut, IsSeq, IsPassedOn};
 ghost use Rattle.gate_ports.specs.Faults.{HasCause};
-ghost use Rattle.session_engine.specs.Answers.{forward_text};
+ghost use Rattle.session_engine.specs.Taken.{HasItsTime, Forwards};
 
 use fix_fields::{Id, Writer};
 use fix_orders::{Stamp, write_forward};
@@ -45,12 +43,9 @@ pub(crate) fn forward<S: Sink>(
 ) -> Result<(), PortFault>
     requires passed { IsPassedOn sound.now.bytes sound.now.frame }
     requires number { IsSeq stamp.now.seq }
-    requires time { (fields : List FieldValue)
-        → HasFieldsIn sound.now.bytes sound.now.frame fields → stamp.now.time ≡ value_of 52 fields }
-    ensures given { IsOk result → (fields : List FieldValue)
-        → HasFieldsIn sound.now.bytes sound.now.frame fields
-        → Appends (S.held sink.old) (S.held sink.new)
-        (forward_text stamp.now.target stamp.now.seq fields) }
+    requires time { HasItsTime sound.now stamp.now }
+    ensures given { IsOk result
+        → Forwards sound.now stamp.now (S.held sink.old) (S.held sink.new) }
     ensures cause { HasCause (S.faults sink.old) (S.faults sink.new)
         (IsErrOf result PortFault.Failed) }
     ensures name { S.name sink.new ≡ S.name sink.old }

@@ -8,7 +8,8 @@ ghost use Rattle.risk_journal.specs.ActLists.{calls_below, calls_at};
 ghost use Rattle.admit_core.specs.Hands.{IsSumHand, IsHaltHand, IsFresh};
 ghost use Rattle.order_desk.specs.Values.{first_book};
 ghost use Rattle.session_engine.specs.Counted.{no_counts};
-ghost use Rattle.session_engine.specs.Done.{IsHandDone, IsSourceDone, AreSinksDone};
+ghost use Rattle.session_engine.specs.Done.{IsBeginning, IsHandDone, IsSourceDone, AreSinksDone};
+ghost use Rattle.session_engine.specs.Done.{EndsInFew};
 ghost use Rattle.session_engine.specs.Follows.{IsByInput, FollowsSource, FetchesInput, EndsAs};
 ghost use Rattle.session_engine.specs.Follows.{EndsWith};
 ghost use Rattle.session_engine.specs.Session.{armed_for, unnamed_client};
@@ -124,8 +125,8 @@ impl<'a, H: Hand, M: Hand, K: Screen, V: Sink, C: Sink> Session<'a, H, M, K, V, 
     }
 }
 
-/// Arms the screens, takes the frames of the source, and ends. Its clauses are those of `run_session`,
-/// by what each speaks of.
+/// Arms the screens, takes the frames of the source, and ends. Its head is long because its clauses are
+/// those of `run_session`, by what each speaks of.
 fn run_start<'a, H: Hand, M: Hand, K: Screen, S: Source, V: Sink, C: Sink, G: Gate>(
     alloc: Global,
     start: Start<'a, H, M, V, C>,
@@ -133,24 +134,19 @@ fn run_start<'a, H: Hand, M: Hand, K: Screen, S: Source, V: Sink, C: Sink, G: Ga
     mut source: S,
     gate: NumberedGate<'a, G>,
 ) -> SessionDone<H, M, S, V, C>
-    requires fresh { IsFresh start.limits.now start.hands.sum start.hands.halt start.hands }
-    requires book { start.book.value ≡ first_book start.limits.now }
+    requires { IsBeginning start.limits.now start.hands start.book.value }
     ensures sum { IsHandDone H.SameOrigin H.meaning start.entry.hands.sum result.hands.sum
         (calls_below (halt_tree start.entry.limits.now) result.acts.items) }
     ensures halt { IsHandDone M.SameOrigin M.meaning start.entry.hands.halt result.hands.halt
         (calls_at (halt_tree start.entry.limits.now) result.acts.items) }
     ensures follows { IsByInput result.end → FollowsSource start.entry.limits.now
         (armed_for start.entry.limits.now (map K.meaning screens.items))
-        (S.left source) result.acts.items result.end (V.held start.entry.venue) (V.held result.venue)
-        (C.held start.entry.client) (C.held result.client) }
-    ensures fetched { FetchesInput (S.left source) (S.left result.source) result.end }
-    ensures source { IsSourceDone S.faults S.name S.is_ended source result.source result.end }
-    ensures sinks { AreSinksDone
-        (sink_of V.held V.faults V.name start.entry.venue) (sink_of V.held V.faults V.name result.venue)
-        (sink_of C.held C.faults C.name start.entry.client) (sink_of C.held C.faults C.name result.client)
-        result.end }
-    ensures told { EndsWith result.acts.items result.end }
-    ensures few { length result.acts.items < 2 ^ 32 }
+        (S.left source) result.acts.items result.end (V.held start.entry.venue)
+        (V.held result.venue) (C.held start.entry.client) (C.held result.client) }
+    ensures source { IsSourceDone S.left S.faults S.name S.is_ended source result.source result.end }
+    ensures sinks { AreSinksDone V.faults V.name C.faults C.name start.entry.venue result.venue
+        start.entry.client result.client result.end }
+    ensures acts { EndsInFew result.acts.items result.end }
 {
     let terms = Terms {
         repeat: start.limits.repeat(),

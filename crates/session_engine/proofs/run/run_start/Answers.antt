@@ -1,5 +1,5 @@
 -- The hands, the source and the sinks at the end.
-use Rattle.std.proofs.Common.{◌≡◌, refl, sym, ap, ◌∙◌, map, false}
+use Rattle.std.proofs.Common.{◌≡◌, refl, sym, ap, ◌∙◌, map, false, arith}
 use Rattle.std.specs.Prelude.{Result, Ok, Err, OnOk, is_err}
 use Rattle.frame_run.proofs.Streaming.{fetches_none}
 use Rattle.limit_table.specs.Trees.{halt_tree}
@@ -31,9 +31,15 @@ returns-then-is_err-clause-halt g c =
           c.open.ensures;
     }
 
-pub returns-then-is_err-clause-fetched : goal.returns-then-is_err-clause-fetched
-returns-then-is_err-clause-fetched g c =
-    rw (c.close.ensures.source, c.close.ensures.end) (fetches_none (g.S.Source.left c.args.source))
+pub returns-then-is_err-clause-source : goal.returns-then-is_err-clause-source
+returns-then-is_err-clause-source g c =
+    rw (c.close.ensures.source, c.close.ensures.end) (record {
+      fetched = fetches_none (g.S.Source.left c.args.source);
+      later = omega arith;
+      name_is = refl;
+      failed = λ is. absurd cc;
+      whole = λ is. absurd cc;
+    })
 
 pub take_input-end-requires : goal.take_input-end-requires
 take_input-end-requires g c = record {
