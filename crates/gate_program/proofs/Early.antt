@@ -12,7 +12,7 @@ use Rattle.std.specs.Io.KnownBytes.{Appends}
 use Rattle.gate_ports.specs.Bytes.{AppendsFront}
 use Rattle.gate_ports.specs.Names.{Texts}
 use Rattle.gate_program.specs.Pieces.{joined}
-use Rattle.gate_program.specs.Words.{RunWords, IsApart, venue_name, client_name, journal_name}
+use Rattle.gate_program.specs.Words.{RunWords, IsApart, venue_name, journal_name}
 use Rattle.gate_program.specs.Words.{is_among, output_names}
 use Rattle.gate_program.specs.Run.{PortsValue}
 use Rattle.gate_program.specs.Early.{KeepsOrFronts, MayEmpty, AreEmptied, LeavesEmpty}

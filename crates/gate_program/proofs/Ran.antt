@@ -1,5 +1,5 @@
 -- Sessions that were opened, ran and were closed: what a run of them did.
-use Rattle.std.proofs.Common.{◌≡◌, ◌≢◌, ℕ, List, [], ◌∷◌, ◌++◌, length, map, refl, sym, ap, subst}
+use Rattle.std.proofs.Common.{◌≡◌, ◌≢◌, ℕ, List, [], ◌∷◌, length, map, refl, sym, ap, subst}
 use Rattle.std.proofs.Common.{◌∙◌}
 use Rattle.std.proofs.Common.{inl, inr, Bool, true, false, arith, suc, ◌≤◌}
 use Rattle.std.proofs.lemmas.List.{length-map}
