@@ -1,7 +1,7 @@
 //! What no clause says: that each call succeeds with ample memory, on a history of two sessions with
 //! reads that fit and reads that don't.
 
-use crate::{ReadAt, are_walked, reads_by_tree, stays_within};
+use crate::{ReadAt, ToldTree, are_walked, reads_by_tree, stays_within, trees_agree};
 use fold_law::Sum;
 use risk_board::Line;
 use risk_journal::Act;
@@ -101,5 +101,45 @@ fn reads_are_listed_by_their_trees(rt: HostRuntime) -> Result<(), Fail> {
         value: 7,
     };
     assert_eq!(rt; trees[1].as_slice(), [read].as_slice());
+    Ok(())
+}
+
+#[test]
+fn trees_are_checked_side_by_side(rt: HostRuntime) -> Result<(), Fail> {
+    const TREES: [(&str, u64, Option<u64>, bool); 4] = [
+        ("a tree without a limit", 600, None, true),
+        ("a limit that is kept", 600, Some(600), true),
+        (
+            "a limit above which nothing is admitted",
+            600,
+            Some(599),
+            true,
+        ),
+        ("a read that a walk doesn't give", 1200, None, false),
+    ];
+    let alloc = rt.alloc();
+    for (name, value, limit, want) in TREES {
+        let mut trees = Vec::new(alloc);
+        trees.push(ToldTree {
+            history: History {
+                lines: Vec::from_slice(alloc, &LINES)?,
+                places: Vec::new(alloc),
+            },
+            reads: Vec::from_slice(
+                alloc,
+                &[ReadAt {
+                    session: 0,
+                    place: 1,
+                    value,
+                }],
+            )?,
+            limit,
+        })?;
+        assert_eq!(rt;
+            trees_agree::<_, Sum>(&rt, alloc, 2, trees)?,
+            want,
+            "{name}"
+        );
+    }
     Ok(())
 }
