@@ -131,8 +131,10 @@ struct Case {
     ended: u32,
     status: u8,
     told: &'static [u8],
-    venues: [Option<&'static [Piece]>; 2],
-    clients: [Option<&'static [Piece]>; 2],
+    first_venue: Option<&'static [Piece]>,
+    first_client: Option<&'static [Piece]>,
+    second_venue: Option<&'static [Piece]>,
+    second_client: Option<&'static [Piece]>,
     journal: Option<&'static [u8]>,
 }
 
@@ -145,8 +147,10 @@ static EARLY: [Case; 4] = [
         ended: 0,
         status: 5,
         told: b"read fault\n",
-        venues: [None, None],
-        clients: [None, None],
+        first_venue: None,
+        first_client: None,
+        second_venue: None,
+        second_client: None,
         journal: None,
     },
     Case {
@@ -156,8 +160,10 @@ static EARLY: [Case; 4] = [
         ended: 0,
         status: 5,
         told: b"read fault\n",
-        venues: [None, None],
-        clients: [None, None],
+        first_venue: None,
+        first_client: None,
+        second_venue: None,
+        second_client: None,
         journal: None,
     },
     Case {
@@ -167,8 +173,10 @@ static EARLY: [Case; 4] = [
         ended: 0,
         status: 5,
         told: b"read fault\n",
-        venues: [Some(&[]), None],
-        clients: [Some(&[]), None],
+        first_venue: Some(&[]),
+        first_client: Some(&[]),
+        second_venue: None,
+        second_client: None,
         journal: None,
     },
     Case {
@@ -178,8 +186,10 @@ static EARLY: [Case; 4] = [
         ended: 0,
         status: 6,
         told: b"write fault\n",
-        venues: [Some(&[]), Some(&[])],
-        clients: [Some(&[]), None],
+        first_venue: Some(&[]),
+        first_client: Some(&[]),
+        second_venue: Some(&[]),
+        second_client: None,
         journal: None,
     },
 ];
@@ -199,8 +209,10 @@ static AFTER: [Case; 5] = [
             tree 2 symbol XYZ posts 3 root 30 limit 100000\n\
             tree 3 halt - posts 0 root 0 limit 0\n\
             status 5\n",
-        venues: [Some(&[]), Some(SECOND_SENT)],
-        clients: [Some(&[]), Some(&[])],
+        first_venue: Some(&[]),
+        first_client: Some(&[]),
+        second_venue: Some(SECOND_SENT),
+        second_client: Some(&[]),
         journal: Some(
             b"kind,session,a,b,c,d\n\
                 ended,0,4,,,\n\
@@ -232,8 +244,10 @@ static AFTER: [Case; 5] = [
             tree 2 symbol XYZ posts 6 root 60 limit 100000\n\
             tree 3 halt - posts 0 root 0 limit 0\n\
             status 6\n",
-        venues: [Some(FIRST_SENT), Some(TWO_SENT)],
-        clients: [Some(FIRST_REFUSED), Some(&[])],
+        first_venue: Some(FIRST_SENT),
+        first_client: Some(FIRST_REFUSED),
+        second_venue: Some(TWO_SENT),
+        second_client: Some(&[]),
         journal: Some(
             b"kind,session,a,b,c,d\n\
                 post,0,0,1,10,\npost,0,1,1,10,\npost,0,2,1,10,\n\
@@ -278,8 +292,10 @@ static AFTER: [Case; 5] = [
             tree 2 symbol XYZ posts 1 root 10 limit 100000\n\
             tree 3 halt - posts 0 root 0 limit 0\n\
             status 6\n",
-        venues: [Some(&[]), Some(&[])],
-        clients: [Some(&[]), Some(&[])],
+        first_venue: Some(&[]),
+        first_client: Some(&[]),
+        second_venue: Some(&[]),
+        second_client: Some(&[]),
         journal: Some(
             b"kind,session,a,b,c,d\n\
                 ended,0,4,,,\n\
@@ -305,8 +321,10 @@ static AFTER: [Case; 5] = [
             tree 2 symbol XYZ posts 6 root 60 limit 100000\n\
             tree 3 halt - posts 0 root 0 limit 0\n\
             status 6\n",
-        venues: [Some(FIRST_SENT), Some(SECOND_SENT)],
-        clients: [Some(FIRST_REFUSED), Some(&[])],
+        first_venue: Some(FIRST_SENT),
+        first_client: Some(FIRST_REFUSED),
+        second_venue: Some(SECOND_SENT),
+        second_client: Some(&[]),
         journal: None,
     },
     Case {
@@ -316,8 +334,10 @@ static AFTER: [Case; 5] = [
         ended: 0,
         status: 6,
         told: b"session ",
-        venues: [Some(FIRST_SENT), Some(SECOND_SENT)],
-        clients: [Some(FIRST_REFUSED), Some(&[])],
+        first_venue: Some(FIRST_SENT),
+        first_client: Some(FIRST_REFUSED),
+        second_venue: Some(SECOND_SENT),
+        second_client: Some(&[]),
         journal: Some(
             b"kind,session,a,b,c,d\n\
                 post,0,0,1,10,\npost,0,1,1,10,\npost,0,2,1,10,\n\
@@ -387,10 +407,10 @@ fn compare_left(
     folder: &MemFolder,
 ) -> Result<(), Fail> {
     let of = case.name;
-    compare_stream(rt, alloc, of, folder, "out/s00.venue", case.venues[0])?;
-    compare_stream(rt, alloc, of, folder, "out/s00.client", case.clients[0])?;
-    compare_stream(rt, alloc, of, folder, "out/s01.venue", case.venues[1])?;
-    compare_stream(rt, alloc, of, folder, "out/s01.client", case.clients[1])?;
+    compare_stream(rt, alloc, of, folder, "out/s00.venue", case.first_venue)?;
+    compare_stream(rt, alloc, of, folder, "out/s00.client", case.first_client)?;
+    compare_stream(rt, alloc, of, folder, "out/s01.venue", case.second_venue)?;
+    compare_stream(rt, alloc, of, folder, "out/s01.client", case.second_client)?;
     compare_text(rt, of, folder, "out/journal.csv", case.journal)?;
     compare_text(rt, of, folder, "limits", Some(LARGE))?;
     compare_stream(rt, alloc, of, folder, "session0", Some(FIRST_ORDERS))?;
