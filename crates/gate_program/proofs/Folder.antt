@@ -9,11 +9,11 @@ use Rattle.std.specs.Str.{bytes_eq}
 use Rattle.gate_ports.specs.Names.{Texts, IsThere, IsOpened, IsEmptySink}
 use Rattle.gate_program.specs.declared.status.Status.{Status}
 use Rattle.gate_program.specs.declared.status.Status.TheVariants as status
-use Rattle.gate_program.specs.Words.{RunWords, venue_name, client_name}
+use Rattle.gate_program.specs.Words.{RunWords, IsApart, venue_name, client_name}
 use Rattle.gate_program.specs.Run.{PortsValue, session_name}
 use Rattle.gate_program.specs.Stages.{Went, IsOwn, AreClosed, IsUnopened, IsNewSource, IsNewSink}
 use Rattle.gate_program.specs.Stages.{with_two}
-use Rattle.gate_program.specs.Objects.{ObjectsValue, AreOwn, EachOwn, AreNew, IsApart}
+use Rattle.gate_program.specs.Objects.{ObjectsValue, AreOwn, EachOwn, AreNew}
 use Rattle.gate_program.specs.Objects.{ChangesOutputs}
 use Rattle.gate_program.specs.Objects.{HasOpened, HoldsOutputs, EachHolds, HasCauses, HasClosed}
 use Rattle.gate_program.proofs.Lists.{pushed_at}

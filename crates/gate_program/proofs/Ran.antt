@@ -1,18 +1,18 @@
 -- Sessions that were opened, ran and were closed: what a run of them did.
-use Rattle.std.proofs.Common.{◌≡◌, ◌≢◌, ℕ, List, [], ◌∷◌, ◌++◌, length, map, refl, sym, ap, subst}
+use Rattle.std.proofs.Common.{◌≡◌, ◌≢◌, ℕ, List, [], ◌∷◌, length, map, refl, sym, ap, subst}
 use Rattle.std.proofs.Common.{◌∙◌}
 use Rattle.std.proofs.Common.{inl, inr, Bool, true, false, arith, suc, ◌≤◌}
 use Rattle.std.proofs.lemmas.List.{length-map}
 use Rattle.std.proofs.lemmas.Option.{get_or_from_slice_get, slice_get_within}
 use Rattle.std.specs.Prelude.{Option, Some, None, IfSome, IsSome, slice_get, ◌⊎◌}
 use Rattle.std.specs.List.{list_any}
-use Rattle.std.specs.Io.KnownBytes.{Appends}
 use Rattle.gate_ports.specs.Faults.{Rose}
 use Rattle.gate_ports.specs.Names.{Texts}
 use Rattle.risk_board.specs.declared.hand.Line.{Line}
 use Rattle.risk_journal.specs.declared.acts.Act.{Act}
 use Rattle.risk_journal.specs.declared.acts.End.{End}
 use Rattle.risk_journal.specs.declared.acts.End.TheVariants as ending
+use Rattle.risk_journal.specs.JournalText.{journal_text}
 use Rattle.limit_table.specs.declared.limits.Limits.{Limits}
 use Rattle.screen_kit.specs.Screens.{ScreenValue}
 use Rattle.session_engine.specs.Follows.{IsByInput, FollowsSource, FollowsInput, EndsAs, EndsWith}
@@ -28,6 +28,7 @@ use Rattle.gate_program.specs.Objects.{ObjectsValue, AreNew, ChangesOutputs, Has
 use Rattle.gate_program.specs.Objects.{HoldsOutputs}
 use Rattle.gate_program.specs.Finish.{HasEnded}
 use Rattle.gate_program.proofs.Chains.{rose_from, rose_is_some}
+use Rattle.gate_program.proofs.Early.{holds_appended, front_behind}
 use Rattle.gate_program.proofs.Histories.{is_history, AdmissionLaws}
 use Rattle.gate_program.proofs.Lists.{mapped_at, there_is}
 use Rattle.gate_program.proofs.Outputs.{apart_from_all}
@@ -84,15 +85,6 @@ end_holds limits screens before after run n bytes acts (ending.Broken place) rea
     follows tt
 end_holds limits screens before after run n bytes acts (ending.TooLong place) read write ends
     follows = follows tt
-
--- the sink was empty and got these bytes: it holds them
-holds_appended : (held held_after : Option (List ℕ)) (text own : List ℕ) → held ≡ Some []
-    → Appends held held_after text
-    → IfSome held_after (λ bytes. bytes ≡ own) → own ≡ text
-holds_appended None held_after text own empty appends is = absurd cc
-holds_appended (Some before) None text own empty appends is = absurd appends
-holds_appended (Some before) (Some after) text own empty appends is =
-    let nothing : before ≡ [] = cc in sym is ∙ appends ∙ ap (λ s. s ++ text) nothing
 
 none_is_there : (text : Option (List ℕ)) → None ≡ text → IsSome text → ⊥
 none_is_there None is there = cc
@@ -204,12 +196,16 @@ goes_on run count (Some old) t1 t2 (mid, there, same) later some =
 -- the journal's own write count rose from the start
 pub journal_from : (run : RunWords) (t0 t1 t2 : Option Texts) (r0 w0 r1 w1 r2 w2 : List ℕ → ℕ)
     (text : List ℕ) (acts : List (List Act)) (lines : List (List Line)) (refused : Bool)
-    → ((name : List ℕ) → w0 name ≤ w1 name)
+    (count : ℕ) → ((name : List ℕ) → w0 name ≤ w1 name) → ChangesOutputs run.out count t0 t1
     → HasJournal (silent t1 r1 w1) (silent t2 r2 w2) run acts lines refused
     → HasJournal (shown t0 r0 w0 []) (shown t2 r2 w2 text) run acts lines refused
-journal_from run t0 t1 t2 r0 w0 r1 w1 r2 w2 text acts lines false later journal = journal
-journal_from run t0 t1 t2 r0 w0 r1 w1 r2 w2 text acts lines true later journal =
-    rose_from _ _ _ (later (journal_name run.out)) journal
+journal_from run t0 t1 t2 r0 w0 r1 w1 r2 w2 text acts lines false count later changes journal =
+    journal
+journal_from run t0 t1 t2 r0 w0 r1 w1 r2 w2 text acts lines true count later changes
+    (rose, front) = (
+      rose_from _ _ _ (later (journal_name run.out)) rose,
+      front_behind run.out count t0 t1 t2 (journal_text acts lines) changes front,
+    )
 
 either_rose : (v0 v1 c0 c1 : ℕ) (V C : Type 0) → v0 ≡ 0 → c0 ≡ 0 → Rose v0 v1 ⊎ Rose c0 c1
     → (v1 ≢ 0 → V) → (c1 ≢ 0 → C) → V ⊎ C
@@ -282,7 +278,8 @@ module _ (run : RunWords) (limits : Limits) (sets : List (List ScreenValue)) (t0
         (ended.done.each session own.0 now.0 did end own.1 now.1 is_did is_end));
     history = is_history limits ended.acts ended.lines ended.legal laws;
     journal = journal_from run t0 t1 t2 r0 w0 r1 w1 r2 w2 text ended.acts ended.lines
-        ended.finished.refused opened.went.written ended.finished.journal;
+        ended.finished.refused (length objects) opened.went.written opened.texts
+        ended.finished.journal;
     others = keeps_others run (length objects) t0 t1 t2 many opened.texts
         ended.finished.written.others;
     tells = goes_on run (length objects) t0 t1 t2 opened.texts ended.finished.written.goes_on;
