@@ -67,6 +67,22 @@ class Documents(unittest.TestCase):
                 with self.subTest(crate, edit=edit):
                     self.assertIn(f"`{edit.removesuffix('.edit')}`", named)
 
+    def test_each_row_of_a_table_of_claims_names_an_edit(self):
+        for crate in uses():
+            for row in claims(text(f"crates/{crate}/README.md")).splitlines():
+                with self.subTest(crate, row=row):
+                    self.assertTrue(re.search(r"\|[^|]*`[a-z0-9_]+`[^|]*\|$", row))
+
+    def test_each_claim_with_no_bug_kept_for_it_names_what_says_it(self):
+        for crate, below in uses().items():
+            here = "".join(map(sources, [crate, *below]))
+            for claim in unbroken(text(f"crates/{crate}/README.md")):
+                with self.subTest(crate, claim=claim):
+                    self.assertTrue(names_in(claim))
+                for name in names_in(claim):
+                    with self.subTest(crate, name=name):
+                        self.assertTrue(re.search(rf"\b{name}\b", here))
+
     def test_each_name_in_a_table_of_claims_is_in_the_sources(self):
         for crate, below in uses().items():
             here = "".join(map(sources, [crate, *below]))
@@ -76,6 +92,11 @@ class Documents(unittest.TestCase):
                 for name in names_in(row):
                     with self.subTest(crate, name=name):
                         self.assertTrue(re.search(rf"\b{name}\b", here))
+
+    def test_each_crate_stands_in_the_index_of_claims(self):
+        for crate in uses():
+            with self.subTest(crate):
+                self.assertIn(f"| [{crate}](../crates/{crate}/README.md) |", text("docs/CLAIMS.md"))
 
     def test_each_name_in_the_clause_of_gate_is_in_the_sources(self):
         here = "".join(map(sources, ["gate_program", *uses()["gate_program"]]))
@@ -150,6 +171,18 @@ def claims(readme):
     """The tables of claims of a README, those with a column of edits."""
     table = r"^\| Claim [^\n]*Edits that break it \|\n\|[-|]+\|\n((?:\|.*\n)+)"
     return "".join(re.findall(table, readme, re.M))
+
+
+def unbroken(readme):
+    """The claims of a README for which no bug is kept: the items of the list below the table, or the
+    sentence that stands in its place."""
+    found = re.search(
+        r"^Proved as well, with no bug kept for it((?:.+\n)+)(?:\n((?:- (?:.+\n)+)+))?", readme, re.M
+    )
+    if not found:
+        return []
+    sentence, items = found.groups()
+    return re.split(r"^- ", items, flags=re.M)[1:] if items else [sentence]
 
 
 if __name__ == "__main__":

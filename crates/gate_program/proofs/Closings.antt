@@ -8,12 +8,13 @@ use Rattle.std.specs.Prelude.{Option, Some, slice_get}
 use Rattle.std.specs.Option.{option_map}
 use Rattle.gate_ports.specs.Names.{Texts}
 use Rattle.gate_program.specs.declared.status.Status.{Status}
-use Rattle.gate_program.specs.Words.{RunWords, venue_name, client_name}
+use Rattle.gate_program.specs.Words.{RunWords, IsApart, venue_name, client_name}
+use Rattle.gate_program.specs.Early.{LeavesEmpty}
 use Rattle.gate_program.specs.Run.{PortsValue, ReadRose, WriteRose, session_name}
 use Rattle.gate_program.specs.Stages.{Went, IsOwn, AreClosed, IsUnopened, IsNewSource, IsNewSink}
 use Rattle.gate_program.specs.Stages.{with_two}
 use Rattle.gate_program.specs.Stages.{HasUnopened}
-use Rattle.gate_program.specs.Objects.{ObjectsValue, HasOpened, HasClosed, IsApart}
+use Rattle.gate_program.specs.Objects.{ObjectsValue, HasOpened, HasClosed}
 use Rattle.gate_program.proofs.Lists.{take_one, map_at}
 use Rattle.gate_program.proofs.Folder.{ClosesOne, OpensOne, one_closed, one_opened, unopened_among}
 
@@ -116,10 +117,10 @@ pub unopened_named : (run : RunWords) (before now after last : PortsValue) (sess
     (name venue client : List ℕ) → session < length run.sessions → name ≡ session_name run session
     → venue ≡ venue_name run.out session → client ≡ client_name run.out session
     → Went before now → Went after last → IsUnopened now after name venue client s
-    → HasUnopened run before last s
+    → LeavesEmpty run session before.texts last.texts → HasUnopened run before last s
 unopened_named run before now after last session s name venue client below name_is venue_is
     client_is
-    earlier later unopened = (
+    earlier later unopened left = (
       session,
       below,
       unopened_among before now after last _ _ _ s earlier later
@@ -128,4 +129,5 @@ unopened_named run before now after last session s name venue client below name_
           (subst (λ (v : List ℕ). IsUnopened now after name v (client_name run.out session) s)
           venue_is
           (subst (λ (c : List ℕ). IsUnopened now after name venue c s) client_is unopened))),
+      left,
     )

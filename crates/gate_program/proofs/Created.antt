@@ -11,7 +11,7 @@ use Rattle.gate_ports.specs.Names.{Texts, IsThere, MeansName}
 use Rattle.gate_program.specs.declared.names.Outputs.{Outputs}
 use Rattle.gate_program.specs.declared.status.Status.{Status}
 use Rattle.gate_program.specs.declared.status.Status.TheVariants as status
-use Rattle.gate_program.specs.Names.{AreNames}
+use Rattle.gate_program.specs.Early.{LeavesEmpty}
 use Rattle.gate_program.specs.Words.{RunWords, venue_name, client_name}
 use Rattle.gate_program.specs.Run.{PortsValue, session_name}
 use Rattle.gate_program.specs.Stages.{Went, IsNewSink, IsUnmade, HasUnmade, with_two}
@@ -149,14 +149,16 @@ unmade_among before now after last venue client status.NotBuilt earlier later ro
 pub unmade_named : (run : RunWords) (before now after last : PortsValue) (session : ℕ) (s : Status)
     (venue client : List ℕ) → session < length run.sessions → venue ≡ venue_name run.out session
     → client ≡ client_name run.out session → Went before now → Went after last
-    → IsUnmade now after venue client s → HasUnmade run before last s
+    → IsUnmade now after venue client s → LeavesEmpty run session before.texts last.texts
+    → HasUnmade run before last s
 unmade_named run before now after last session s venue client below venue_is client_is earlier later
-    unmade = (
+    unmade left = (
       session,
       below,
       subst (λ (v : List ℕ). IsUnmade before last v (client_name run.out session) s) venue_is
           (subst (λ (c : List ℕ). IsUnmade before last venue c s) client_is
           (unmade_among before now after last venue client s earlier later unmade)),
+      left,
     )
 
 -- a session's name is that of its output to the venue

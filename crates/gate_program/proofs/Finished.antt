@@ -12,6 +12,7 @@ use Rattle.risk_journal.specs.JournalText.{journal_text}
 use Rattle.gate_program.specs.Words.{RunWords, venue_name, client_name, journal_name, is_among}
 use Rattle.gate_program.specs.Words.{output_names}
 use Rattle.gate_program.specs.Run.{PortsValue, Holds, WriteRose}
+use Rattle.gate_program.specs.Early.{KeepsOrFronts}
 use Rattle.gate_program.specs.Gate.{HasJournal}
 use Rattle.gate_program.specs.Stages.{Went, ChangesOnly}
 use Rattle.gate_program.specs.Objects.{ObjectsValue, EachHolds, ChangesOutputs, HasClosed}
@@ -22,6 +23,7 @@ use Rattle.gate_program.specs.Histories.{AreLegalLines}
 use Rattle.gate_program.specs.Telling.{Teller}
 use Rattle.risk_journal.specs.ActLists.{unplaced}
 use Rattle.gate_program.proofs.Chains.{rose_from}
+use Rattle.gate_program.proofs.Early.{front_behind}
 use Rattle.gate_program.proofs.Outputs.{apart_from_all, venue_isnt_journal, client_isnt_journal}
 use Rattle.gate_program.proofs.Folder.{causes_later}
 
@@ -37,13 +39,19 @@ stood tell name before after acts ends lines text n refused (inr answer) kept ot
     inr (record { refused = refused; answer = answer; kept = kept; others = others })
 
 journal_of : (run : RunWords) (before closed after : PortsValue) (acts : List (List Act))
-    (lines : List (List Line)) (name : List ℕ) (refused : Bool) → name ≡ journal_name run.out
-    → Went before closed → IsKept closed after name (journal_text acts lines) refused
+    (lines : List (List Line)) (name : List ℕ) (refused : Bool) (count : ℕ)
+    → name ≡ journal_name run.out → Went before closed
+    → ChangesOutputs run.out count before.texts closed.texts
+    → IsKept closed after name (journal_text acts lines) refused
     → HasJournal before after run acts lines refused
-journal_of run before closed after acts lines name false is went kept =
+journal_of run before closed after acts lines name false count is went changes kept =
     subst (λ (n : List ℕ). Holds after.texts n (journal_text acts lines)) is kept
-journal_of run before closed after acts lines name true is went kept =
-    subst (λ (n : List ℕ). WriteRose before after n) is (rose_from _ _ _ (went.written name) kept)
+journal_of run before closed after acts lines name true count is went changes (rose, front) = (
+  subst (λ (n : List ℕ). WriteRose before after n) is (rose_from _ _ _ (went.written name) rose),
+  front_behind run.out count before.texts closed.texts after.texts (journal_text acts lines)
+      changes (subst (λ (n : List ℕ). KeepsOrFronts closed.texts after.texts n
+      (journal_text acts lines)) is front),
+)
 
 holds_behind : (run : RunWords) (mid new : Texts) (session : ℕ) (own : ObjectsValue)
     → new (venue_name run.out session) ≡ mid (venue_name run.out session)
@@ -100,8 +108,8 @@ finished tell run before closed after acts lines ends objects name text n said s
 finished tell run before closed after acts lines ends objects name text n said same is many closes
     went (inr stands) = inr (record {
       refused = stands.refused;
-      journal = journal_of run before closed after acts lines name stands.refused is closes.went
-          stands.kept;
+      journal = journal_of run before closed after acts lines name stands.refused (length objects)
+          is closes.went closes.texts stands.kept;
       written = are_written run objects before.texts closed.texts after.texts many closes.texts
           closes.holds
           (subst (λ (m : List ℕ). ChangesOnly closed.texts after.texts m) is stands.others);

@@ -9,12 +9,13 @@ use Rattle.std.specs.Str.{bytes_eq}
 use Rattle.gate_ports.specs.Names.{Texts, IsThere, IsOpened, IsEmptySink}
 use Rattle.gate_program.specs.declared.status.Status.{Status}
 use Rattle.gate_program.specs.declared.status.Status.TheVariants as status
-use Rattle.gate_program.specs.Words.{RunWords, venue_name, client_name}
+use Rattle.gate_program.specs.Words.{RunWords, IsApart, venue_name, client_name}
 use Rattle.gate_program.specs.Run.{PortsValue, session_name}
 use Rattle.gate_program.specs.Stages.{Went, IsOwn, AreClosed, IsUnopened, IsNewSource, IsNewSink}
 use Rattle.gate_program.specs.Stages.{with_two}
-use Rattle.gate_program.specs.Objects.{ObjectsValue, AreOwn, EachOwn, AreNew, IsApart}
+use Rattle.gate_program.specs.Objects.{ObjectsValue, AreOwn, EachOwn, AreNew}
 use Rattle.gate_program.specs.Objects.{ChangesOutputs}
+use Rattle.gate_program.specs.Objects.{HasCreated}
 use Rattle.gate_program.specs.Objects.{HasOpened, HoldsOutputs, EachHolds, HasCauses, HasClosed}
 use Rattle.gate_program.proofs.Lists.{pushed_at}
 use Rattle.gate_program.proofs.Outputs.{same_name, venues_apart, clients_apart, venue_isnt_client}
@@ -394,3 +395,13 @@ unopened_among before now after last session venue client (status.Limits why) ea
     rose
 unopened_among before now after last session venue client status.CutShort earlier later rose = rose
 unopened_among before now after last session venue client status.NotBuilt earlier later rose = rose
+
+-- objects that were opened are fresh
+pub created : (run : RunWords) (before after : PortsValue) (objects : List ObjectsValue)
+    → HasOpened run before after objects → HasCreated run before after objects
+created run before after objects opened = record {
+  went = opened.went;
+  texts = opened.texts;
+  each = λ session own is. (opened.each session own is).fresh;
+  own = opened.own;
+}

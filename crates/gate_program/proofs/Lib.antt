@@ -7,6 +7,7 @@ pub mod Outputs
 pub mod WordTests
 pub mod TotalLists
 pub mod Folder
+pub mod Early
 pub mod Closings
 pub mod Owned
 pub mod NewTasks

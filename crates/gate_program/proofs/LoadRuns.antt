@@ -31,6 +31,7 @@ use Rattle.gate_program.specs.Run.{PortsValue, set_of}
 use Rattle.gate_program.specs.Stages.{GivesNoLimits, HasUnmade}
 use Rattle.gate_program.specs.Statuses.{number_of, told_text}
 use Rattle.gate_program.specs.Words.{RunWords, session_most, venue_name}
+use Rattle.gate_program.proofs.Early.{others_left}
 use Rattle.gate_program.proofs.Lists.{map_at, mapped_at}
 use Rattle.gate_program.proofs.Histories.{AdmissionLaws}
 use Rattle.gate_program.proofs.Made.{FilesLaw, load_went}
@@ -138,19 +139,21 @@ unmade : (asked : Asked) (t0 : Option Texts) (r0 w0 : List ℕ → ℕ) (t1 : Op
     → HasUnmade (load_run asked) (silent t0 r0 w0) (silent t1 r1 w1) s
     → (number_of s ≡ 8)
     ⊎ LoadWent asked (shown t0 r0 w0 []) (shown t1 r1 w1 (told_text s)) (number_of s)
-unmade asked t0 r0 w0 t1 r1 w1 status.WriteFault (session, below, rose) = inr (inl (record {
+unmade asked t0 r0 w0 t1 r1 w1 status.WriteFault (session, below, rose, left) = inr (inl (record {
   session = session;
   in_range = subst (λ (n : ℕ). session < n) (load_many asked) below;
   rose = rose;
+  left = left;
+  others = others_left (load_run asked) session t0 t1 below left;
   told = inl (refl, refl);
 }))
 unmade asked t0 r0 w0 t1 r1 w1 status.Memory fault = inl refl
-unmade asked t0 r0 w0 t1 r1 w1 status.Done (session, below, fault) = absurd fault
-unmade asked t0 r0 w0 t1 r1 w1 status.Usage (session, below, fault) = absurd fault
-unmade asked t0 r0 w0 t1 r1 w1 (status.Limits why) (session, below, fault) = absurd fault
-unmade asked t0 r0 w0 t1 r1 w1 status.CutShort (session, below, fault) = absurd fault
-unmade asked t0 r0 w0 t1 r1 w1 status.ReadFault (session, below, fault) = absurd fault
-unmade asked t0 r0 w0 t1 r1 w1 status.NotBuilt (session, below, fault) = absurd fault
+unmade asked t0 r0 w0 t1 r1 w1 status.Done (session, below, fault, left) = absurd fault
+unmade asked t0 r0 w0 t1 r1 w1 status.Usage (session, below, fault, left) = absurd fault
+unmade asked t0 r0 w0 t1 r1 w1 (status.Limits why) (session, below, fault, left) = absurd fault
+unmade asked t0 r0 w0 t1 r1 w1 status.CutShort (session, below, fault, left) = absurd fault
+unmade asked t0 r0 w0 t1 r1 w1 status.ReadFault (session, below, fault, left) = absurd fault
+unmade asked t0 r0 w0 t1 r1 w1 status.NotBuilt (session, below, fault, left) = absurd fault
 
 -- no file of a load has more bytes than this
 pub files_small : FilesLaw → (asked : Asked) → IsAsked asked → (files : List (Vec ℕ Global))

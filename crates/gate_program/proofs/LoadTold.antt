@@ -21,6 +21,8 @@ module _ (asked : Asked) (t0 : Option Texts) (r0 w0 : List ℕ → ℕ) (t1 : Op
     session = h.session;
     in_range = h.in_range;
     rose = h.rose;
+    left = h.left;
+    others = h.others;
     told = told_so (load_run asked) [] t0 r0 w0 t1 r1 w1 text n held held_after faults faults_after
         answer told _ _ h.told;
   })

@@ -214,7 +214,8 @@ module _ {S : Type 0} (faults : S → ℕ) (none : (s : S) → faults s ≡ 0) (
     each = each_holds;
     history = is_history limits ended.acts ended.lines ended.legal laws;
     journal = journal_from (load_run asked) t0 t1 t2 r0 w0 r1 w1 r2 w2 text ended.acts ended.lines
-        ended.finished.refused created.went.written ended.finished.journal;
+        ended.finished.refused (length objects) created.went.written created.texts
+        ended.finished.journal;
     others = keeps_others (load_run asked) (length objects) t0 t1 t2 (many ∙ sym count)
         created.texts ended.finished.written.others;
     tells = goes_on (load_run asked) (length objects) t0 t1 t2 created.texts

@@ -9,9 +9,8 @@ use Rattle.std.proofs.lemmas.List.{map-append}
 use Rattle.std.specs.Str.{bytes_eq}
 use Rattle.std.specs.List.{flat_map, range_with_len}
 use Rattle.gate_program.specs.Words.{venue_name, client_name, journal_name, session_outputs}
-use Rattle.gate_program.specs.Words.{is_among, output_names}
+use Rattle.gate_program.specs.Words.{IsApart, is_among, output_names}
 use Rattle.gate_program.specs.CommandOf.{files_of, file_names}
-use Rattle.gate_program.specs.Objects.{IsApart}
 use Rattle.std.proofs.lemmas.Bool.{eqb-true, or_parts}
 
 is_itself : (x : ℕ) → (x == x) ≡ true

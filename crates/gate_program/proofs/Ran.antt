@@ -1,18 +1,18 @@
 -- Sessions that were opened, ran and were closed: what a run of them did.
-use Rattle.std.proofs.Common.{◌≡◌, ◌≢◌, ℕ, List, [], ◌∷◌, ◌++◌, length, map, refl, sym, ap, subst}
+use Rattle.std.proofs.Common.{◌≡◌, ◌≢◌, ℕ, List, [], ◌∷◌, length, map, refl, sym, ap, subst}
 use Rattle.std.proofs.Common.{◌∙◌}
 use Rattle.std.proofs.Common.{inl, inr, Bool, true, false, arith, suc, ◌≤◌}
 use Rattle.std.proofs.lemmas.List.{length-map}
 use Rattle.std.proofs.lemmas.Option.{get_or_from_slice_get, slice_get_within}
 use Rattle.std.specs.Prelude.{Option, Some, None, IfSome, IsSome, slice_get, ◌⊎◌}
 use Rattle.std.specs.List.{list_any}
-use Rattle.std.specs.Io.KnownBytes.{Appends}
 use Rattle.gate_ports.specs.Faults.{Rose}
 use Rattle.gate_ports.specs.Names.{Texts}
 use Rattle.risk_board.specs.declared.hand.Line.{Line}
 use Rattle.risk_journal.specs.declared.acts.Act.{Act}
 use Rattle.risk_journal.specs.declared.acts.End.{End}
 use Rattle.risk_journal.specs.declared.acts.End.TheVariants as ending
+use Rattle.risk_journal.specs.JournalText.{journal_text}
 use Rattle.limit_table.specs.declared.limits.Limits.{Limits}
 use Rattle.screen_kit.specs.Screens.{ScreenValue}
 use Rattle.session_engine.specs.Follows.{IsByInput, FollowsSource, FollowsInput, EndsAs, EndsWith}
@@ -29,7 +29,9 @@ use Rattle.gate_program.specs.Objects.{HasOpened, HasCreated}
 use Rattle.gate_program.specs.Telling.{Teller}
 use Rattle.gate_program.specs.Objects.{HoldsOutputs}
 use Rattle.gate_program.specs.Finish.{HasEnded}
+use Rattle.gate_program.proofs.Folder.{created}
 use Rattle.gate_program.proofs.Chains.{rose_from, rose_is_some}
+use Rattle.gate_program.proofs.Early.{holds_appended, front_behind}
 use Rattle.gate_program.proofs.Histories.{is_history, AdmissionLaws}
 use Rattle.gate_program.proofs.Lists.{mapped_at, there_is}
 use Rattle.gate_program.proofs.Outputs.{apart_from_all}
@@ -86,15 +88,6 @@ end_holds limits screens before after run n bytes acts (ending.Broken place) rea
     follows tt
 end_holds limits screens before after run n bytes acts (ending.TooLong place) read write ends
     follows = follows tt
-
--- the sink was empty and got these bytes: it holds them
-holds_appended : (held held_after : Option (List ℕ)) (text own : List ℕ) → held ≡ Some []
-    → Appends held held_after text
-    → IfSome held_after (λ bytes. bytes ≡ own) → own ≡ text
-holds_appended None held_after text own empty appends is = absurd cc
-holds_appended (Some before) None text own empty appends is = absurd appends
-holds_appended (Some before) (Some after) text own empty appends is =
-    let nothing : before ≡ [] = cc in sym is ∙ appends ∙ ap (λ s. s ++ text) nothing
 
 none_is_there : (text : Option (List ℕ)) → None ≡ text → IsSome text → ⊥
 none_is_there None is there = cc
@@ -205,12 +198,16 @@ goes_on run count (Some old) t1 t2 (mid, there, same) later some =
 -- the journal's own write count rose from the start
 pub journal_from : (run : RunWords) (t0 t1 t2 : Option Texts) (r0 w0 r1 w1 r2 w2 : List ℕ → ℕ)
     (text : List ℕ) (acts : List (List Act)) (lines : List (List Line)) (refused : Bool)
-    → ((name : List ℕ) → w0 name ≤ w1 name)
+    (count : ℕ) → ((name : List ℕ) → w0 name ≤ w1 name) → ChangesOutputs run.out count t0 t1
     → HasJournal (silent t1 r1 w1) (silent t2 r2 w2) run acts lines refused
     → HasJournal (shown t0 r0 w0 []) (shown t2 r2 w2 text) run acts lines refused
-journal_from run t0 t1 t2 r0 w0 r1 w1 r2 w2 text acts lines false later journal = journal
-journal_from run t0 t1 t2 r0 w0 r1 w1 r2 w2 text acts lines true later journal =
-    rose_from _ _ _ (later (journal_name run.out)) journal
+journal_from run t0 t1 t2 r0 w0 r1 w1 r2 w2 text acts lines false count later changes journal =
+    journal
+journal_from run t0 t1 t2 r0 w0 r1 w1 r2 w2 text acts lines true count later changes
+    (rose, front) = (
+      rose_from _ _ _ (later (journal_name run.out)) rose,
+      front_behind run.out count t0 t1 t2 (journal_text acts lines) changes front,
+    )
 
 either_rose : (v0 v1 c0 c1 : ℕ) (V C : Type 0) → v0 ≡ 0 → c0 ≡ 0 → Rose v0 v1 ⊎ Rose c0 c1
     → (v1 ≢ 0 → V) → (c1 ≢ 0 → C) → V ⊎ C
@@ -222,7 +219,7 @@ module _ {S : Type 0} (faults : S → ℕ) (tell : Teller) (run : RunWords) (lim
     (r0 w0 : List ℕ → ℕ)
     (t1 : Option Texts) (r1 w1 : List ℕ → ℕ) (t2 : Option Texts) (r2 w2 : List ℕ → ℕ)
     (objects : List ObjectsValue) (text : List ℕ) (status : ℕ)
-    (created : HasCreated run (silent t0 r0 w0) (silent t1 r1 w1) objects)
+    (fresh : HasCreated run (silent t0 r0 w0) (silent t1 r1 w1) objects)
     (ended : HasEnded faults tell limits sets run (silent t1 r1 w1) (silent t2 r2 w2) objects text
     status) where
   -- what is known of a session by its end
@@ -232,20 +229,20 @@ module _ {S : Type 0} (faults : S → ℕ) (tell : Teller) (run : RunWords) (lim
       → EndHolds limits (armed_for limits (set_of sets session)) (shown t0 r0 w0 [])
       (shown t2 r2 w2 text) run session (told_bytes own.left) did end
   session_holds session own now did end is_own is_now done =
-      let new = created.each session own is_own in
+      let new = fresh.each session own is_own in
       let causes = ended.finished.causes session now is_now in
       end_holds limits (armed_for limits (set_of sets session)) (shown t0 r0 w0 [])
       (shown t2 r2 w2 text) run session (told_bytes own.left) did end
-      (λ is. rose_from _ _ _ (created.went.read (session_name run session))
+      (λ is. rose_from _ _ _ (fresh.went.read (session_name run session))
       (causes.input (rose_is_some _ _ new.input_fresh (done.read is))))
       (λ is. either_rose _ _ _ _ _ _ new.venue_fresh new.client_fresh (done.write is)
-      (λ some. rose_from _ _ _ (created.went.written (venue_name run.out session))
+      (λ some. rose_from _ _ _ (fresh.went.written (venue_name run.out session))
       (causes.venue some))
-      (λ some. rose_from _ _ _ (created.went.written (client_name run.out session))
+      (λ some. rose_from _ _ _ (fresh.went.written (client_name run.out session))
       (causes.client some)))
       done.ends
       (λ by_input. follows_text limits (armed_for limits (set_of sets session)) run session
-      (length objects) t0 t1 t2 own now did end created.texts
+      (length objects) t0 t1 t2 own now did end fresh.texts
       new ended.finished.written.tells (holds_one t1 t2 ended.finished.written.holds)
       (done.follows by_input)) where
         holds_one : (a b : Option Texts)
@@ -255,16 +252,6 @@ module _ {S : Type 0} (faults : S → ℕ) (tell : Teller) (run : RunWords) (lim
         holds_one None b holds = tt
         holds_one (Some x) None holds = tt
         holds_one (Some x) (Some y) holds = holds session now is_now
-
--- objects that were opened are fresh
-pub created : (run : RunWords) (before after : PortsValue) (objects : List ObjectsValue)
-    → HasOpened run before after objects → HasCreated run before after objects
-created run before after objects opened = record {
-  went = opened.went;
-  texts = opened.texts;
-  each = λ session own is. (opened.each session own is).fresh;
-  own = opened.own;
-}
 
 module _ {S : Type 0} (faults : S → ℕ) (run : RunWords) (limits : Limits)
     (sets : List (List ScreenValue)) (t0 : Option Texts)
@@ -304,7 +291,8 @@ module _ {S : Type 0} (faults : S → ℕ) (run : RunWords) (limits : Limits)
         (ended.done.each session own.0 now.0 did end own.1 now.1 is_did is_end));
     history = is_history limits ended.acts ended.lines ended.legal laws;
     journal = journal_from run t0 t1 t2 r0 w0 r1 w1 r2 w2 text ended.acts ended.lines
-        ended.finished.refused opened.went.written ended.finished.journal;
+        ended.finished.refused (length objects) opened.went.written opened.texts
+        ended.finished.journal;
     others = keeps_others run (length objects) t0 t1 t2 many opened.texts
         ended.finished.written.others;
     tells = goes_on run (length objects) t0 t1 t2 opened.texts ended.finished.written.goes_on;

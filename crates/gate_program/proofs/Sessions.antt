@@ -10,11 +10,11 @@ use Rattle.gate_program.specs.declared.names.Outputs.{Outputs}
 use Rattle.gate_program.specs.declared.words.Run.{Run}
 use Rattle.gate_program.specs.CommandOf.{run_value}
 use Rattle.gate_program.specs.Names.{AreNamesOf, AreNames}
-use Rattle.gate_program.specs.Words.{RunWords, is_run, is_among, output_names}
+use Rattle.gate_program.specs.Words.{RunWords, IsApart, is_run, is_among, output_names}
 use Rattle.gate_program.specs.Run.{PortsValue, session_name}
 use Rattle.gate_program.specs.Stages.{Went}
 use Rattle.gate_program.specs.declared.open.Opened.{Opened}
-use Rattle.gate_program.specs.Objects.{ObjectsValue, IsApart, AreOwn, EachOwn}
+use Rattle.gate_program.specs.Objects.{ObjectsValue, AreOwn, EachOwn}
 use Rattle.gate_program.proofs.Closings.{named}
 use Rattle.gate_program.proofs.Folder.{are_own_later}
 use Rattle.gate_program.proofs.Lists.{first_left, map_at}

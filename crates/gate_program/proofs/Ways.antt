@@ -25,6 +25,7 @@ use Rattle.gate_program.specs.Finish.{HasEnded}
 use Rattle.gate_program.specs.Statuses.{number_of, told_text}
 use Rattle.gate_program.specs.Totals.{totals_of}
 use Rattle.gate_program.proofs.Chains.{rose_from, zero_stands}
+use Rattle.gate_program.proofs.Early.{others_left}
 use Rattle.gate_program.proofs.Histories.{AdmissionLaws}
 use Rattle.gate_program.proofs.Ran.{silent, shown, has_run}
 
@@ -71,7 +72,8 @@ module _ (run : RunWords) (sets : List (List ScreenValue)) (t : Option Texts)
       → HasJournal (shown t r1 w1 []) (shown t2 r2 w2 text) run acts lines refused
       → HasJournal (shown t r0 w0 []) (shown t2 r2 w2 text) run acts lines refused
   journal_earlier acts lines false journal = journal
-  journal_earlier acts lines true journal = rose_from _ _ _ (writes (journal_name run.out)) journal
+  journal_earlier acts lines true (rose, front) =
+      (rose_from _ _ _ (writes (journal_name run.out)) rose, front)
 
   -- what was done after calls that changed no text was done from before them
   sessions_earlier : (n : ℕ) → SessionsWent run sets (shown t r1 w1 []) (shown t2 r2 w2 text) n
@@ -82,6 +84,8 @@ module _ (run : RunWords) (sets : List (List ScreenValue)) (t : Option Texts)
     session = h.session;
     in_range = h.in_range;
     rose = rose_from _ _ _ (reads _) h.rose;
+    left = h.left;
+    others = h.others;
     told = h.told;
   })
   sessions_earlier n (inr (inl h)) = inr (inl (record {
@@ -94,6 +98,8 @@ module _ (run : RunWords) (sets : List (List ScreenValue)) (t : Option Texts)
       | inr rose
           ↦ inr (rose_from _ _ _ (writes _) rose)
     ];
+    left = h.left;
+    others = h.others;
     told = h.told;
   }))
   sessions_earlier n (inr (inr h)) = inr (inr (record {
@@ -141,35 +147,41 @@ pub unopened : (run : RunWords) (limits : Limits) (sets : List (List ScreenValue
     → HasUnopened run (silent t0 r0 w0) (silent t1 r1 w1) s
     → (number_of s ≡ 8)
     ⊎ SessionsWent run sets (shown t0 r0 w0 []) (shown t1 r1 w1 (told_text s)) (number_of s)
-unopened run limits sets t0 r0 w0 t1 r1 w1 status.ReadFault limits_are (session, below, rose) =
+unopened run limits sets t0 r0 w0 t1 r1 w1 status.ReadFault limits_are
+    (session, below, rose, left) =
     inr (inl (record {
       limits = limits;
       limits_are = limits_are;
       session = session;
       in_range = below;
       rose = rose;
+      left = left;
+      others = others_left run session t0 t1 below left;
       told = inl (refl, refl);
     }))
-unopened run limits sets t0 r0 w0 t1 r1 w1 status.WriteFault limits_are (session, below, rose) =
+unopened run limits sets t0 r0 w0 t1 r1 w1 status.WriteFault limits_are
+    (session, below, rose, left) =
     inr (inr (inl (record {
       limits = limits;
       limits_are = limits_are;
       session = session;
       in_range = below;
       rose = rose;
+      left = left;
+      others = others_left run session t0 t1 below left;
       told = inl (refl, refl);
     })))
 unopened run limits sets t0 r0 w0 t1 r1 w1 status.Memory limits_are fault = inl refl
-unopened run limits sets t0 r0 w0 t1 r1 w1 status.Done limits_are (session, below, fault) = absurd
+unopened run limits sets t0 r0 w0 t1 r1 w1 status.Done limits_are (session, below, fault, left) = absurd
     fault
-unopened run limits sets t0 r0 w0 t1 r1 w1 status.Usage limits_are (session, below, fault) = absurd
+unopened run limits sets t0 r0 w0 t1 r1 w1 status.Usage limits_are (session, below, fault, left) = absurd
     fault
-unopened run limits sets t0 r0 w0 t1 r1 w1 (status.Limits why) limits_are (session, below, fault) =
+unopened run limits sets t0 r0 w0 t1 r1 w1 (status.Limits why) limits_are (session, below, fault, left) =
     absurd fault
-unopened run limits sets t0 r0 w0 t1 r1 w1 status.CutShort limits_are (session, below, fault) =
+unopened run limits sets t0 r0 w0 t1 r1 w1 status.CutShort limits_are (session, below, fault, left) =
     absurd
     fault
-unopened run limits sets t0 r0 w0 t1 r1 w1 status.NotBuilt limits_are (session, below, fault) =
+unopened run limits sets t0 r0 w0 t1 r1 w1 status.NotBuilt limits_are (session, below, fault, left) =
     absurd
     fault
 
@@ -257,6 +269,8 @@ module _ (run : RunWords) (sets : List (List ScreenValue)) (t0 : Option Texts)
     session = h.session;
     in_range = h.in_range;
     rose = h.rose;
+    left = h.left;
+    others = h.others;
     told = told_so _ _ h.told;
   })
   sessions_told (inr (inl h)) = inr (inl (record {
@@ -265,6 +279,8 @@ module _ (run : RunWords) (sets : List (List ScreenValue)) (t0 : Option Texts)
     session = h.session;
     in_range = h.in_range;
     rose = h.rose;
+    left = h.left;
+    others = h.others;
     told = told_so _ _ h.told;
   }))
   sessions_told (inr (inr h)) = inr (inr (record {

@@ -207,7 +207,7 @@ module _ (before after : PortsValue) (run : RunWords) (texts : Texts)
   is_kept : (acts : List (List Act)) (lines : List (List Line)) (refused : Bool)
       → HasJournal before after run acts lines refused → refused ≡ false
   is_kept acts lines false journal = refl
-  is_kept acts lines true journal = absurd (no_fault.written _ journal)
+  is_kept acts lines true (rose, front) = absurd (no_fault.written _ rose)
 
   -- what stands is told
   is_told : (text : List ℕ) (standing : ℕ) → Tells before after text standing status

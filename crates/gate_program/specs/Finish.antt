@@ -9,6 +9,7 @@ use Rattle.risk_journal.specs.JournalText.{journal_text}
 use Rattle.screen_kit.specs.Screens.{ScreenValue}
 use Rattle.gate_program.specs.Words.{RunWords}
 use Rattle.gate_program.specs.Run.{PortsValue, Holds, WriteRose, standing_of}
+use Rattle.gate_program.specs.Early.{KeepsOrFronts}
 use Rattle.gate_program.specs.Gate.{HasJournal}
 use Rattle.gate_program.specs.Telling.{Teller}
 use Rattle.gate_program.specs.Stages.{ChangesOnly}
@@ -22,10 +23,11 @@ pub record HasAnswer (tell : Teller) (acts : List (List Act)) (ends : List End)
   pub stands : status ≡ standing_of ends refused
   pub told : text ≡ tell acts ends lines status
 
--- the name has the text, or its write count rose
+-- the name has the text, or its write count rose, and it has its own text or a front of this one
 abbrev pub IsKept : PortsValue → PortsValue → List ℕ → List ℕ → Bool → Type 0
 IsKept before after name text false = Holds after.texts name text
-IsKept before after name text true = WriteRose before after name
+IsKept before after name text true =
+    WriteRose before after name × KeepsOrFronts before.texts after.texts name text
 
 -- The journal was written under its name or refused, and no other text changed.
 pub record HasStood (tell : Teller) (name : List ℕ) (before after : PortsValue)

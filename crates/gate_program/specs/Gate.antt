@@ -16,6 +16,7 @@ use Rattle.limit_table.specs.declared.limits.Limits.{Limits}
 use Rattle.risk_journal.specs.JournalText.{journal_text}
 use Rattle.gate_program.specs.Words.{RunWords, command_of, output_names, journal_name}
 use Rattle.gate_program.specs.Words.{is_among}
+use Rattle.gate_program.specs.Early.{KeepsOrFronts, LeavesEmpty}
 use Rattle.gate_program.specs.Totals.{totals_of}
 use Rattle.gate_program.specs.Limits.{AreLimits, AreUnserved, limits_fault_text}
 use Rattle.gate_program.specs.Run.{PortsValue, Holds, ReadRose, WriteRose, OutputRose, session_name}
@@ -99,7 +100,13 @@ pub record HasOtherLimits (run : RunWords) (before after : PortsValue) (status :
   pub texts : after.texts ≡ before.texts
   pub told : Tells before after not_built_text 9 status
 
--- A session's name could not be opened, behind limits that are served.
+-- names that are no outputs keep their texts
+abbrev pub KeepsOthers : PortsValue → PortsValue → RunWords → Type 0
+KeepsOthers before after run =
+    IfSome before.texts (λ old. IfSome after.texts (λ new. (name : List ℕ)
+    → is_among name (output_names run.out (length run.sessions)) ≡ false → new name ≡ old name))
+
+-- A session's name could not be opened, behind limits that are served. No session ran.
 pub record HasUnopenedSession (run : RunWords) (before after : PortsValue) (status : ℕ) : Type 0
   where
     pub limits : Limits
@@ -107,30 +114,30 @@ pub record HasUnopenedSession (run : RunWords) (before after : PortsValue) (stat
     pub session : ℕ
     pub in_range : session < length run.sessions
     pub rose : ReadRose before after (session_name run session)
+    pub left : LeavesEmpty run session before.texts after.texts
+    pub others : KeepsOthers before after run
     pub told : Tells before after read_fault_text 5 status
 
--- An output of a session could not be created, behind limits that are served.
+-- An output of a session could not be created, behind limits that are served. No session ran.
 pub record HasRefusedOutput (run : RunWords) (before after : PortsValue) (status : ℕ) : Type 0 where
   pub limits : Limits
   pub limits_are : HasLimits before.texts run.limits limits
   pub session : ℕ
   pub in_range : session < length run.sessions
   pub rose : OutputRose before after run session
+  pub left : LeavesEmpty run session before.texts after.texts
+  pub others : KeepsOthers before after run
   pub told : Tells before after write_fault_text 6 status
 
--- the journal stands whole, or its name's write count rose
+-- the journal stands whole, or its name's write count rose, and its text is as it was or a front
 abbrev pub HasJournal : PortsValue → PortsValue → RunWords → List (List Act) → List (List Line) →
     Bool
     → Type 0
 HasJournal before after run acts lines false =
     Holds after.texts (journal_name run.out) (journal_text acts lines)
-HasJournal before after run acts lines true = WriteRose before after (journal_name run.out)
-
--- names that are no outputs keep their texts
-abbrev pub KeepsOthers : PortsValue → PortsValue → RunWords → Type 0
-KeepsOthers before after run =
-    IfSome before.texts (λ old. IfSome after.texts (λ new. (name : List ℕ)
-    → is_among name (output_names run.out (length run.sessions)) ≡ false → new name ≡ old name))
+HasJournal before after run acts lines true =
+    WriteRose before after (journal_name run.out)
+    × KeepsOrFronts before.texts after.texts (journal_name run.out) (journal_text acts lines)
 
 -- the sessions' names have these texts, where the folder tells them
 abbrev pub AreInputs : Option Texts → List (List ℕ) → List (List ℕ) → Type 0

@@ -1,4 +1,5 @@
 pub mod Words
+pub mod Early
 pub mod Run
 pub mod Totals
 pub mod Telling

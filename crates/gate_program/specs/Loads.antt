@@ -11,6 +11,7 @@ use Rattle.risk_journal.specs.declared.acts.Act.{Act}
 use Rattle.risk_journal.specs.declared.acts.End.{End}
 use Rattle.session_engine.specs.Session.{armed_for}
 use Rattle.gate_program.specs.declared.told.Told.TheVariants as told
+use Rattle.gate_program.specs.Early.{LeavesEmpty}
 use Rattle.gate_program.specs.Gate.{HasJournal, KeepsOthers, Tells, write_fault_text}
 use Rattle.gate_program.specs.Limits.{AreLimits}
 use Rattle.gate_program.specs.Run.{PortsValue, EndHolds, IsHistory, OutputRose, is_cut_short}
@@ -49,12 +50,14 @@ counts_of asked = record {
   reads = 0;
 }
 
--- An output of a session could not be created.
+-- An output of a session could not be created. No session ran.
 pub record HasRefusedLoadOutput (asked : Asked) (before after : PortsValue) (status : ℕ) : Type 0
   where
     pub session : ℕ
     pub in_range : session < asked.sessions
     pub rose : OutputRose before after (load_run asked) session
+    pub left : LeavesEmpty (load_run asked) session before.texts after.texts
+    pub others : KeepsOthers before after (load_run asked)
     pub told : Tells before after write_fault_text 6 status
 
 -- The load's sessions were run, with no screens: each did what its end says, none failed to be read or

@@ -1,8 +1,7 @@
 -- The inputs and outputs of sessions: what is told of them, and what a run does with them.
-use Rattle.std.specs.Prelude.{◌≡◌, ◌≢◌, ℕ, ◌<◌, List, length, Option, Some, None, IfSome}
+use Rattle.std.specs.Prelude.{◌≡◌, ◌≢◌, ℕ, List, length, Option, Some, None, IfSome}
 use Rattle.std.specs.Prelude.{MatchOption, IsSome}
 use Rattle.std.specs.Prelude.{slice_get, ◌⊎◌, false}
-use Rattle.std.specs.Str.{bytes_eq}
 use Rattle.gate_ports.specs.Faults.{Rose}
 use Rattle.gate_ports.specs.Names.{Texts, IsOpened, IsEmptySink}
 use Rattle.limit_table.specs.declared.limits.Limits.{Limits}
@@ -14,6 +13,7 @@ use Rattle.session_engine.specs.Follows.{IsByInput, FollowsSource, EndsAs}
 use Rattle.session_engine.specs.Session.{armed_for}
 use Rattle.gate_program.specs.declared.open.Opened.{Opened}
 use Rattle.gate_program.specs.Words.{RunWords, venue_name, client_name, output_names, is_among}
+use Rattle.gate_program.specs.Words.{IsApart}
 use Rattle.gate_program.specs.Run.{PortsValue, ReadRose, WriteRose, session_name, set_of}
 use Rattle.gate_program.specs.Stages.{Went, IsOwn}
 
@@ -73,13 +73,6 @@ pub record AreNew (run : RunWords) (told : Option Texts) (session : ℕ) (own : 
     : Type 0 where
   pub opened : IsOpened told (session_name run session) own.left
   pub fresh : AreFresh told own
-
--- the name is none of the outputs of the first sessions
-abbrev pub IsApart : List ℕ → ℕ → List ℕ → Type 0
-IsApart out count name =
-    (session : ℕ) → session < count
-    → (bytes_eq name (venue_name out session) ≡ false) × (bytes_eq name (client_name out session) ≡
-    false)
 
 -- each name but the outputs of the first sessions has its text, where the folder tells it
 abbrev pub ChangesOutputs : List ℕ → ℕ → Option Texts → Option Texts → Type 0

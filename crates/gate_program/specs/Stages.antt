@@ -11,6 +11,7 @@ use Rattle.gate_program.specs.Run.{PortsValue, ReadRose, WriteRose, session_name
 use Rattle.limit_table.specs.Files.{IsFirstFault}
 use Rattle.limit_table.specs.declared.fault.LimitFault.{LimitFault}
 use Rattle.limit_table.specs.declared.fault.LimitFault.TheVariants as fault
+use Rattle.gate_program.specs.Early.{LeavesEmpty}
 use Rattle.gate_program.specs.Limits.{AreUnserved}
 use Rattle.gate_program.specs.Gate.{HasUnserved, IsRefused}
 
@@ -137,15 +138,17 @@ ChangesOnly before after name =
     (λ old. (new : Texts) × (after ≡ Some new)
     × ((other : List ℕ) → bytes_eq other name ≡ false → new other ≡ old other))
 
--- why a session of the run was not opened
+-- why a session of the run was not opened, and what is left then
 abbrev pub HasUnopened : RunWords → PortsValue → PortsValue → Status → Type 0
 HasUnopened run before after standing =
     (session : ℕ) × (session < length run.sessions)
     × IsUnopened before after (session_name run session) (venue_name run.out session)
     (client_name run.out session) standing
+    × LeavesEmpty run session before.texts after.texts
 
--- why an output of a session of a load was not made
+-- why an output of a session of a load was not made, and what is left then
 abbrev pub HasUnmade : RunWords → PortsValue → PortsValue → Status → Type 0
 HasUnmade run before after standing =
     (session : ℕ) × (session < length run.sessions)
     × IsUnmade before after (venue_name run.out session) (client_name run.out session) standing
+    × LeavesEmpty run session before.texts after.texts

@@ -1,5 +1,5 @@
 -- The words of the command line, and the names of outputs.
-use Rattle.std.specs.Prelude.{ℕ, ◌+◌, ◌-◌, ◌^◌, ◌/◌, ◌%◌, ◌==◌, ◌&&◌, List, [], ◌∷◌, ◌++◌, length, codes}
+use Rattle.std.specs.Prelude.{◌≡◌, ℕ, ◌<◌, ◌+◌, ◌-◌, ◌^◌, ◌/◌, ◌%◌, ◌==◌, ◌&&◌, List, [], ◌∷◌, ◌++◌, length, codes}
 use Rattle.std.specs.Prelude.{Option, Some, None, Bool, true, false, not, nat_le, if◌then◌else◌}
 use Rattle.std.specs.List.{list_all, list_any, flat_map, range_with_len}
 use Rattle.std.specs.Str.{bytes_eq}
@@ -52,6 +52,13 @@ output_names out count =
 
 abbrev pub is_among : List ℕ → List (List ℕ) → Bool
 is_among name names = list_any (bytes_eq name) names
+
+-- the name is none of the outputs of the first sessions
+abbrev pub IsApart : List ℕ → ℕ → List ℕ → Type 0
+IsApart out count name =
+    (session : ℕ) → session < count
+    → (bytes_eq name (venue_name out session) ≡ false)
+    × (bytes_eq name (client_name out session) ≡ false)
 
 -- no two are equal
 abbrev pub are_distinct : List (List ℕ) → Bool

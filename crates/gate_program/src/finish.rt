@@ -1,13 +1,15 @@
 //! The journal of a run, and what comes of the run behind it.
 ghost use Rattle.std.specs.Prelude.{◌≡◌, ◌^◌, ◌<◌, ◌≤◌, ◌⊎◌, length, map, All, string_bytes};
-ghost use Rattle.std.specs.Prelude.{OnOk, IsErrOf};
+ghost use Rattle.std.specs.Prelude.{OnOk, OnErr, IsErrOf};
 ghost use Rattle.std.specs.Io.KnownBytes.{Appends};
 ghost use Rattle.gate_program.specs.CommandOf.{run_value};
 ghost use Rattle.gate_program.specs.Finish.{HasAnswer, HasStood, HasFinished};
 ghost use Rattle.gate_program.specs.Telling.{told_of};
 ghost use Rattle.gate_program.specs.Totals.{HaveTotals};
 ghost use Rattle.gate_program.specs.Names.{AreNames};
+ghost use Rattle.gate_ports.specs.Bytes.{AppendsFront};
 ghost use Rattle.gate_ports.specs.Faults.{HasCause};
+ghost use Rattle.gate_program.specs.Early.{KeepsOrFronts};
 ghost use Rattle.gate_program.specs.Objects.{objects_of, EachOwn};
 ghost use Rattle.gate_program.specs.Pieces.{joined};
 ghost use Rattle.gate_program.specs.Run.{Holds, WriteRose};
@@ -31,9 +33,11 @@ use risk_journal::{End, Journal};
 use std::alloc::Global;
 use std::thread::Threads;
 
-/// Gives pieces, one after another.
+/// Gives pieces, one after another. Where the sink refuses it holds a front of them.
 fn give_pieces<S: Sink>(sink: &mut S, pieces: &[Vec<u8>]) -> Result<(), PortFault>
     ensures ok { OnOk result (Appends (S.held sink.old) (S.held sink.new) (joined pieces.now)) }
+    ensures err { OnErr result
+        (AppendsFront (S.held sink.old) (S.held sink.new) (joined pieces.now)) }
     ensures cause { HasCause (S.faults sink.old) (S.faults sink.new)
         (IsErrOf result PortFault.Failed) }
     ensures name { S.name sink.new ≡ S.name sink.old }
@@ -49,6 +53,8 @@ fn write_file<D: Folder>(name: &str, pieces: &[Vec<u8>], folder: &mut D) -> Resu
     ensures went { Went (folder_of D.texts D.read_faults D.write_faults folder.old)
         (folder_of D.texts D.read_faults D.write_faults folder.new) }
     ensures ok { OnOk result (Holds (D.texts folder.new) name.now (joined pieces.now)) }
+    ensures err { OnErr result
+        (KeepsOrFronts (D.texts folder.old) (D.texts folder.new) name.now (joined pieces.now)) }
     ensures others { ChangesOnly (D.texts folder.old) (D.texts folder.new) name.now }
     ensures cause { IsErrOf result PortFault.Failed
         → WriteRose (folder_of D.texts D.read_faults D.write_faults folder.old)

@@ -6,6 +6,8 @@ mod close;
 mod command;
 mod completeness;
 mod ended;
+#[cfg(test)]
+mod fault_tests;
 mod finish;
 mod forests;
 mod inputs;

@@ -1,7 +1,9 @@
 //! What is read and opened before a session runs.
-ghost use Rattle.std.specs.Prelude.{◌≡◌, ◌+◌, [], IfOk, IfErr, IsTrue, length, map, string_bytes};
+ghost use Rattle.std.specs.Prelude.{◌≡◌, ◌+◌, [], IfOk, IfErr, OnErr, IsTrue, length, map};
+ghost use Rattle.std.specs.Prelude.{string_bytes};
 ghost use Rattle.std.specs.Option.{option_map};
 ghost use Rattle.gate_program.specs.Stages.{folder_of, Went, HasFront, HasLimitsFault};
+ghost use Rattle.gate_program.specs.Early.{MayEmpty};
 ghost use Rattle.gate_program.specs.Gate.{HasLimits};
 ghost use Rattle.gate_program.specs.Stages.{IsUnread, IsUnmade, IsUnopened, IsNewSource, IsNewSink};
 ghost use Rattle.gate_program.specs.Stages.{with_two, HasUnopened};
@@ -97,6 +99,8 @@ pub(crate) fn create_outputs<D: Folder>(
         IsUnmade (folder_of D.texts D.read_faults D.write_faults folder.old)
         (folder_of D.texts D.read_faults D.write_faults folder.new)
         (string_bytes outputs.now.venue) (string_bytes outputs.now.client) status) }
+    ensures left { OnErr result (MayEmpty (D.texts folder.old) (D.texts folder.new)
+        (string_bytes outputs.now.venue)) }
 {
     let venue_name = outputs.venue.as_str();
     let venue = match folder.create(venue_name) {
@@ -146,6 +150,8 @@ pub(crate) fn open_session<D: Folder>(
         IsUnopened (folder_of D.texts D.read_faults D.write_faults folder.old)
         (folder_of D.texts D.read_faults D.write_faults folder.new) session.now
         (string_bytes outputs.now.venue) (string_bytes outputs.now.client) status) }
+    ensures left { OnErr result (MayEmpty (D.texts folder.old) (D.texts folder.new)
+        (string_bytes outputs.now.venue)) }
 {
     let input = match folder.open(session) {
         Ok(input) => input,

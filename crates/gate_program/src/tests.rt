@@ -8,12 +8,19 @@ use std::test::*;
 const WORDS: [&str; 4] = ["run", "limits", "out", "session"];
 
 /// Words, the limit file's text, the status and what is told. No session is there.
-const STOPS: [(&str, &[&str], &[u8], u8, &[u8]); 14] = [
+const STOPS: [(&str, &[&str], &[u8], u8, &[u8]); 15] = [
     ("no words", &[], SMALL, 2, USAGE),
     ("too few words", &["run", "limits", "out"], SMALL, 2, USAGE),
     (
         "two equal sessions",
         &["run", "limits", "out", "a", "b", "a"],
+        SMALL,
+        2,
+        USAGE,
+    ),
+    (
+        "a session twice",
+        &["run", "limits", "out", "a", "a"],
         SMALL,
         2,
         USAGE,

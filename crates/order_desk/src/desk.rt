@@ -2,7 +2,6 @@
 ghost use Rattle.std.specs.Prelude.{◌≡◌, ◌≤◌, ◌++◌, [], ◌∷◌, OnOk};
 ghost use Rattle.risk_journal.specs.ActLists.{posts_in, calls_below, calls_at};
 ghost use Rattle.admit_core.specs.Tapes.{IsNoCall, with_post};
-ghost use Rattle.order_desk.specs.Backing.{Covers};
 ghost use Rattle.order_desk.specs.Desks.{HasRoom, IsDesk, IsLater};
 
 use admit_core::{Ended, Hands, trip};
@@ -70,9 +69,10 @@ impl<'a, H: Hand, M: Hand, K: Screen> Desk<'a, H, M, K> {
         self.limits
     }
 
-    /// What is posted covers the orders of the book. This does nothing: it tells a caller so.
+    /// The hands are over the trees of the limits, and what is posted covers the orders of the book.
+    /// This does nothing: it tells a caller so.
     pub fn is_covered(&self)
-        ensures { Covers self.now.limits self.now.hands.acts self.now.book.value }
+        ensures { IsDesk self.now.limits self.now.hands self.now.book.value }
     {
         let _hands = &self.hands;
     }

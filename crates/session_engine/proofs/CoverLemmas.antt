@@ -14,11 +14,9 @@ use Rattle.order_desk.specs.declared.effect.Effect.{Effect}
 use Rattle.order_desk.specs.declared.effect.Effect.TheVariants as effect
 use Rattle.order_desk.specs.declared.refusal.Refusal.{Refusal}
 use Rattle.order_desk.specs.Backing.{Covers}
-use Rattle.order_desk.specs.Decisions.{Decision, new_decided, cancel_decided, replace_decided}
+use Rattle.order_desk.specs.Decisions.{Decision, new_screened, cancel_decided, replace_screened}
+use Rattle.order_desk.specs.Offers.{new_offer, replace_offer}
 use Rattle.order_desk.specs.Reported.{Settled, report_settled, reject_settled}
-use Rattle.order_desk.specs.Screening.{new_screened, replace_screened, refusal_by_screens}
-use Rattle.order_desk.specs.Screening.{new_to_screen, replace_to_screen}
-use Rattle.order_desk.proofs.BehindScreens.{screened_covers}
 use Rattle.order_desk.proofs.Covers.{first_covers, covers_noted}
 use Rattle.order_desk.proofs.DecidedCovers.{new_covers, cancel_covers, replace_covers}
 use Rattle.order_desk.proofs.ReportedCovers.{report_covers, reject_covers}
@@ -89,11 +87,8 @@ covers_message : (limits : LimitsValue) (fields : List FieldValue) (whole : Mess
 covers_message limits fields (message.New order) session own =
     covers_decided limits order_refusal fields
     (new_screened limits order session.screens session.book (tape_of session))
-    (with_asked (new_to_screen limits order session.book) session)
-    (screened_covers limits
-    (refusal_by_screens session.screens (new_to_screen limits order session.book)) session.book
-    (tape_of session) (new_decided limits order session.book (tape_of session)) own
-    (new_covers limits order session.book (tape_of session) own))
+    (with_asked (new_offer limits order session.book) session)
+    (new_covers limits order session.screens session.book (tape_of session) own)
 covers_message limits fields (message.Cancel request) session own =
     covers_decided limits cancel_refusal fields
     (cancel_decided request session.book (tape_of session)) session
@@ -101,18 +96,14 @@ covers_message limits fields (message.Cancel request) session own =
 covers_message limits fields (message.Replace request) session own =
     covers_decided limits replace_refusal fields
     (replace_screened limits request session.screens session.book (tape_of session))
-    (with_asked (replace_to_screen limits request session.book) session)
-    (screened_covers limits
-    (refusal_by_screens session.screens (replace_to_screen limits request session.book))
-    session.book (tape_of session)
-    (replace_decided limits request session.book (tape_of session)) own
-    (replace_covers limits request session.book (tape_of session) own))
+    (with_asked (replace_offer limits request session.book) session)
+    (replace_covers limits request session.screens session.book (tape_of session) own)
 covers_message limits fields (message.Report report) session own =
     covers_settled limits fields (report_settled limits report session.book session.acts) session
-    (report_covers limits report session.book session.acts own)
+    (report_covers limits session.acts session.book own report)
 covers_message limits fields (message.CancelReject report) session own =
     covers_settled limits fields (reject_settled limits report session.book session.acts) session
-    (reject_covers limits report session.book session.acts own)
+    (reject_covers limits session.acts session.book own report)
 covers_message limits fields message.Admin session own = own
 covers_message limits fields message.Other session own =
     covers_note limits note.OtherType session own

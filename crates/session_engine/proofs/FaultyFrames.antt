@@ -6,7 +6,6 @@ use Rattle.std.specs.Io.KnownBytes.{Appends}
 use Rattle.fix_fields.specs.Fields.{FieldValue}
 use Rattle.fix_orders.specs.declared.message.FieldFault.{FieldFault}
 use Rattle.fix_orders.specs.Reading.{read_of}
-use Rattle.order_desk.specs.Values.{roomless}
 use Rattle.risk_journal.specs.declared.acts.Act.{Act}
 use Rattle.risk_journal.specs.declared.acts.Act.TheVariants.{Refused, Noted}
 use Rattle.session_engine.specs.declared.counts.Counts.{Counts}
@@ -25,7 +24,7 @@ pub record Rejects (fields : List FieldValue) (fault : FieldFault) (before after
     : Type 0 where
   pub acts : after.acts ≡ before.acts
       ++ Refused before.counts.frames fault_code fault.tag fault.reason ∷ []
-  pub book : roomless after.book ≡ roomless before.book
+  pub book : after.book ≡ before.book
   pub screens : after.screens ≡ before.screens
   pub counts : after.counts ≡ counted_client before.counts
   pub client_id : after.client_id ≡ client_after true fields before.client_id
@@ -77,7 +76,7 @@ pub record Returns (fields : List FieldValue) (fault : FieldFault) (before after
     : Type 0 where
   pub acts : after.acts ≡ before.acts
       ++ Noted before.counts.frames (note_code note.FaultyField) fault.tag fault.reason ∷ []
-  pub book : roomless after.book ≡ roomless before.book
+  pub book : after.book ≡ before.book
   pub screens : after.screens ≡ before.screens
   pub counts : after.counts ≡ counted_venue before.counts
   pub client_id : after.client_id ≡ before.client_id

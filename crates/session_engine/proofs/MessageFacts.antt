@@ -12,25 +12,19 @@ use Rattle.fix_orders.specs.declared.message.CancelReject.{CancelReject}
 use Rattle.fix_orders.specs.declared.message.NewOrder.{NewOrder}
 use Rattle.fix_orders.specs.declared.message.Replace.{Replace}
 use Rattle.fix_orders.specs.declared.message.Report.{Report}
+use Rattle.fix_orders.specs.declared.message.Head.{Head}
 use Rattle.fix_orders.specs.declared.message.Message.{Message}
 use Rattle.fix_orders.specs.declared.message.Message.TheVariants as message
 use Rattle.fix_orders.specs.Envelopes.{envelope_of, id_in}
 use Rattle.fix_orders.specs.Faults.{values_of, value_of, first_value, first_fault}
 use Rattle.fix_orders.specs.Faults.{values_reason}
 use Rattle.fix_orders.specs.Kinds.{kind_of}
-use Rattle.fix_orders.specs.Put.{is_passed}
 use Rattle.fix_orders.specs.Reading.{read_of, message_of, new_order_of, cancel_of, replace_of}
 use Rattle.fix_orders.specs.Reading.{report_of, cancel_reject_of}
 use Rattle.fix_orders.specs.Table.{table, row_at}
 use Rattle.fix_orders.proofs.Passed.{unless_ok}
 use Rattle.fix_orders.proofs.ReadLemmas.{each_none, one_text}
-use Rattle.session_engine.specs.declared.request.Request.{Request}
-use Rattle.session_engine.specs.declared.request.Request.TheVariants as request
-use Rattle.session_engine.specs.declared.venue_report.VenueReport.{VenueReport}
-use Rattle.session_engine.specs.declared.venue_report.VenueReport.TheVariants as from_venue
-use Rattle.session_engine.specs.Requests.{request_message, request_head}
 use Rattle.session_engine.specs.Session.{is_request, asks}
-use Rattle.session_engine.specs.VenueReports.{report_message, report_head}
 use Rattle.fix_orders.proofs.OrderHeads.{id_text}
 
 -- a message that was read has no fault, and is that of its kind
@@ -134,93 +128,107 @@ reject_kind kind.OrderCancelReject fields reject e = (refl, cc)
 reject_kind kind.Admin fields reject e = absurd cc
 reject_kind kind.Other fields reject e = absurd cc
 
--- ClOrdID (11) and, of a cancel and a replace, OrigClOrdID (41) are those of the fields
-abbrev pub HasIds : List FieldValue → Request → Type 0
-HasIds fields (request.New order) = order.id ≡ value_of 11 fields
-HasIds fields (request.Cancel cancel) =
-    (cancel.id ≡ value_of 11 fields) × (cancel.orig ≡ value_of 41 fields)
-HasIds fields (request.Replace replace) =
-    (replace.id ≡ value_of 11 fields) × (replace.orig ≡ value_of 41 fields)
-
--- what a request that was read has of its fields
-pub record RequestFacts (fields : List FieldValue) (own : Request) : Type 0 where
+-- what a request with this head that was read has of its fields
+pub record RequestFacts (fields : List FieldValue) (head : Head) : Type 0 where
   pub asks_are : asks fields ≡ true
-  pub time : (request_head own).time ≡ value_of 52 fields
-  pub ids : HasIds fields own
-  pub sender : (envelope_of fields).sender ≡ Some (request_head own).sender
+  pub time : head.time ≡ value_of 52 fields
+  pub sender : (envelope_of fields).sender ≡ Some head.sender
 
-pub request_facts : (fields : List FieldValue) (own : Request)
-    → read_of fields ≡ Ok (request_message own) → RequestFacts fields own
-request_facts fields (request.New order) read =
+-- ClOrdID (11) and OrigClOrdID (41) are those of the fields
+pub record HasIds (fields : List FieldValue) (id orig : List ℕ) : Type 0 where
+  pub id_is : id ≡ value_of 11 fields
+  pub orig_is : orig ≡ value_of 41 fields
+
+pub new_facts : (fields : List FieldValue) (order : NewOrder)
+    → read_of fields ≡ Ok (message.New order) → RequestFacts fields order.head
+new_facts fields order read =
     let m = message_read fields (message.New order) read in
     let is = new_kind (kind_of (value_of 35 fields)) fields order m.1 in
     let P : Kind → Type 0 = λ k. first_fault k fields table ≡ None in
     record {
       asks_are = ap is_request is.0;
       time = ap (λ (own : NewOrder). own.head.time) (sym is.1);
-      ids = ap (λ (own : NewOrder). own.id) (sym is.1);
       sender = one_id (values_of 49 fields) (each_none kind.NewOrderSingle fields table 1
           (row_at 16) (subst P is.0 m.0) (omega arith))
           ∙ ap (λ (own : NewOrder). Some own.head.sender) is.1;
     }
-request_facts fields (request.Cancel cancel) read =
+
+pub new_id : (fields : List FieldValue) (order : NewOrder)
+    → read_of fields ≡ Ok (message.New order) → order.id ≡ value_of 11 fields
+new_id fields order read =
+    let m = message_read fields (message.New order) read in
+    ap (λ (own : NewOrder). own.id)
+    (sym (new_kind (kind_of (value_of 35 fields)) fields order m.1).1)
+
+pub cancel_facts : (fields : List FieldValue) (cancel : Cancel)
+    → read_of fields ≡ Ok (message.Cancel cancel) → RequestFacts fields cancel.head
+cancel_facts fields cancel read =
     let m = message_read fields (message.Cancel cancel) read in
     let is = cancel_kind (kind_of (value_of 35 fields)) fields cancel m.1 in
     let P : Kind → Type 0 = λ k. first_fault k fields table ≡ None in
     record {
       asks_are = ap is_request is.0;
       time = ap (λ (own : Cancel). own.head.time) (sym is.1);
-      ids = (
-        ap (λ (own : Cancel). own.id) (sym is.1),
-        ap (λ (own : Cancel). own.orig) (sym is.1),
-      );
       sender = one_id (values_of 49 fields) (each_none kind.OrderCancelRequest fields table 1
           (row_at 16) (subst P is.0 m.0) (omega arith))
           ∙ ap (λ (own : Cancel). Some own.head.sender) is.1;
     }
-request_facts fields (request.Replace replace) read =
+
+pub cancel_ids : (fields : List FieldValue) (cancel : Cancel)
+    → read_of fields ≡ Ok (message.Cancel cancel) → HasIds fields cancel.id cancel.orig
+cancel_ids fields cancel read =
+    let m = message_read fields (message.Cancel cancel) read in
+    let is = cancel_kind (kind_of (value_of 35 fields)) fields cancel m.1 in
+    record {
+      id_is = ap (λ (own : Cancel). own.id) (sym is.1);
+      orig_is = ap (λ (own : Cancel). own.orig) (sym is.1);
+    }
+
+pub replace_facts : (fields : List FieldValue) (replace : Replace)
+    → read_of fields ≡ Ok (message.Replace replace) → RequestFacts fields replace.head
+replace_facts fields replace read =
     let m = message_read fields (message.Replace replace) read in
     let is = replace_kind (kind_of (value_of 35 fields)) fields replace m.1 in
     let P : Kind → Type 0 = λ k. first_fault k fields table ≡ None in
     record {
       asks_are = ap is_request is.0;
       time = ap (λ (own : Replace). own.head.time) (sym is.1);
-      ids = (
-        ap (λ (own : Replace). own.id) (sym is.1),
-        ap (λ (own : Replace). own.orig) (sym is.1),
-      );
       sender = one_id (values_of 49 fields) (each_none kind.OrderCancelReplaceRequest fields table 1
           (row_at 16) (subst P is.0 m.0) (omega arith))
           ∙ ap (λ (own : Replace). Some own.head.sender) is.1;
     }
 
-pub request_passed : (own : Request) → is_passed (request_message own) ≡ true
-request_passed (request.New order) = refl
-request_passed (request.Cancel cancel) = refl
-request_passed (request.Replace replace) = refl
+pub replace_ids : (fields : List FieldValue) (replace : Replace)
+    → read_of fields ≡ Ok (message.Replace replace) → HasIds fields replace.id replace.orig
+replace_ids fields replace read =
+    let m = message_read fields (message.Replace replace) read in
+    let is = replace_kind (kind_of (value_of 35 fields)) fields replace m.1 in
+    record {
+      id_is = ap (λ (own : Replace). own.id) (sym is.1);
+      orig_is = ap (λ (own : Replace). own.orig) (sym is.1);
+    }
 
--- what a report that was read has of its fields
-pub record ReportFacts (fields : List FieldValue) (own : VenueReport) : Type 0 where
+-- what a report with this head that was read has of its fields
+pub record ReportFacts (fields : List FieldValue) (head : Head) : Type 0 where
   pub asks_are : asks fields ≡ false
-  pub time : (report_head own).time ≡ value_of 52 fields
+  pub time : head.time ≡ value_of 52 fields
 
-pub report_facts : (fields : List FieldValue) (own : VenueReport)
-    → read_of fields ≡ Ok (report_message own) → ReportFacts fields own
-report_facts fields (from_venue.Report report) read =
+pub report_facts : (fields : List FieldValue) (report : Report)
+    → read_of fields ≡ Ok (message.Report report) → ReportFacts fields report.head
+report_facts fields report read =
     let m = message_read fields (message.Report report) read in
     let is = report_kind (kind_of (value_of 35 fields)) fields report m.1 in
     record {
       asks_are = ap is_request is.0;
       time = ap (λ (own : Report). own.head.time) (sym is.1);
     }
-report_facts fields (from_venue.CancelReject reject) read =
+
+pub reject_facts : (fields : List FieldValue) (reject : CancelReject)
+    → read_of fields ≡ Ok (message.CancelReject reject) → ReportFacts fields reject.head
+reject_facts fields reject read =
     let m = message_read fields (message.CancelReject reject) read in
     let is = reject_kind (kind_of (value_of 35 fields)) fields reject m.1 in
     record {
       asks_are = ap is_request is.0;
       time = ap (λ (own : CancelReject). own.head.time) (sym is.1);
     }
-
-pub report_passed : (own : VenueReport) → is_passed (report_message own) ≡ true
-report_passed (from_venue.Report report) = refl
-report_passed (from_venue.CancelReject reject) = refl

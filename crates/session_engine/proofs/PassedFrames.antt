@@ -4,10 +4,9 @@ use Rattle.std.specs.Prelude.{Option, Some, None, Ok}
 use Rattle.std.proofs.lemmas.Bool.{false≢true}
 use Rattle.fix_fields.specs.Fields.{FieldValue}
 use Rattle.fix_fields.specs.Places.{HasFieldsIn}
-use Rattle.fix_fields.specs.declared.frame.Frame.{Frame}
+use Rattle.frame_run.specs.Frames.{FrameIn, IsFrameOf}
 use Rattle.fix_orders.specs.declared.message.Message.TheVariants as message
 use Rattle.fix_orders.specs.Reading.{read_of}
-use Rattle.order_desk.specs.Values.{roomless}
 use Rattle.risk_journal.specs.declared.acts.Act.{Act}
 use Rattle.session_engine.specs.declared.counts.Counts.{Counts}
 use Rattle.session_engine.specs.declared.note.Note.{Note}
@@ -15,7 +14,7 @@ use Rattle.session_engine.specs.declared.note.Note.TheVariants as note
 use Rattle.session_engine.specs.Session.{LimitsValue, SessionValue, asks, after_frame, after_sound}
 use Rattle.session_engine.specs.Session.{orders_with, with_frame}
 use Rattle.session_engine.specs.Reaches.{with_reads, Steps}
-use Rattle.session_engine.specs.Taken.{Kept, StandsAs, IsFrameOf, Takes, TakesFrom, TakesSound}
+use Rattle.session_engine.specs.Taken.{Kept, StandsAs, Takes, TakesFrom, TakesSound}
 use Rattle.session_engine.specs.Taken.{counted, noted_act}
 use Rattle.session_engine.proofs.QuietActs.{reads_of-quiet}
 use Rattle.session_engine.proofs.TakenLemmas.{frame_by, steps_quiet, next_by, takes_next}
@@ -23,7 +22,7 @@ use Rattle.session_engine.proofs.TakenLemmas.{appends_nothing, takes_up, with_or
 
 -- what is kept after such a frame
 pub record Passes (before after : Kept) : Type 0 where
-  pub book : roomless after.book ≡ roomless before.book
+  pub book : after.book ≡ before.book
   pub screens : after.screens ≡ before.screens
   pub counts : after.counts ≡ counted before.counts
   pub client_id : after.client_id ≡ before.client_id
@@ -102,28 +101,27 @@ takes_admin limits fields session before after asks_are read own passes acts =
     read))
 
 -- a sound frame is taken up and taken, whatever its fields are
-pub sound_takes : (limits : LimitsValue) (bytes : List ℕ) (frame : Frame) (before after : Kept)
+pub sound_takes : (limits : LimitsValue) (sound : FrameIn) (before after : Kept)
     (orders : ℕ) (fields : Option (List FieldValue))
-    → ((listed : List FieldValue) → HasFieldsIn bytes frame listed
+    → ((listed : List FieldValue) → HasFieldsIn sound.bytes sound.frame listed
     → orders ≡ orders_with listed before.counts.orders)
-    → TakesSound limits bytes frame (with_orders orders before) after
-    → frame.sound ≡ true → IsFrameOf bytes frame fields
+    → TakesSound limits sound (with_orders orders before) after
+    → sound.frame.sound ≡ true → IsFrameOf sound.bytes sound.frame fields
     → TakesFrom (after_frame limits fields) 1 before after
-sound_takes limits bytes frame before after orders None is takes sound (from, stands, has) =
-    absurd (false≢true (sym has ∙ sound))
-sound_takes limits bytes frame before after orders (Some listed) is takes sound
-    (from, stands, has) =
+sound_takes limits sound before after orders None is takes is_sound (from, stands, has) =
+    absurd (false≢true (sym has ∙ is_sound))
+sound_takes limits sound before after orders (Some listed) is takes is_sound (from, stands, has) =
     takes_up limits listed before after orders (is listed (from, stands))
     (takes listed (from, stands))
 
 -- a frame that isn't sound is noted
-pub unsound_takes : (limits : LimitsValue) (bytes : List ℕ) (frame : Frame) (before after : Kept)
-    (fields : Option (List FieldValue)) (session : SessionValue) → frame.sound ≡ false
-    → IsFrameOf bytes frame fields → StandsAs before session → Passes before after
+pub unsound_takes : (limits : LimitsValue) (whole : FrameIn) (before after : Kept)
+    (fields : Option (List FieldValue)) → whole.frame.sound ≡ false
+    → IsFrameOf whole.bytes whole.frame fields → Passes before after
     → after.acts ≡ before.acts ++ noted_act note.NotSound before.counts.frames ∷ []
-    → (next : SessionValue) × Takes (after_frame limits fields) 1 session next before after
-unsound_takes limits bytes frame before after None session sound frame_is own passes acts =
+    → TakesFrom (after_frame limits fields) 1 before after
+unsound_takes limits whole before after None sound frame_is passes acts session own =
     takes_unsound limits session before after own passes acts
-unsound_takes limits bytes frame before after (Some listed) session sound (from, stands, is) own
-    passes acts =
+unsound_takes limits whole before after (Some listed) sound (from, stands, is) passes acts session
+    own =
     absurd (false≢true (sym sound ∙ is))

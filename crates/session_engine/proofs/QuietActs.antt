@@ -1,17 +1,14 @@
--- Acts that are no calls: the hands stay in step with them, and they read nothing.
-use Rattle.std.proofs.Common.{◌≡◌, ℕ, List, [], ◌∷◌, ◌++◌, refl, sym, ap, ◌∙◌, subst}
+-- Acts that are no calls read nothing.
+use Rattle.std.proofs.Common.{◌≡◌, ℕ, List, [], ◌∷◌, ◌++◌, refl, ap, ◌∙◌}
 use Rattle.std.specs.Prelude.{Option, Some, None, Bool, true, false, cond}
 use Rattle.std.proofs.lemmas.List.{append-nil}
-use Rattle.hand_acts.specs.Steps.{StayInStep}
-use Rattle.hand_acts.specs.Tapes.{with_post}
-use Rattle.hand_acts.specs.Trees.{LimitsValue, halt_tree}
-use Rattle.hand_acts.proofs.ActLemmas.{reads_of-append}
-use Rattle.hand_acts.proofs.InStepLemmas.{stay_after_sent, stay_after_refused, stay_after_noted}
+use Rattle.admit_core.specs.Tapes.{with_post}
+use Rattle.limit_table.specs.Trees.{LimitsValue, halt_tree}
+use Rattle.admit_core.proofs.ActLemmas.{reads_of-append}
 use Rattle.order_desk.specs.declared.refusal.Refusal.{Refusal}
 use Rattle.risk_journal.specs.declared.acts.Act.{Act}
 use Rattle.risk_journal.specs.ActLists.{reads_of}
 use Rattle.session_engine.specs.declared.note.Note.{Note}
-use Rattle.session_engine.specs.Answers.{code_of, screen_code_of, note_code}
 use Rattle.session_engine.specs.Taken.{answer_act, note_acts}
 use Rattle.session_engine.specs.Trips.{is_trip, acts_tripped}
 
@@ -39,16 +36,3 @@ answer_unread frame (Some why) = refl
 pub notes_unread : (frame : ℕ) (note : Option Note) → reads_of (note_acts frame note) ≡ []
 notes_unread frame None = refl
 notes_unread frame (Some what) = refl
-
-pub answer_stays : (frame : ℕ) (refusal : Option Refusal) (acts : List Act) (lasts : List ℕ)
-    → StayInStep acts (acts ++ answer_act frame refusal ∷ []) lasts lasts
-answer_stays frame None acts lasts = stay_after_sent frame acts lasts
-answer_stays frame (Some why) acts lasts =
-    stay_after_refused frame (code_of why) (screen_code_of why) 0 acts lasts
-
-pub notes_stay : (frame : ℕ) (note : Option Note) (acts : List Act) (lasts : List ℕ)
-    → StayInStep acts (acts ++ note_acts frame note) lasts lasts
-notes_stay frame None acts lasts =
-    let P : List Act → Type 0 = λ after. StayInStep acts after lasts lasts in
-    subst P (sym (append-nil acts)) (λ limits sum halt step. step)
-notes_stay frame (Some what) acts lasts = stay_after_noted frame (note_code what) 0 0 acts lasts

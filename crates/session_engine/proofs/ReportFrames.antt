@@ -5,36 +5,60 @@ use Rattle.std.specs.Prelude.{Option, Some, None, Ok}
 use Rattle.std.specs.Io.KnownBytes.{Appends}
 use Rattle.std.proofs.lemmas.List.{append-nil}
 use Rattle.fix_fields.specs.Fields.{FieldValue}
+use Rattle.exposure_book.specs.Books.{BookValue}
+use Rattle.fix_orders.specs.declared.message.CancelReject.{CancelReject}
+use Rattle.fix_orders.specs.declared.message.Head.{Head}
+use Rattle.fix_orders.specs.declared.message.Message.{Message}
+use Rattle.fix_orders.specs.declared.message.Message.TheVariants as message
+use Rattle.fix_orders.specs.declared.message.Report.{Report}
 use Rattle.fix_orders.specs.Reading.{read_of}
 use Rattle.order_desk.specs.declared.effect.Effect.{Effect}
 use Rattle.order_desk.specs.declared.effect.Effect.TheVariants as effect
-use Rattle.order_desk.specs.Reported.{Settled}
-use Rattle.order_desk.specs.Values.{roomless}
+use Rattle.order_desk.specs.Reported.{Settled, report_settled, reject_settled}
 use Rattle.risk_journal.specs.declared.acts.Act.{Act}
 use Rattle.risk_journal.specs.ActLists.{SeenAt, reads_of}
 use Rattle.session_engine.specs.declared.counts.Counts.{Counts}
-use Rattle.session_engine.specs.declared.venue_report.VenueReport.{VenueReport}
-use Rattle.session_engine.specs.declared.venue_report.VenueReport.TheVariants as from_venue
 use Rattle.session_engine.specs.Answers.{forward_text}
 use Rattle.session_engine.specs.Session.{LimitsValue, SessionValue, after_sound, after_message}
 use Rattle.session_engine.specs.Session.{after_settling, after_effect, after_passing, named}
 use Rattle.session_engine.specs.Session.{with_frame}
 use Rattle.session_engine.specs.Reaches.{with_reads}
 use Rattle.session_engine.specs.Taken.{Kept, StandsAs, Takes, counted_client, note_acts, note_by}
-use Rattle.session_engine.specs.VenueReports.{report_message, venue_settled}
 use Rattle.session_engine.proofs.MessageFacts.{ReportFacts}
 use Rattle.session_engine.proofs.QuietActs.{notes_unread, reads_of-quiet}
-use Rattle.session_engine.proofs.SettledReads.{report_reads}
+use Rattle.session_engine.proofs.SettledReads.{report_reads, reject_reads}
 use Rattle.session_engine.proofs.TakenLemmas.{frame_by, counted, next_by, takes_next}
 use Rattle.session_engine.proofs.TakenLemmas.{steps_quiet, appends_nothing}
 
--- a report by what it makes of the book and of what is posted
-report_by : (limits : LimitsValue) (fields : List FieldValue) (report : VenueReport)
-    (session : SessionValue)
-    → after_message limits fields (report_message report) session
-    ≡ after_settling fields (venue_settled limits report session.book session.acts) session
-report_by limits fields (from_venue.Report report) session = refl
-report_by limits fields (from_venue.CancelReject reject) session = refl
+-- A report: its message and head, and what it makes of the book and of what is posted, which reads
+-- nothing.
+pub record Told : Type 0 where
+  pub message : Message
+  pub head : Head
+  pub settle : LimitsValue → BookValue → List Act → Settled
+  pub reads : (limits : LimitsValue) (book : BookValue) (acts : List Act)
+      → reads_of (settle limits book acts).acts ≡ reads_of acts
+  pub by : (limits : LimitsValue) (fields : List FieldValue) (session : SessionValue)
+      → after_message limits fields message session
+      ≡ after_settling fields (settle limits session.book session.acts) session
+
+abbrev pub report_told : Report → Told
+report_told report = record {
+  message = message.Report report;
+  head = report.head;
+  settle = λ limits. report_settled limits report;
+  reads = λ limits. report_reads limits report;
+  by = λ limits fields session. refl;
+}
+
+abbrev pub reject_told : CancelReject → Told
+reject_told reject = record {
+  message = message.CancelReject reject;
+  head = reject.head;
+  settle = λ limits. reject_settled limits reject;
+  reads = λ limits. reject_reads limits reject;
+  by = λ limits fields session. refl;
+}
 
 -- what became of a report is at most one note
 noted_effect : (own : Effect) (session : SessionValue)
@@ -48,10 +72,10 @@ noted_effect effect.Stray session = refl
 noted_effect effect.Over session = refl
 
 -- what is kept after a report
-pub record Settles (limits : LimitsValue) (fields : List FieldValue) (report : VenueReport)
+pub record Settles (limits : LimitsValue) (fields : List FieldValue) (report : Told)
     (own : Effect) (told : List Act) (before after : Kept) : Type 0 where
-  pub settled : venue_settled limits report (roomless before.book) before.acts
-      ≡ record { effect = own; acts = told; book = roomless after.book }
+  pub settled : report.settle limits before.book before.acts
+      ≡ record { effect = own; acts = told; book = after.book }
   pub acts : after.acts ≡ told ++ note_acts before.counts.frames (note_by own)
   pub screens : after.screens ≡ before.screens
   pub counts : after.counts ≡ counted_client before.counts
@@ -61,9 +85,9 @@ pub record Settles (limits : LimitsValue) (fields : List FieldValue) (report : V
       (forward_text after.client_id after.counts.client fields)
 
 -- a report that was settled and passed on
-pub takes_report : (limits : LimitsValue) (fields : List FieldValue) (report : VenueReport)
-    (session : SessionValue) → ReportFacts fields report
-    → read_of fields ≡ Ok (report_message report) → (before after : Kept)
+pub takes_report : (limits : LimitsValue) (fields : List FieldValue) (report : Told)
+    (session : SessionValue) → ReportFacts fields report.head
+    → read_of fields ≡ Ok report.message → (before after : Kept)
     → StandsAs before session → (own : Effect) (told : List Act)
     → Settles limits fields report own told before after
     → (next : SessionValue) × Takes (with_frame (after_sound limits fields)) 0 session next before after
@@ -73,14 +97,14 @@ takes_report limits fields report session facts read before after stands own tol
     let acts = told ++ notes session.frames in
     let text : List ℕ → ℕ → List ℕ = λ receiver n. forward_text receiver n fields in
     let message : Option (List ℕ) = Some (text session.client_id (length session.client + 1)) in
-    let done : Settled = record { effect = own; acts = told; book = roomless after.book } in
+    let done : Settled = record { effect = own; acts = told; book = after.book } in
     let number : after.counts.client ≡ length session.client + 1 =
     ap (λ (c : Counts). c.client) settles.counts ∙ ap (λ n. n + 1) s.client in
     let receiver : session.client_id ≡ after.client_id =
     stands.client_is ∙ sym settles.client_id in
-    let settled_is : venue_settled limits report session.book session.acts ≡ done =
-    ap (λ b. venue_settled limits report b session.acts) s.book_is
-    ∙ ap (venue_settled limits report (roomless before.book)) s.acts_are ∙ settles.settled in
+    let settled_is : report.settle limits session.book session.acts ≡ done =
+    ap (λ b. report.settle limits b session.acts) s.book_is
+    ∙ ap (report.settle limits before.book) s.acts_are ∙ settles.settled in
     let P : List ℕ → Type 0 = λ to. Appends before.client after.client
     (text to (length session.client + 1)) in
     let Q : ℕ → Type 0 =
@@ -88,14 +112,14 @@ takes_report limits fields report session facts read before after stands own tol
     let from : List SeenAt → SessionValue = λ more. named false fields (with_reads more session) in
     let stepped : (more : List SeenAt) → with_frame (after_sound limits fields) (with_reads more session)
     ≡ with_reads more (next_by acts
-    (roomless after.book) session.screens session.client_id None None message session) =
-    λ more. frame_by limits fields false (Ok (report_message report)) (with_reads more session)
+    after.book session.screens session.client_id None None message session) =
+    λ more. frame_by limits fields false (Ok report.message) (with_reads more session)
     facts.asks_are read
-    ∙ ap (counted session.frames) (report_by limits fields report (from more))
+    ∙ ap (counted session.frames) (report.by limits fields (from more))
     ∙ ap (λ d. counted session.frames (after_settling fields d (from more))) settled_is
     ∙ ap (λ n. counted session.frames (after_passing fields n))
-    (noted_effect own (record (from more) { acts = told; book = roomless after.book })) in
-    takes_next (with_frame (after_sound limits fields)) 0 session before after acts (roomless after.book)
+    (noted_effect own (record (from more) { acts = told; book = after.book })) in
+    takes_next (with_frame (after_sound limits fields)) 0 session before after acts after.book
     session.screens session.client_id None None message stands
     (ap (λ n. told ++ notes n) (sym s.frames) ∙ sym settles.acts) refl
     (stands.screens_are ∙ sym settles.screens) receiver
@@ -108,8 +132,8 @@ takes_report limits fields report session facts read before after stands own tol
     }) (appends_nothing before.venue after.venue settles.venue)
     (subst P (sym receiver) (subst Q number settles.client))
     (steps_quiet (with_frame (after_sound limits fields)) session
-    (next_by acts (roomless after.book) session.screens session.client_id None None message
+    (next_by acts after.book session.screens session.client_id None None message
     session)
     (reads_of-quiet told (notes session.frames) (notes_unread session.frames (note_by own))
     ∙ ap reads_of (sym (ap (λ (d : Settled). d.acts) settled_is))
-    ∙ report_reads limits report session.book session.acts) stepped)
+    ∙ report.reads limits session.book session.acts) stepped)

@@ -1,6 +1,8 @@
 -- A report reads no root.
 use Rattle.std.proofs.Common.{◌≡◌, ℕ, List, [], ◌∷◌, refl, ◌∙◌, Bool, true, false, ◌==◌}
 use Rattle.std.specs.Prelude.{nat_le, if◌then◌else◌}
+use Rattle.fix_orders.specs.declared.message.CancelReject.{CancelReject}
+use Rattle.fix_orders.specs.declared.message.Report.{Report}
 use Rattle.exposure_book.specs.Books.{BookValue}
 use Rattle.exposure_book.specs.declared.answer.Applied.{Applied}
 use Rattle.exposure_book.specs.declared.answer.Applied.TheVariants as applied
@@ -8,17 +10,14 @@ use Rattle.exposure_book.specs.Reports.{outcome_of_report, outcome_of_reject}
 use Rattle.risk_journal.specs.declared.acts.Act.{Act}
 use Rattle.risk_journal.specs.declared.acts.Act.TheVariants.{Post}
 use Rattle.risk_journal.specs.ActLists.{posts_in, reads_of}
-use Rattle.hand_acts.specs.Legs.{Leg, legs_of}
-use Rattle.hand_acts.specs.Lowering.{Lowered, lowered_in, lowering}
-use Rattle.hand_acts.specs.Tapes.{with_post}
-use Rattle.hand_acts.specs.Trees.{LimitsValue}
-use Rattle.hand_acts.proofs.ActLemmas.{reads_of-append}
-use Rattle.order_desk.specs.Reported.{settled_with}
+use Rattle.admit_core.specs.Legs.{Leg, legs_of}
+use Rattle.admit_core.specs.Lowering.{Lowered, lowered_in, lowering}
+use Rattle.admit_core.specs.Tapes.{with_post}
+use Rattle.limit_table.specs.Trees.{LimitsValue}
+use Rattle.admit_core.proofs.ActLemmas.{reads_of-append}
+use Rattle.order_desk.specs.Reported.{settled_with, report_settled, reject_settled}
 use Rattle.order_desk.specs.Values.{values_told, rows_told}
 use Rattle.std.proofs.lemmas.List.{append-nil}
-use Rattle.session_engine.specs.declared.venue_report.VenueReport.{VenueReport}
-use Rattle.session_engine.specs.declared.venue_report.VenueReport.TheVariants as from_venue
-use Rattle.session_engine.specs.VenueReports.{venue_settled}
 
 pub reads_of-post : (tree value : ℕ) (acts : List Act)
     → reads_of (with_post tree value acts) ≡ reads_of acts
@@ -48,11 +47,14 @@ settled_reads limits book acts (applied.Applied terms) =
 settled_reads limits book acts applied.Stray = refl
 settled_reads limits book acts applied.Over = refl
 
-pub report_reads : (limits : LimitsValue) (own : VenueReport) (book : BookValue) (acts : List Act)
-    → reads_of (venue_settled limits own book acts).acts ≡ reads_of acts
-report_reads limits (from_venue.Report report) book acts =
+pub report_reads : (limits : LimitsValue) (report : Report) (book : BookValue) (acts : List Act)
+    → reads_of (report_settled limits report book acts).acts ≡ reads_of acts
+report_reads limits report book acts =
     settled_reads limits (record book { orders = (outcome_of_report book report).orders }) acts
     (outcome_of_report book report).answer
-report_reads limits (from_venue.CancelReject reject) book acts =
+
+pub reject_reads : (limits : LimitsValue) (reject : CancelReject) (book : BookValue)
+    (acts : List Act) → reads_of (reject_settled limits reject book acts).acts ≡ reads_of acts
+reject_reads limits reject book acts =
     settled_reads limits (record book { orders = (outcome_of_reject book reject).orders }) acts
     (outcome_of_reject book reject).answer

@@ -12,7 +12,6 @@ use Rattle.fix_orders.specs.Faults.{value_of}
 use Rattle.fix_orders.specs.Kinds.{kind_of}
 use Rattle.fix_orders.specs.Reading.{read_of}
 use Rattle.order_desk.specs.declared.refusal.Refusal.{Refusal}
-use Rattle.order_desk.specs.Values.{roomless}
 use Rattle.screen_kit.specs.Screens.{ScreenValue}
 use Rattle.risk_journal.specs.declared.acts.Act.{Act}
 use Rattle.risk_journal.specs.ActLists.{SeenAt, reads_of}
@@ -102,7 +101,7 @@ pub takes_next : (step : SessionValue → SessionValue) (most : ℕ) (session : 
     (screens : List ScreenValue) (client_id : List ℕ) (refusal : Option Refusal)
     (to_venue to_client : Option (List ℕ))
     → StandsAs before session
-    → acts ≡ after.acts → book ≡ roomless after.book → screens ≡ after.screens
+    → acts ≡ after.acts → book ≡ after.book → screens ≡ after.screens
     → client_id ≡ after.client_id
     → CountsGo before.counts after.counts refusal to_venue to_client
     → Appends before.venue after.venue (text_in to_venue)

@@ -6,13 +6,13 @@ use Rattle.std.proofs.lemmas.Bool.{eq-eqb}
 use Rattle.std.proofs.lemmas.Bool.Decides.{nat_tests}
 use Rattle.risk_journal.specs.declared.acts.Act.{Act}
 use Rattle.risk_journal.specs.ActLists.{posts_in}
-use Rattle.hand_acts.specs.Tapes.{with_post}
-use Rattle.hand_acts.specs.Trees.{LimitsValue, halt_tree}
-use Rattle.hand_acts.proofs.Standings.{posts_in-own}
+use Rattle.admit_core.specs.Tapes.{with_post}
+use Rattle.limit_table.specs.Trees.{LimitsValue, halt_tree}
+use Rattle.admit_core.proofs.Standings.{posts_in-own}
 use Rattle.exposure_book.specs.Books.{BookValue}
 use Rattle.order_desk.specs.declared.refusal.Refusal.{Refusal}
 use Rattle.order_desk.specs.Backing.{Covers}
-use Rattle.order_desk.proofs.HaltKept.{covers_tripped}
+use Rattle.order_desk.proofs.Covers.{covers_tripped}
 use Rattle.session_engine.specs.Trips.{is_firm, firms_after, is_trip_number, is_trip, acts_tripped}
 use Rattle.session_engine.specs.Trips.{is_reached, trips_by}
 

@@ -10,20 +10,19 @@ use Rattle.fix_orders.specs.declared.message.Message.TheVariants as message
 use Rattle.fix_orders.specs.Reading.{read_of}
 use Rattle.risk_journal.specs.declared.acts.Act.TheVariants.{Sent, Refused, Noted}
 use Rattle.risk_journal.specs.ActLists.{SeenAt}
-use Rattle.hand_acts.specs.Trees.{halt_tree}
-use Rattle.hand_acts.proofs.Noted.{noted_keeps}
+use Rattle.limit_table.specs.Trees.{halt_tree}
+use Rattle.admit_core.proofs.Noted.{noted_keeps}
 use Rattle.order_desk.specs.declared.effect.Effect.{Effect}
 use Rattle.order_desk.specs.declared.effect.Effect.TheVariants as effect
 use Rattle.order_desk.specs.declared.refusal.Refusal.{Refusal}
-use Rattle.order_desk.specs.Decisions.{Decision, new_decided, cancel_decided, replace_decided}
+use Rattle.order_desk.specs.Decisions.{Decision, new_screened, cancel_decided, replace_screened}
+use Rattle.order_desk.specs.Offers.{new_offer, replace_offer}
 use Rattle.order_desk.specs.Halting.{KeepsHalt}
 use Rattle.order_desk.specs.Reported.{Settled, report_settled, reject_settled}
-use Rattle.order_desk.specs.Screening.{new_screened, replace_screened, new_to_screen}
-use Rattle.order_desk.specs.Screening.{replace_to_screen, refusal_by_screens}
 use Rattle.screen_kit.specs.Screens.{ScreenValue}
 use Rattle.order_desk.proofs.Covers.{first_covers}
 use Rattle.order_desk.proofs.HaltKept.{new_keeps, cancel_keeps, replace_keeps, report_keeps}
-use Rattle.order_desk.proofs.HaltKept.{reject_keeps, screened_keeps}
+use Rattle.order_desk.proofs.HaltKept.{reject_keeps}
 use Rattle.session_engine.specs.declared.note.Note.{Note}
 use Rattle.session_engine.specs.declared.note.Note.TheVariants as note
 use Rattle.session_engine.specs.Admitted.{CoversOrders, TripsOnce}
@@ -92,11 +91,8 @@ trips_message : (limits : LimitsValue) (fields : List FieldValue) (whole : Messa
 trips_message limits fields (message.New order) session covers own =
     trips_decided limits order_refusal fields
     (new_screened limits order session.screens session.book (tape_of session))
-    (with_asked (new_to_screen limits order session.book) session)
-    (screened_keeps limits
-    (refusal_by_screens session.screens (new_to_screen limits order session.book)) session.book
-    (tape_of session) (new_decided limits order session.book (tape_of session))
-    (new_keeps limits order session.book (tape_of session))) own
+    (with_asked (new_offer limits order session.book) session)
+    (new_keeps limits order session.screens session.book (tape_of session)) own
 trips_message limits fields (message.Cancel request) session covers own =
     trips_decided limits cancel_refusal fields
     (cancel_decided request session.book (tape_of session)) session
@@ -104,11 +100,8 @@ trips_message limits fields (message.Cancel request) session covers own =
 trips_message limits fields (message.Replace request) session covers own =
     trips_decided limits replace_refusal fields
     (replace_screened limits request session.screens session.book (tape_of session))
-    (with_asked (replace_to_screen limits request session.book) session)
-    (screened_keeps limits
-    (refusal_by_screens session.screens (replace_to_screen limits request session.book))
-    session.book (tape_of session) (replace_decided limits request session.book (tape_of session))
-    (replace_keeps limits request session.book (tape_of session) covers)) own
+    (with_asked (replace_offer limits request session.book) session)
+    (replace_keeps limits request session.screens session.book (tape_of session) covers) own
 trips_message limits fields (message.Report report) session covers own =
     trips_settled limits fields (report_settled limits report session.book session.acts) session
     (report_keeps limits session.acts session.book covers report) own

@@ -2,8 +2,8 @@
 use Rattle.std.specs.Prelude.{◌≡◌}
 use Rattle.risk_journal.specs.ActLists.{posts_in}
 use Rattle.order_desk.specs.Backing.{Covers}
-pub use Rattle.hand_acts.specs.Admitted.{AdmitsOwn, StaysWithin}
-use Rattle.hand_acts.specs.Trees.{LimitsValue, halt_tree}
+pub use Rattle.admit_core.specs.Admitted.{AdmitsOwn, StaysWithin}
+use Rattle.limit_table.specs.Trees.{LimitsValue, halt_tree}
 use Rattle.session_engine.specs.Session.{SessionValue}
 use Rattle.session_engine.specs.Trips.{trips_by}
 

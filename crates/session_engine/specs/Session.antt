@@ -14,21 +14,21 @@ use Rattle.fix_orders.specs.Faults.{value_of}
 use Rattle.fix_orders.specs.Kinds.{kind_of}
 use Rattle.fix_orders.specs.Reading.{read_of}
 use Rattle.exposure_book.specs.Books.{BookValue}
-use Rattle.screen_kit.specs.declared.order.Order.{Order}
 use Rattle.screen_kit.specs.declared.order.Terms.{Terms}
 use Rattle.screen_kit.specs.Screens.{ScreenValue, armed}
 use Rattle.risk_journal.specs.declared.acts.Act.{Act}
 use Rattle.risk_journal.specs.declared.acts.Act.TheVariants.{Sent, Refused, Noted}
 use Rattle.risk_journal.specs.ActLists.{SeenAt}
-use Rattle.hand_acts.specs.Tapes.{Tape, tape}
-pub use Rattle.hand_acts.specs.Trees.{LimitsValue}
+use Rattle.admit_core.specs.Tapes.{Tape, tape}
+pub use Rattle.limit_table.specs.Trees.{LimitsValue}
 use Rattle.order_desk.specs.declared.effect.Effect.{Effect}
 use Rattle.order_desk.specs.declared.effect.Effect.TheVariants as effect
 use Rattle.order_desk.specs.declared.refusal.Refusal.{Refusal}
-use Rattle.order_desk.specs.Decisions.{Decision, cancel_decided}
+use Rattle.order_desk.specs.declared.offer.Offer.{Offer}
+use Rattle.order_desk.specs.Decisions.{Decision, cancel_decided, new_screened, replace_screened}
+use Rattle.order_desk.specs.Decisions.{screens_after}
+use Rattle.order_desk.specs.Offers.{new_offer, replace_offer}
 use Rattle.order_desk.specs.Reported.{Settled, report_settled, reject_settled}
-use Rattle.order_desk.specs.Screening.{new_screened, replace_screened, screens_after}
-use Rattle.order_desk.specs.Screening.{new_to_screen, replace_to_screen}
 use Rattle.order_desk.specs.Values.{first_book}
 use Rattle.session_engine.specs.declared.note.Note.{Note}
 use Rattle.session_engine.specs.declared.note.Note.TheVariants as note
@@ -114,9 +114,9 @@ decided decision session = record session {
   book = decision.book;
 }
 
--- the session with its screens asked about an order, if they are
-abbrev pub with_asked : Option Order → SessionValue → SessionValue
-with_asked asked session = record session { screens = screens_after session.screens asked }
+-- the session with its screens asked about what is offered, if anything is
+abbrev pub with_asked : Result Offer Refusal → SessionValue → SessionValue
+with_asked offered session = record session { screens = screens_after session.screens offered }
 
 -- a request that was refused as Firm is counted, and where the count reaches the trip number, the
 -- halt tree is tripped
@@ -206,14 +206,14 @@ abbrev pub after_message : LimitsValue → List FieldValue → Message → Sessi
 after_message limits fields (message.New order) session =
     after_decision limits order_refusal fields
     (new_screened limits order session.screens session.book (tape_of session))
-    (with_asked (new_to_screen limits order session.book) session)
+    (with_asked (new_offer limits order session.book) session)
 after_message limits fields (message.Cancel request) session =
     after_decision limits cancel_refusal fields
     (cancel_decided request session.book (tape_of session)) session
 after_message limits fields (message.Replace request) session =
     after_decision limits replace_refusal fields
     (replace_screened limits request session.screens session.book (tape_of session))
-    (with_asked (replace_to_screen limits request session.book) session)
+    (with_asked (replace_offer limits request session.book) session)
 after_message limits fields (message.Report report) session =
     after_settling fields (report_settled limits report session.book session.acts) session
 after_message limits fields (message.CancelReject report) session =

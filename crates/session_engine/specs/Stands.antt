@@ -2,7 +2,6 @@
 use Rattle.std.specs.Prelude.{◌≡◌, length, List}
 use Rattle.exposure_book.specs.Books.{BookValue}
 use Rattle.risk_journal.specs.declared.acts.Act.{Act}
-use Rattle.order_desk.specs.Values.{roomless}
 use Rattle.session_engine.specs.declared.counts.Counts.{Counts}
 use Rattle.session_engine.specs.Session.{SessionValue}
 
@@ -10,7 +9,7 @@ use Rattle.session_engine.specs.Session.{SessionValue}
 pub record StandsFor (acts : List Act) (book : BookValue) (counts : Counts)
     (session : SessionValue) : Type 0 where
   pub acts_are : session.acts ≡ acts
-  pub book_is : session.book ≡ roomless book
+  pub book_is : session.book ≡ book
   pub frames : counts.frames ≡ session.frames
   pub orders : counts.orders ≡ session.orders
   pub venue : counts.venue ≡ length session.venue

@@ -1,31 +1,30 @@
 -- Frames as a session takes them.
 use Rattle.std.specs.Prelude.{◌≡◌, ℕ, ◌+◌, ◌≤◌, ◌<◌, List, [], ◌∷◌, ◌++◌, Option, Some, None}
-use Rattle.std.specs.Prelude.{is_some, codes, Ok}
+use Rattle.std.specs.Prelude.{codes, Ok, Err, Bool}
 use Rattle.std.specs.Io.KnownBytes.{Appends}
 use Rattle.fix_fields.specs.Fields.{FieldValue}
-use Rattle.fix_fields.specs.Messages.{message_text}
 use Rattle.fix_fields.specs.Places.{HasFieldsIn, IsSoundIn}
-use Rattle.fix_fields.specs.Found.{StandsAt}
-use Rattle.fix_fields.specs.declared.frame.Frame.{Frame}
+use Rattle.fix_orders.specs.declared.message.FieldFault.{FieldFault}
 use Rattle.fix_orders.specs.declared.message.Message.{Message}
-use Rattle.fix_orders.specs.Put.{HasPut, seq_most}
+use Rattle.fix_orders.specs.declared.message.Stamp.{Stamp}
+use Rattle.fix_orders.specs.Faults.{value_of}
+use Rattle.fix_orders.specs.Put.{seq_most}
 use Rattle.fix_orders.specs.Reading.{read_of}
 use Rattle.exposure_book.specs.Books.{BookValue}
 use Rattle.screen_kit.specs.Screens.{ScreenValue}
 use Rattle.risk_journal.specs.declared.acts.Act.{Act}
 use Rattle.risk_journal.specs.declared.acts.Act.TheVariants.{Sent, Noted}
 use Rattle.risk_journal.specs.ActLists.{posts_in}
-use Rattle.hand_acts.specs.Trees.{halt_tree}
+use Rattle.limit_table.specs.Trees.{halt_tree}
+use Rattle.frame_run.specs.Frames.{FrameIn}
 use Rattle.order_desk.specs.declared.effect.Effect.{Effect}
 use Rattle.order_desk.specs.declared.effect.Effect.TheVariants as effect
 use Rattle.order_desk.specs.declared.refusal.Refusal.{Refusal}
-use Rattle.order_desk.specs.Values.{roomless}
 use Rattle.session_engine.specs.declared.counts.Counts.{Counts}
 use Rattle.session_engine.specs.declared.note.Note.{Note}
 use Rattle.session_engine.specs.declared.note.Note.TheVariants as note
-use Rattle.session_engine.specs.declared.state.State.{State}
-use Rattle.session_engine.specs.Answers.{Wording, forward_text, refused_act, note_code}
-use Rattle.session_engine.specs.Session.{LimitsValue, SessionValue, after_frame, after_sound}
+use Rattle.session_engine.specs.Answers.{forward_text, refused_act, note_code, stamp_of}
+use Rattle.session_engine.specs.Session.{LimitsValue, SessionValue, after_sound, asks}
 use Rattle.session_engine.specs.Session.{with_frame}
 use Rattle.session_engine.specs.Stands.{StandsFor}
 use Rattle.session_engine.specs.Reaches.{Steps}
@@ -41,38 +40,35 @@ pub record Kept : Type 0 where
   pub venue : Option (List ℕ)
   pub client : Option (List ℕ)
 
--- what is kept, by the screens, the running values, the client and what the sinks hold
-abbrev pub kept_by : List ScreenValue → State → List ℕ → Option (List ℕ) → Option (List ℕ) → Kept
-kept_by screens state client_id venue client = record {
-  acts = state.told.acts.items;
-  book = roomless state.book;
-  screens = screens;
-  counts = state.counts;
-  client_id = client_id;
-  venue = venue;
-  client = client;
-}
-
 -- what is kept is that of the session's value
 pub record StandsAs (kept : Kept) (session : SessionValue) : Type 0 where
   pub stands : StandsFor kept.acts kept.book kept.counts session
   pub client_is : session.client_id ≡ kept.client_id
   pub screens_are : session.screens ≡ kept.screens
 
--- the frame stands somewhere in the bytes, with these fields where it is sound
-abbrev pub IsFrameOf : List ℕ → Frame → Option (List FieldValue) → Type 0
-IsFrameOf bytes frame fields =
-    (from : ℕ) × StandsAt bytes from frame fields × (frame.sound ≡ is_some fields)
-
--- the frame stands somewhere in the bytes, and says whether it is sound
-abbrev pub IsSomeFrame : List ℕ → Frame → Type 0
-IsSomeFrame bytes frame = (fields : Option (List FieldValue)) × IsFrameOf bytes frame fields
-
 -- the frame is sound, and whatever its fields are, it reads as this message
-pub record ReadsAs (bytes : List ℕ) (frame : Frame) (whole : Message) : Type 0 where
-  pub sound : IsSoundIn bytes frame
-  pub each : (fields : List FieldValue) → HasFieldsIn bytes frame fields
+pub record ReadsAs (sound : FrameIn) (whole : Message) : Type 0 where
+  pub is_sound : IsSoundIn sound.bytes sound.frame
+  pub each : (fields : List FieldValue) → HasFieldsIn sound.bytes sound.frame fields
       → read_of fields ≡ Ok whole
+
+-- whatever the fields of the frame are, it has this field fault, and is a request or isn't
+abbrev pub FailsAs : FrameIn → FieldFault → Bool → Type 0
+FailsAs sound fault request =
+    (fields : List FieldValue) → HasFieldsIn sound.bytes sound.frame fields
+    → (read_of fields ≡ Err fault) × (asks fields ≡ request)
+
+-- whatever the fields of the frame are, the stamp has their time
+abbrev pub HasItsTime : FrameIn → Stamp → Type 0
+HasItsTime sound stamp =
+    (fields : List FieldValue) → HasFieldsIn sound.bytes sound.frame fields
+    → stamp.time ≡ value_of 52 fields
+
+-- whatever the fields of the frame are, the sink took its message with this stamp
+abbrev pub Forwards : FrameIn → Stamp → Option (List ℕ) → Option (List ℕ) → Type 0
+Forwards sound stamp held held_after =
+    (fields : List FieldValue) → HasFieldsIn sound.bytes sound.frame fields
+    → Appends held held_after (forward_text stamp.target stamp.seq fields)
 
 -- one frame more is counted, and one more message has a number of at most eight digits in either
 -- stream
@@ -119,10 +115,10 @@ abbrev pub counts_answered : Option Refusal → Counts → Counts
 counts_answered None counts = counted_venue counts
 counts_answered (Some why) counts = counted_client counts
 
--- the number of the message that answers a request: it is counted already
-abbrev pub answer_number : Option Refusal → Counts → ℕ
-answer_number None counts = counts.venue
-answer_number (Some why) counts = counts.client
+-- the stamp of the message that answers a request: it is counted already
+abbrev pub answer_stamp : Option Refusal → List ℕ → List ℕ → Counts → Stamp
+answer_stamp None time client_id counts = stamp_of (codes "VENUE") counts.venue time
+answer_stamp (Some why) time client_id counts = stamp_of client_id counts.client time
 
 -- a note of this frame
 abbrev pub noted_act : Note → ℕ → Act
@@ -139,21 +135,6 @@ note_by effect.Over = Some note.Over
 abbrev pub note_acts : ℕ → Option Note → List Act
 note_acts frame None = []
 note_acts frame (Some what) = noted_act what frame ∷ []
-
--- the body so far is that of the message of this text
-abbrev pub HasWritten : List ℕ → Option (List ℕ) → Type 0
-HasWritten text writer =
-    (fields : List FieldValue) × HasPut fields writer × (message_text fields ≡ text)
-
--- one sink took the answer of a request, and the other nothing
-abbrev pub IsAnswered : Wording → List FieldValue → List ℕ → ℕ → Option Refusal → Option (List ℕ)
-    → Option (List ℕ) → Option (List ℕ) → Option (List ℕ) → Type 0
-IsAnswered wording fields client_id number None venue venue_after client client_after =
-    Appends venue venue_after (forward_text (codes "VENUE") number fields)
-    × (client_after ≡ client)
-IsAnswered wording fields client_id number (Some why) venue venue_after client client_after =
-    (venue_after ≡ venue)
-    × Appends client client_after (wording client_id number fields why)
 
 -- the messages with at most one more
 abbrev pub with_message : Option (List ℕ) → List (List ℕ) → List (List ℕ)
@@ -186,14 +167,8 @@ TakesFrom step most before after =
     (session : SessionValue) → StandsAs before session
     → (next : SessionValue) × Takes step most session next before after
 
--- Whatever its fields are, the frame was taken.
-abbrev pub TakesAny : LimitsValue → List ℕ → Frame → Kept → Kept → Type 0
-TakesAny limits bytes frame before after =
-    (fields : Option (List FieldValue)) → IsFrameOf bytes frame fields
-    → TakesFrom (after_frame limits fields) 1 before after
-
 -- Whatever its fields are, the sound frame, which was taken up, was taken.
-abbrev pub TakesSound : LimitsValue → List ℕ → Frame → Kept → Kept → Type 0
-TakesSound limits bytes frame before after =
-    (fields : List FieldValue) → HasFieldsIn bytes frame fields
+abbrev pub TakesSound : LimitsValue → FrameIn → Kept → Kept → Type 0
+TakesSound limits sound before after =
+    (fields : List FieldValue) → HasFieldsIn sound.bytes sound.frame fields
     → TakesFrom (with_frame (after_sound limits fields)) 0 before after

@@ -3,8 +3,8 @@
 use Rattle.std.specs.Prelude.{ℕ, ◌+◌, ◌==◌, ◌&&◌, List, Option, Some, None, Bool, true, false}
 use Rattle.std.specs.Prelude.{nat_le, nat_lt, if◌then◌else◌}
 use Rattle.risk_journal.specs.declared.acts.Act.{Act}
-use Rattle.hand_acts.specs.Tapes.{with_post}
-use Rattle.hand_acts.specs.Trees.{LimitsValue, halt_tree}
+use Rattle.admit_core.specs.Tapes.{with_post}
+use Rattle.limit_table.specs.Trees.{LimitsValue, halt_tree}
 use Rattle.order_desk.specs.declared.refusal.Refusal.{Refusal}
 use Rattle.order_desk.specs.declared.refusal.Refusal.TheVariants.{Firm}
 

@@ -1,6 +1,9 @@
 //! What is noted of a frame.
 ghost use Rattle.std.specs.Prelude.{◌≡◌};
 ghost use Rattle.session_engine.specs.Answers.{note_code};
+ghost use Rattle.session_engine.specs.Taken.{noted_act};
+
+use risk_journal::Act;
 
 /// What is noted of a frame.
 #[derive(Clone, Copy, Debug, PartialEq, Eq)]
@@ -31,6 +34,18 @@ impl Note {
             Note::Over => 4,
             Note::FaultyField => 5,
             Note::NotLowered => 6,
+        }
+    }
+
+    /// The act that notes this of a frame.
+    pub(crate) fn act(self, frame: u32) -> Act
+        ensures { result ≡ noted_act self frame }
+    {
+        Act::Noted {
+            frame,
+            code: self.code(),
+            first: 0,
+            second: 0,
         }
     }
 }

@@ -1,43 +1,70 @@
-//! What is done as an order is taken up.
-ghost use Rattle.std.specs.Prelude.{◌≡◌, ◌^◌, ◌+◌, ◌<◌, List};
-ghost use Rattle.fix_fields.specs.Fields.{FieldValue};
-ghost use Rattle.fix_fields.specs.Places.{HasFieldsIn, IsSoundIn};
-ghost use Rattle.session_engine.specs.Session.{is_order, orders_with};
+//! A session at its gate, which takes frames.
+ghost use Rattle.std.specs.Prelude.{◌*◌};
 
+use crate::note::Note;
+use crate::session::Session;
 use fix_fields::Frame;
-use fix_orders::{Kind, kind_of, type_text};
-use gate_ports::Gate;
+use frame_run::{SoundFrame, TakesFrames};
+use gate_ports::{Gate, PortFault, Sink};
+use risk_board::Hand;
+use screen_kit::Screen;
+use std::marker::Model;
 
-/// Whether a message of this kind is an order.
-fn is_order(kind: Kind) -> bool
-    ensures { result ≡ is_order kind }
-{
-    match kind {
-        Kind::NewOrderSingle | Kind::OrderCancelReplaceRequest => true,
-        Kind::OrderCancelRequest
-        | Kind::ExecutionReport
-        | Kind::OrderCancelReject
-        | Kind::Admin
-        | Kind::Other => false,
-    }
+/// A gate, and the number of the session that calls it, from 0.
+#[derive(Drop)]
+pub(crate) struct NumberedGate<'a, G: Gate> {
+    pub(crate) number: u32,
+    pub(crate) gate: &'a G,
 }
 
-/// Takes up a sound frame: before an order the gate is called with the session's number and the
-/// order's, both from 0, and the order is counted. None of its fields is read but its type.
-pub(crate) fn take_up<G: Gate>(
-    gate: &G,
-    session: u32,
-    orders: &mut u32,
-    bytes: &[u8],
-    frame: &Frame,
-)
-    requires sound { IsSoundIn bytes.now frame.now }
-    requires fits { orders.old + 1 < 2 ^ 32 }
-    ensures { (fields : List FieldValue) → HasFieldsIn bytes.now frame.now fields
-        → orders.new ≡ orders_with fields orders.old }
-{
-    if is_order(kind_of(type_text(bytes, frame))) {
-        gate.before(session, *orders);
-        *orders += 1;
+/// A session and the gate that it calls as it takes up an order. Contracts see the session.
+#[derive(Drop)]
+pub(crate) struct AtGate<'a, H: Hand, M: Hand, K: Screen, V: Sink, C: Sink, G: Gate> {
+    pub(crate) gate: NumberedGate<'a, G>,
+    pub(crate) session: Session<'a, H, M, K, V, C>,
+}
+
+impl<'a, H: Hand, M: Hand, K: Screen, V: Sink, C: Sink, G: Gate> Model
+    for AtGate<'a, H, M, K, V, C, G> {
+    ghost use Rattle.session_engine.specs.Running.{Running};
+
+    ghost Value = { Running H M K };
+
+    ghost view = { λ a. a.session };
+}
+
+impl<'a, H: Hand, M: Hand, K: Screen, V: Sink, C: Sink, G: Gate> TakesFrames
+    for AtGate<'a, H, M, K, V, C, G> {
+    ghost use Rattle.session_engine.specs.Running.{Continues, SinkFailed, TookFrames, frame_acts};
+    ghost use Rattle.session_engine.specs.Later.{continues_same, continues_next, fails_later};
+
+    ghost Took = { TookFrames K.meaning };
+
+    ghost IsAfter = { λ before now frames.
+        Continues H.SameOrigin M.SameOrigin before now (frame_acts * frames) };
+
+    ghost Failed = { SinkFailed };
+
+    /// Before an order, a sound frame of type D or G, the gate is called with the session's number and
+    /// the order's, both from 0. None of its fields was read yet but its type.
+    fn take_frame(&mut self, bytes: &[u8], frame: &Frame) -> Result<(), PortFault> {
+        self.session.reserve()?;
+        let Some(sound) = SoundFrame::of(bytes, frame) else {
+            self.session.note_frame(Note::NotSound);
+            return Ok(());
+        };
+        if let Some(order) = self.session.count_order(&sound) {
+            self.gate.gate.before(self.gate.number, order);
+        }
+        self.session.take_sound(&sound)
     }
+
+    ghost after_none = { λ a.
+        continues_same H.SameOrigin M.SameOrigin H.origin_same M.origin_same a 0 };
+
+    ghost after_next = { λ a b c one two.
+        continues_next H.SameOrigin M.SameOrigin H.origin_next M.origin_next a b c one two };
+
+    ghost failed_later = { λ a b c count.
+        fails_later H.SameOrigin M.SameOrigin a b c (frame_acts * count) };
 }

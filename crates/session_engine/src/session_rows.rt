@@ -1,7 +1,5 @@
 //! Sessions over plain boards and ports in memory, with ample memory, as rows of tables: what comes
 //! in, and the journal and both streams that come of it. Bytes have a bar for SOH.
-ghost use Rattle.limit_table.specs.Files.{IsHeldByFile};
-
 use crate::{Hands, run_session};
 use fold_law::{Max, QUOTA, Sum};
 use gate_ports::{MemSink, MemSource, OpenGate};
@@ -92,16 +90,11 @@ fn run_over(
     limits: &Limits,
     screens: Vec<Box<dyn Screen + Send>>,
     ports: Ports,
-) -> Result<Run, Fail>
-    requires held { IsHeldByFile limits.now }
-{
-    assert!(rt;
-        1 <= limits.quota && limits.quota <= QUOTA,
-        "a quota in range"
-    );
+) -> Result<Run, Fail> {
+    assert!(rt; limits.quota() <= QUOTA, "a quota in range");
     let hands = Hands {
-        sum: PlainBoard::<Sum>::open(alloc, limits.halt_tree(), 1, limits.quota)?.hand(0),
-        halt: PlainBoard::<Max>::open(alloc, 1, 1, limits.quota)?.hand(0),
+        sum: PlainBoard::<Sum>::open(alloc, limits.halt_tree(), 1, limits.quota())?.hand(0),
+        halt: PlainBoard::<Max>::open(alloc, 1, 1, limits.quota())?.hand(0),
     };
     let Ports {
         source,

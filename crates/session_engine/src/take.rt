@@ -1,276 +1,172 @@
-//! Taking a frame.
-ghost use Rattle.std.specs.Prelude.{◌≡◌, ◌+◌, ◌≤◌, ◌<◌, List, map, vec_len, vec_capacity, ◌⊎◌};
-ghost use Rattle.screen_kit.specs.Screens.{ScreenValue};
-ghost use Rattle.fix_fields.specs.Places.{IsSoundIn};
-ghost use Rattle.gate_ports.specs.Faults.{Rose};
-ghost use Rattle.limit_table.specs.Files.{IsHeldByFile};
-ghost use Rattle.hand_acts.specs.Steps.{InStep};
-ghost use Rattle.order_desk.specs.Backing.{Covers};
-ghost use Rattle.order_desk.specs.Values.{roomless};
-ghost use Rattle.session_engine.specs.Requests.{request_message};
-ghost use Rattle.session_engine.specs.Taken.{IsSomeFrame, ReadsAs, HasSmallCounts, CountsTrips};
-ghost use Rattle.session_engine.specs.Taken.{TakesAny, TakesSound, kept_by};
-ghost use Rattle.session_engine.specs.VenueReports.{report_message};
+//! Taking a sound frame: it is read, and what it says is decided on, applied or noted.
+ghost use Rattle.std.specs.Prelude.{◌≡◌, Err, IsOk};
+ghost use Rattle.fix_orders.specs.declared.message.Message.TheVariants as Message;
+ghost use Rattle.session_engine.specs.Running.{Continues, HasTaken, SinkFailed, IsReady, frame_acts};
+ghost use Rattle.session_engine.specs.Taken.{ReadsAs};
 
-use crate::answer::{Sinks, Step, answer_request, forward};
-use crate::decide::decide;
+use crate::answer::{forward, give_written};
+use crate::codes::{order_reason_of, request_reason_of, text_of};
 use crate::note::Note;
-use crate::order_gate::take_up;
-use crate::reject::reject_message;
-use crate::request::Request;
-use crate::settle::settle;
-use crate::state::State;
-use crate::telling::{note_frame, tell_answer, tell_effect};
-use crate::tripping::count_refusal;
-use crate::venue_report::VenueReport;
-use fix_fields::Frame;
-use fix_orders::{Message, Stamp, read_message};
-use gate_ports::{Gate, Sink};
-use hand_acts::{Hands, reserve_frame};
-use limit_table::Limits;
+use crate::session::Session;
+use fix_orders::{
+    Cancel, CancelReject, Message, NewOrder, Replace, Report, read_message, write_reject_cancel,
+    write_reject_order,
+};
+use frame_run::SoundFrame;
+use gate_ports::{PortFault, Sink};
+use order_desk::{decide_cancel, decide_new, decide_replace, settle_reject, settle_report};
 use risk_board::Hand;
-use risk_journal::End;
 use screen_kit::Screen;
 
-/// Takes a request: it is decided on, counted where it is refused as Firm, told and answered.
-fn take_request<H: Hand, M: Hand, K: Screen, V: Sink, C: Sink>(
-    limits: &Limits,
-    hands: &mut Hands<H, M>,
-    screens: &mut Vec<K>,
-    state: &mut State,
-    sinks: &mut Sinks<V, C>,
-    bytes: &[u8],
-    frame: &Frame,
-    request: &Request,
-) -> Step
-    requires read { ReadsAs bytes.now frame.now (request_message request.now) }
-    requires held { IsHeldByFile limits.now }
-    requires covers { Covers limits.now state.old.told.acts.items (roomless state.old.book) }
-    requires book_room { 1 ≤ state.old.book.room }
-    requires step { InStep limits.now (H.meaning hands.old.sum) (M.meaning hands.old.halt)
-        state.old.told.acts.items state.old.told.lasts.items }
-    requires sum_spare { 9 ≤ (H.meaning hands.old.sum).spare }
-    requires halt_spare { 2 ≤ (M.meaning hands.old.halt).spare }
-    requires room { vec_len state.old.told.acts + 13 ≤ vec_capacity state.old.told.acts }
-    requires counts { HasSmallCounts state.old.counts }
-    requires trips { CountsTrips limits.now state.old.told.acts.items state.old.counts }
-    ensures step { InStep limits.now (H.meaning hands.new.sum) (M.meaning hands.new.halt)
-        state.new.told.acts.items state.new.told.lasts.items }
-    ensures sum_origin { H.SameOrigin hands.old.sum hands.new.sum }
-    ensures halt_origin { M.SameOrigin hands.old.halt hands.new.halt }
-    ensures room { vec_len state.new.told.acts < vec_capacity state.new.told.acts }
-    ensures few { vec_len state.new.told.acts ≤ vec_len state.old.told.acts + 12 }
-    ensures taken { result ≡ Step.Taken → TakesSound limits.now bytes.now frame.now
-        (kept_by (map K.meaning screens.old.items) state.old sinks.old.client_id
-        (V.held sinks.old.venue) (C.held sinks.old.client))
-        (kept_by (map K.meaning screens.new.items) state.new sinks.new.client_id
-        (V.held sinks.new.venue) (C.held sinks.new.client)) }
-    ensures write_fault { result ≡ Step.Fault End.WriteFault
-        → Rose (V.faults sinks.old.venue) (V.faults sinks.new.venue)
-        ⊎ Rose (C.faults sinks.old.client) (C.faults sinks.new.client) }
-    ensures kinds { (result ≡ Step.Taken)
-        ⊎ ((result ≡ Step.Fault End.WriteFault) ⊎ (result ≡ Step.Fault End.Memory)) }
-    ensures venue_later { V.faults sinks.old.venue ≤ V.faults sinks.new.venue }
-    ensures client_later { C.faults sinks.old.client ≤ C.faults sinks.new.client }
-    ensures venue_name { V.name sinks.new.venue ≡ V.name sinks.old.venue }
-    ensures client_name { C.name sinks.new.client ≡ C.name sinks.old.client }
-{
-    let told = &mut state.told;
-    let refusal = decide(limits, hands, screens, told, &mut state.book, request);
-    count_refusal(limits, hands, told, &mut state.counts, refusal);
-    sinks.client_id = request.head().sender.owned();
-    let number = tell_answer(&mut state.told.acts, &mut state.counts, refusal);
-    answer_request(
-        sinks,
-        &mut state.writer,
-        bytes,
-        frame,
-        request,
-        number,
-        refusal,
-    )
-}
+/// CxlRejResponseTo (434) of a cancel (F) that is refused.
+const TO_CANCEL: u8 = 1;
 
-/// Takes a report: it is applied, what became of it is noted, and it is passed on to the client.
-fn take_report<H: Hand, M: Hand, V: Sink, C: Sink>(
-    limits: &Limits,
-    hands: &mut Hands<H, M>,
-    state: &mut State,
-    sinks: &mut Sinks<V, C>,
-    bytes: &[u8],
-    frame: &Frame,
-    report: &VenueReport,
-) -> Step
-    requires read { ReadsAs bytes.now frame.now (report_message report.now) }
-    requires held { IsHeldByFile limits.now }
-    requires covers { Covers limits.now state.old.told.acts.items (roomless state.old.book) }
-    requires book_room { 1 ≤ state.old.book.room }
-    requires step { InStep limits.now (H.meaning hands.old.sum) (M.meaning hands.old.halt)
-        state.old.told.acts.items state.old.told.lasts.items }
-    requires sum_spare { 9 ≤ (H.meaning hands.old.sum).spare }
-    requires halt_spare { 1 ≤ (M.meaning hands.old.halt).spare }
-    requires room { vec_len state.old.told.acts + 12 ≤ vec_capacity state.old.told.acts }
-    requires counts { HasSmallCounts state.old.counts }
-    ensures step { InStep limits.now (H.meaning hands.new.sum) (M.meaning hands.new.halt)
-        state.new.told.acts.items state.new.told.lasts.items }
-    ensures sum_origin { H.SameOrigin hands.old.sum hands.new.sum }
-    ensures halt_origin { M.SameOrigin hands.old.halt hands.new.halt }
-    ensures room { vec_len state.new.told.acts < vec_capacity state.new.told.acts }
-    ensures few { vec_len state.new.told.acts ≤ vec_len state.old.told.acts + 4 }
-    ensures taken { result ≡ Step.Taken → (screens : List ScreenValue)
-        → TakesSound limits.now bytes.now frame.now
-        (kept_by screens state.old sinks.old.client_id
-        (V.held sinks.old.venue) (C.held sinks.old.client))
-        (kept_by screens state.new sinks.new.client_id
-        (V.held sinks.new.venue) (C.held sinks.new.client)) }
-    ensures write_fault { result ≡ Step.Fault End.WriteFault
-        → Rose (V.faults sinks.old.venue) (V.faults sinks.new.venue)
-        ⊎ Rose (C.faults sinks.old.client) (C.faults sinks.new.client) }
-    ensures kinds { (result ≡ Step.Taken)
-        ⊎ ((result ≡ Step.Fault End.WriteFault) ⊎ (result ≡ Step.Fault End.Memory)) }
-    ensures venue_later { V.faults sinks.old.venue ≤ V.faults sinks.new.venue }
-    ensures client_later { C.faults sinks.old.client ≤ C.faults sinks.new.client }
-    ensures venue_name { V.name sinks.new.venue ≡ V.name sinks.old.venue }
-    ensures client_name { C.name sinks.new.client ≡ C.name sinks.old.client }
-{
-    let told = &mut state.told;
-    let effect = settle(limits, hands, told, &mut state.book, report);
-    tell_effect(&mut state.told.acts, &mut state.counts, effect);
-    let stamp = Stamp {
-        target: sinks.client_id,
-        seq: state.counts.client,
-        time: report.head().time.owned(),
-    };
-    forward(&mut sinks.client, &mut state.writer, bytes, frame, &stamp)
-}
+/// CxlRejResponseTo (434) of a replace (G) that is refused.
+const TO_REPLACE: u8 = 2;
 
-/// Takes a sound frame that was taken up.
-fn take_sound<H: Hand, M: Hand, K: Screen, V: Sink, C: Sink>(
-    limits: &Limits,
-    hands: &mut Hands<H, M>,
-    screens: &mut Vec<K>,
-    state: &mut State,
-    sinks: &mut Sinks<V, C>,
-    bytes: &[u8],
-    frame: &Frame,
-) -> Step
-    requires sound { IsSoundIn bytes.now frame.now }
-    requires held { IsHeldByFile limits.now }
-    requires covers { Covers limits.now state.old.told.acts.items (roomless state.old.book) }
-    requires book_room { 1 ≤ state.old.book.room }
-    requires step { InStep limits.now (H.meaning hands.old.sum) (M.meaning hands.old.halt)
-        state.old.told.acts.items state.old.told.lasts.items }
-    requires sum_spare { 9 ≤ (H.meaning hands.old.sum).spare }
-    requires halt_spare { 2 ≤ (M.meaning hands.old.halt).spare }
-    requires room { vec_len state.old.told.acts + 13 ≤ vec_capacity state.old.told.acts }
-    requires counts { HasSmallCounts state.old.counts }
-    requires trips { CountsTrips limits.now state.old.told.acts.items state.old.counts }
-    ensures step { InStep limits.now (H.meaning hands.new.sum) (M.meaning hands.new.halt)
-        state.new.told.acts.items state.new.told.lasts.items }
-    ensures sum_origin { H.SameOrigin hands.old.sum hands.new.sum }
-    ensures halt_origin { M.SameOrigin hands.old.halt hands.new.halt }
-    ensures room { vec_len state.new.told.acts < vec_capacity state.new.told.acts }
-    ensures few { vec_len state.new.told.acts ≤ vec_len state.old.told.acts + 12 }
-    ensures taken { result ≡ Step.Taken → TakesSound limits.now bytes.now frame.now
-        (kept_by (map K.meaning screens.old.items) state.old sinks.old.client_id
-        (V.held sinks.old.venue) (C.held sinks.old.client))
-        (kept_by (map K.meaning screens.new.items) state.new sinks.new.client_id
-        (V.held sinks.new.venue) (C.held sinks.new.client)) }
-    ensures write_fault { result ≡ Step.Fault End.WriteFault
-        → Rose (V.faults sinks.old.venue) (V.faults sinks.new.venue)
-        ⊎ Rose (C.faults sinks.old.client) (C.faults sinks.new.client) }
-    ensures kinds { (result ≡ Step.Taken)
-        ⊎ ((result ≡ Step.Fault End.WriteFault) ⊎ (result ≡ Step.Fault End.Memory)) }
-    ensures venue_later { V.faults sinks.old.venue ≤ V.faults sinks.new.venue }
-    ensures client_later { C.faults sinks.old.client ≤ C.faults sinks.new.client }
-    ensures venue_name { V.name sinks.new.venue ≡ V.name sinks.old.venue }
-    ensures client_name { C.name sinks.new.client ≡ C.name sinks.old.client }
-{
-    match read_message(bytes, frame) {
-        Err(fault) => reject_message(state, sinks, bytes, frame, &fault),
-        Ok(Message::New(order)) => {
-            let request = Request::New(order);
-            take_request(limits, hands, screens, state, sinks, bytes, frame, &request)
-        }
-        Ok(Message::Cancel(cancel)) => {
-            let request = Request::Cancel(cancel);
-            take_request(limits, hands, screens, state, sinks, bytes, frame, &request)
-        }
-        Ok(Message::Replace(replace)) => {
-            let request = Request::Replace(replace);
-            take_request(limits, hands, screens, state, sinks, bytes, frame, &request)
-        }
-        Ok(Message::Report(report)) => {
-            let report = VenueReport::Report(report);
-            take_report(limits, hands, state, sinks, bytes, frame, &report)
-        }
-        Ok(Message::CancelReject(reject)) => {
-            let report = VenueReport::CancelReject(reject);
-            take_report(limits, hands, state, sinks, bytes, frame, &report)
-        }
-        Ok(Message::Admin) => {
-            state.counts.frames += 1;
-            Step::Taken
-        }
-        Ok(Message::Other) => {
-            note_frame(&mut state.told.acts, &mut state.counts, Note::OtherType);
-            Step::Taken
+impl<'a, H: Hand, M: Hand, K: Screen, V: Sink, C: Sink> Session<'a, H, M, K, V, C> {
+    /// Takes an order (D): sent, it goes on to the venue; refused, the client is told so.
+    fn take_new(&mut self, sound: &SoundFrame<'_>, order: &NewOrder<'_>) -> Result<(), PortFault>
+        requires read { ReadsAs sound.now (Message.New order.now) }
+        requires ready { IsReady self.old }
+        ensures continues { Continues H.SameOrigin M.SameOrigin self.old self.new frame_acts }
+        ensures taken { IsOk result → HasTaken K.meaning sound.now self.old self.new }
+        ensures failed { result ≡ Err PortFault.Failed → SinkFailed self.old self.new }
+    {
+        self.desk.is_covered();
+        let refusal = decide_new(&mut self.desk, order);
+        let stamp = self.tell_answer(&order.head, refusal);
+        match refusal {
+            None => forward(&mut self.venue, &mut self.writer, sound, &stamp),
+            Some(why) => {
+                let text = text_of(why);
+                write_reject_order(
+                    &mut self.writer,
+                    sound.bytes(),
+                    sound.frame(),
+                    order,
+                    &stamp,
+                    order_reason_of(why),
+                    text.bytes(),
+                );
+                give_written(&mut self.client, &mut self.writer)
+            }
         }
     }
-}
 
-/// Takes a frame.
-pub(crate) fn take_frame<H: Hand, M: Hand, K: Screen, V: Sink, C: Sink, G: Gate>(
-    limits: &Limits,
-    gate: &G,
-    hands: &mut Hands<H, M>,
-    screens: &mut Vec<K>,
-    state: &mut State,
-    sinks: &mut Sinks<V, C>,
-    bytes: &[u8],
-    frame: &Frame,
-) -> Step
-    requires stands { IsSomeFrame bytes.now frame.now }
-    requires held { IsHeldByFile limits.now }
-    requires covers { Covers limits.now state.old.told.acts.items (roomless state.old.book) }
-    requires step { InStep limits.now (H.meaning hands.old.sum) (M.meaning hands.old.halt)
-        state.old.told.acts.items state.old.told.lasts.items }
-    requires room { vec_len state.old.told.acts < vec_capacity state.old.told.acts }
-    requires counts { HasSmallCounts state.old.counts }
-    requires orders { state.old.counts.orders ≤ state.old.counts.frames }
-    requires trips { CountsTrips limits.now state.old.told.acts.items state.old.counts }
-    ensures step { InStep limits.now (H.meaning hands.new.sum) (M.meaning hands.new.halt)
-        state.new.told.acts.items state.new.told.lasts.items }
-    ensures sum_origin { H.SameOrigin hands.old.sum hands.new.sum }
-    ensures halt_origin { M.SameOrigin hands.old.halt hands.new.halt }
-    ensures room { vec_len state.new.told.acts < vec_capacity state.new.told.acts }
-    ensures few { vec_len state.new.told.acts ≤ vec_len state.old.told.acts + 12 }
-    ensures taken { result ≡ Step.Taken → TakesAny limits.now bytes.now frame.now
-        (kept_by (map K.meaning screens.old.items) state.old sinks.old.client_id
-        (V.held sinks.old.venue) (C.held sinks.old.client))
-        (kept_by (map K.meaning screens.new.items) state.new sinks.new.client_id
-        (V.held sinks.new.venue) (C.held sinks.new.client)) }
-    ensures write_fault { result ≡ Step.Fault End.WriteFault
-        → Rose (V.faults sinks.old.venue) (V.faults sinks.new.venue)
-        ⊎ Rose (C.faults sinks.old.client) (C.faults sinks.new.client) }
-    ensures kinds { (result ≡ Step.Taken)
-        ⊎ ((result ≡ Step.Fault End.WriteFault) ⊎ (result ≡ Step.Fault End.Memory)) }
-    ensures venue_later { V.faults sinks.old.venue ≤ V.faults sinks.new.venue }
-    ensures client_later { C.faults sinks.old.client ≤ C.faults sinks.new.client }
-    ensures venue_name { V.name sinks.new.venue ≡ V.name sinks.old.venue }
-    ensures client_name { C.name sinks.new.client ≡ C.name sinks.old.client }
-{
-    if reserve_frame(hands, &mut state.told.acts).is_err() {
-        return Step::Fault(End::Memory);
+    /// Takes a cancel (F): sent, it goes on to the venue; refused, the client is told so.
+    fn take_cancel(&mut self, sound: &SoundFrame<'_>, cancel: &Cancel<'_>) -> Result<(), PortFault>
+        requires read { ReadsAs sound.now (Message.Cancel cancel.now) }
+        requires ready { IsReady self.old }
+        ensures continues { Continues H.SameOrigin M.SameOrigin self.old self.new frame_acts }
+        ensures taken { IsOk result → HasTaken K.meaning sound.now self.old self.new }
+        ensures failed { result ≡ Err PortFault.Failed → SinkFailed self.old self.new }
+    {
+        let refusal = decide_cancel(&mut self.desk, cancel);
+        let stamp = self.tell_answer(&cancel.head, refusal);
+        match refusal {
+            None => forward(&mut self.venue, &mut self.writer, sound, &stamp),
+            Some(why) => {
+                let text = text_of(why);
+                write_reject_cancel(
+                    &mut self.writer,
+                    &cancel.id,
+                    &cancel.orig,
+                    &stamp,
+                    TO_CANCEL,
+                    request_reason_of(why),
+                    text.bytes(),
+                );
+                give_written(&mut self.client, &mut self.writer)
+            }
+        }
     }
-    if state.book.reserve_one().is_err() {
-        return Step::Fault(End::Memory);
+
+    /// Takes a replace (G): sent, it goes on to the venue; refused, the client is told so.
+    fn take_replace(
+        &mut self,
+        sound: &SoundFrame<'_>,
+        replace: &Replace<'_>,
+    ) -> Result<(), PortFault>
+        requires read { ReadsAs sound.now (Message.Replace replace.now) }
+        requires ready { IsReady self.old }
+        ensures continues { Continues H.SameOrigin M.SameOrigin self.old self.new frame_acts }
+        ensures taken { IsOk result → HasTaken K.meaning sound.now self.old self.new }
+        ensures failed { result ≡ Err PortFault.Failed → SinkFailed self.old self.new }
+    {
+        self.desk.is_covered();
+        let refusal = decide_replace(&mut self.desk, replace);
+        let stamp = self.tell_answer(&replace.head, refusal);
+        match refusal {
+            None => forward(&mut self.venue, &mut self.writer, sound, &stamp),
+            Some(why) => {
+                let text = text_of(why);
+                write_reject_cancel(
+                    &mut self.writer,
+                    &replace.id,
+                    &replace.orig,
+                    &stamp,
+                    TO_REPLACE,
+                    request_reason_of(why),
+                    text.bytes(),
+                );
+                give_written(&mut self.client, &mut self.writer)
+            }
+        }
     }
-    if frame.sound {
-        let session = state.session;
-        take_up(gate, session, &mut state.counts.orders, bytes, frame);
-        return take_sound(limits, hands, screens, state, sinks, bytes, frame);
+
+    /// Takes an execution report (8): it is applied, and goes on to the client.
+    fn take_report(&mut self, sound: &SoundFrame<'_>, report: &Report<'_>) -> Result<(), PortFault>
+        requires read { ReadsAs sound.now (Message.Report report.now) }
+        requires ready { IsReady self.old }
+        ensures continues { Continues H.SameOrigin M.SameOrigin self.old self.new frame_acts }
+        ensures taken { IsOk result → HasTaken K.meaning sound.now self.old self.new }
+        ensures failed { result ≡ Err PortFault.Failed → SinkFailed self.old self.new }
+    {
+        let effect = settle_report(&mut self.desk, report);
+        let stamp = self.tell_effect(&report.head, effect);
+        forward(&mut self.client, &mut self.writer, sound, &stamp)
     }
-    note_frame(&mut state.told.acts, &mut state.counts, Note::NotSound);
-    Step::Taken
+
+    /// Takes a cancel reject (9): it is applied, and goes on to the client.
+    fn take_cancel_reject(
+        &mut self,
+        sound: &SoundFrame<'_>,
+        reject: &CancelReject<'_>,
+    ) -> Result<(), PortFault>
+        requires read { ReadsAs sound.now (Message.CancelReject reject.now) }
+        requires ready { IsReady self.old }
+        ensures continues { Continues H.SameOrigin M.SameOrigin self.old self.new frame_acts }
+        ensures taken { IsOk result → HasTaken K.meaning sound.now self.old self.new }
+        ensures failed { result ≡ Err PortFault.Failed → SinkFailed self.old self.new }
+    {
+        let effect = settle_reject(&mut self.desk, reject);
+        let stamp = self.tell_effect(&reject.head, effect);
+        forward(&mut self.client, &mut self.writer, sound, &stamp)
+    }
+
+    /// Takes a sound frame that was taken up.
+    pub(crate) fn take_sound(&mut self, sound: &SoundFrame<'_>) -> Result<(), PortFault>
+        requires ready { IsReady self.old }
+        ensures continues { Continues H.SameOrigin M.SameOrigin self.old self.new frame_acts }
+        ensures taken { IsOk result → HasTaken K.meaning sound.now self.old self.new }
+        ensures failed { result ≡ Err PortFault.Failed → SinkFailed self.old self.new }
+    {
+        match read_message(sound.bytes(), sound.frame()) {
+            Err(fault) => self.take_faulty(sound, &fault),
+            Ok(Message::New(order)) => self.take_new(sound, &order),
+            Ok(Message::Cancel(cancel)) => self.take_cancel(sound, &cancel),
+            Ok(Message::Replace(replace)) => self.take_replace(sound, &replace),
+            Ok(Message::Report(report)) => self.take_report(sound, &report),
+            Ok(Message::CancelReject(reject)) => self.take_cancel_reject(sound, &reject),
+            Ok(Message::Admin) => {
+                self.counts.frames += 1;
+                Ok(())
+            }
+            Ok(Message::Other) => {
+                self.note_frame(Note::OtherType);
+                Ok(())
+            }
+        }
+    }
 }

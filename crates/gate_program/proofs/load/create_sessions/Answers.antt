@@ -7,6 +7,7 @@ use Rattle.std.specs.Prelude.{Some, None}
 use Rattle.gate_ports.specs.Objects.{SureState}
 use Rattle.gate_program.specs.CommandOf.{run_value}
 use Rattle.gate_program.specs.Objects.{objects_of}
+use Rattle.gate_program.proofs.Early.{leaves_empty}
 use Rattle.gate_program.proofs.Folder.{each_own_later}
 use Rattle.gate_program.proofs.Created.{creates_named, named_by_venue, next_created, none_created}
 use Rattle.gate_program.specs.declared.open.Opened.{Opened}
@@ -48,6 +49,11 @@ returns-in-Err-clause-err g c =
     (omega (arith, length-map c.args.run.now.sessions.now string_bytes, below))
     names.venue names.client c.loop-session.invariant.created.went c.close_sessions.ensures.went
     c.in-Err.ensures.err
+    (leaves_empty (run_value c.args.run.now) _ _ _ _ _ session _
+    (length-map c.loop-session.all.items (objects_of (λ (s : SureState). Some s.left) (λ s. None)
+    (λ s. 0) g.D.Out.Sink.held g.D.Out.Sink.name g.D.Out.Sink.faults)
+    ∙ c.loop-session.invariant.many)
+    names.venue c.loop-session.invariant.created c.in-Err.ensures.left c.close_sessions.ensures)
 
 pub loop-session-preserved : goal.loop-session-preserved
 loop-session-preserved g c =

@@ -4,7 +4,8 @@ use Rattle.std.proofs.Common.{length-append}
 use Rattle.std.proofs.lemmas.List.{length-map, map-append}
 use Rattle.gate_program.specs.CommandOf.{run_value}
 use Rattle.gate_program.specs.Objects.{objects_of}
-use Rattle.gate_program.proofs.Folder.{each_own_later}
+use Rattle.gate_program.proofs.Early.{leaves_empty}
+use Rattle.gate_program.proofs.Folder.{created, each_own_later}
 use Rattle.gate_program.proofs.Closings.{opens_named, next_opened, unopened_named}
 use Rattle.gate_program.proofs.Sessions.{name_at, outputs_at, session_apart}
 use Rattle.gate_program.proofs.open.open_sessions.Goals as goal
@@ -27,6 +28,12 @@ returns-in-Err-clause-err g c =
     c.as_str.ensures.value)
     names.venue names.client c.loop-session.invariant.opened.went c.close_sessions.ensures.went
     c.in-Err.ensures.err
+    (leaves_empty (run_value c.args.run.now) _ _ _ _ _ session _
+    (length-map c.loop-session.all.items (objects_of g.D.In.Source.left g.D.In.Source.name
+    g.D.In.Source.faults g.D.Out.Sink.held
+    g.D.Out.Sink.name g.D.Out.Sink.faults) ∙ c.loop-session.invariant.many)
+    names.venue (created (run_value c.args.run.now) _ _ _ c.loop-session.invariant.opened)
+    c.in-Err.ensures.left c.close_sessions.ensures)
 
 pub loop-session-preserved : goal.loop-session-preserved
 loop-session-preserved g c =

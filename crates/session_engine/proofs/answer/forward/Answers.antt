@@ -6,8 +6,8 @@ use Rattle.fix_orders.specs.Writing.{forward_fields}
 use Rattle.session_engine.specs.Answers.{stamp_of, forward_text}
 use Rattle.session_engine.proofs.answer.forward.Goals as goal
 
-pub returns-clause-taken : goal.returns-clause-taken
-returns-clause-taken g c = λ taken fields has.
+pub returns-clause-given : goal.returns-clause-given
+returns-clause-given g c = λ taken fields has.
     let stamp = c.args.stamp.now in
     let same : message_text (forward_fields stamp fields)
     ≡ forward_text stamp.target stamp.seq fields =
@@ -15,5 +15,5 @@ returns-clause-taken g c = λ taken fields has.
     (c.requires.time fields has) in
     let P : List ℕ → Type 0 = λ m. Appends (g.S.Sink.held c.args.sink.now)
     (g.S.Sink.held c.give_written.new.sink) m in
-    subst P same (c.give_written.ensures.taken taken (forward_fields stamp fields)
-    (c.write_forward.ensures fields has))
+    subst P same (c.give_written.ensures.given taken (forward_fields stamp fields)
+    (c.write_forward.ensures fields (rw (c.bytes.ensures.bytes, c.frame.ensures.frame) has)))

@@ -1,0 +1,229 @@
+-- A session that decided, told and gave has taken its frame.
+use Rattle.std.proofs.Common.{◌≡◌, ℕ, List, [], ◌∷◌, ◌++◌, map, refl, sym, ap, ◌∙◌, subst, codes, arith}
+use Rattle.std.specs.Prelude.{Option, Some, None}
+use Rattle.std.specs.Io.KnownBytes.{Appends}
+use Rattle.exposure_book.specs.Books.{BookValue}
+use Rattle.fix_fields.specs.Fields.{FieldValue}
+use Rattle.fix_fields.specs.Places.{HasFieldsIn}
+use Rattle.screen_kit.specs.Screens.{ScreenValue}
+use Rattle.frame_run.specs.Frames.{FrameIn}
+use Rattle.frame_run.specs.Sinks.{SinkValue, IsLaterSink}
+use Rattle.order_desk.specs.declared.effect.Effect.{Effect}
+use Rattle.order_desk.specs.declared.refusal.Refusal.{Refusal}
+use Rattle.order_desk.specs.Decisions.{Decides}
+use Rattle.order_desk.specs.Desks.{DeskValue, IsLater}
+use Rattle.order_desk.specs.Reported.{Settled}
+use Rattle.session_engine.specs.declared.counts.Counts.{Counts}
+use Rattle.session_engine.specs.Later.{continues_then, same_sink, later_sink}
+use Rattle.session_engine.specs.Running.{Running, Continues, kept_of, TellsAnswer, frame_acts}
+use Rattle.fix_orders.specs.declared.message.Stamp.{Stamp}
+use Rattle.session_engine.specs.Answers.{Wording, forward_text}
+use Rattle.session_engine.specs.Taken.{Kept, TakesSound, ReadsAs, answer_act, answer_stamp, note_acts, note_by, counted_client}
+use Rattle.session_engine.specs.Trips.{acts_tripped}
+use Rattle.session_engine.proofs.MessageFacts.{RequestFacts, ReportFacts}
+use Rattle.session_engine.proofs.ReportFrames.{Told, takes_report}
+use Rattle.session_engine.proofs.RequestFrames.{Asked, Answers, IsAnswered, takes_request}
+
+-- the answer to a request has the request's time
+pub answer_time : (refusal : Option Refusal) (time client_id : List ℕ) (counts : Counts)
+    → (answer_stamp refusal time client_id counts).time ≡ time
+answer_time None time client_id counts = refl
+answer_time (Some why) time client_id counts = refl
+
+module _ {H M K : Type 0} (meaning : K → ScreenValue) where
+  -- what is kept, with what the sinks hold after they were given to
+  abbrev pub given : Running H M K → Option (List ℕ) → Option (List ℕ) → Kept
+  given told venue client = record (kept_of meaning told) { venue = venue; client = client }
+
+  -- what was sent is its answer
+  pub sent_answer : (wording : Wording) (fields : List FieldValue) (refusal : Option Refusal)
+      (time : List ℕ) (now told : Running H M K) (venue : Option (List ℕ)) (stamp : Stamp)
+      → told ≡ now → refusal ≡ None
+      → stamp ≡ answer_stamp refusal time now.client_id now.counts
+      → Appends told.venue.held venue (forward_text stamp.target stamp.seq fields)
+      → IsAnswered wording fields refusal (kept_of meaning told)
+      (given told venue told.client.held)
+  sent_answer wording fields (Some why) time now told venue stamp told_is is stamp_is gives =
+      absurd cc
+  sent_answer wording fields None time now told venue stamp told_is is stamp_is gives = (
+    subst (λ (c : Counts). Appends told.venue.held venue
+        (forward_text (codes "VENUE") c.venue fields))
+        (sym (ap (λ (r : Running H M K). r.counts) told_is))
+        (subst (λ (s : Stamp). Appends told.venue.held venue
+        (forward_text s.target s.seq fields)) stamp_is gives),
+    refl,
+  )
+
+  -- and so is what refuses it
+  pub refused_answer : (wording : Wording) (fields : List FieldValue) (refusal : Option Refusal)
+      (why : Refusal) (time : List ℕ) (now told : Running H M K) (client : Option (List ℕ))
+      (stamp : Stamp) → told ≡ now → refusal ≡ Some why
+      → stamp ≡ answer_stamp refusal time now.client_id now.counts
+      → Appends told.client.held client (wording stamp.target stamp.seq fields why)
+      → IsAnswered wording fields refusal (kept_of meaning told)
+      (given told told.venue.held client)
+  refused_answer wording fields None why time now told client stamp told_is is stamp_is gives =
+      absurd cc
+  refused_answer wording fields (Some other) why time now told client stamp told_is is stamp_is
+      gives =
+      let same : why ≡ other = cc in
+      let R : Running H M K → Type 0 = λ r. Appends told.client.held client
+      (wording r.client_id r.counts.client fields other) in (
+        refl,
+        subst R (sym told_is)
+            (subst (λ (s : Stamp). Appends told.client.held client
+            (wording s.target s.seq fields other)) stamp_is
+            (subst (λ (r : Refusal). Appends told.client.held client
+            (wording stamp.target stamp.seq fields r)) same gives)),
+      )
+
+  -- a request was decided on, told, and answered
+  pub request_taken : (asked : Asked) (sound : FrameIn) (own before : Running H M K)
+      (decided : DeskValue H M K) (refusal : Option Refusal) (now told : Running H M K)
+      (venue client : Option (List ℕ)) → before ≡ own → told ≡ now
+      → ReadsAs sound asked.message
+      → ((fields : List FieldValue) → HasFieldsIn sound.bytes sound.frame fields
+      → RequestFacts fields asked.head)
+      → decided.limits ≡ before.desk.limits
+      → Decides (asked.decide before.desk.limits (map meaning before.desk.screens))
+      before.desk.hands.acts decided.hands.acts before.desk.book.value decided.book.value refusal
+      → map meaning decided.screens
+      ≡ asked.screens before.desk.limits (map meaning before.desk.screens) before.desk.book.value
+      → TellsAnswer refusal asked.head.sender (record before { desk = decided }) now
+      → ((fields : List FieldValue) → HasFieldsIn sound.bytes sound.frame fields
+      → IsAnswered asked.wording fields refusal (kept_of meaning told) (given told venue client))
+      → TakesSound own.desk.limits sound (kept_of meaning own) (given told venue client)
+  request_taken asked sound own before decided refusal now told venue client before_is told_is
+      reads facts limits decides screens tells answered =
+      let T : Running H M K → Type 0 = λ r. TakesSound r.desk.limits sound (kept_of meaning r)
+      (given told venue client) in
+      let tells_told = subst (TellsAnswer refusal asked.head.sender
+      (record before { desk = decided })) (sym told_is) tells in
+      subst T before_is (λ fields has session stands.
+      takes_request before.desk.limits fields asked session (facts fields has)
+      (reads.each fields has) (kept_of meaning before) (given told venue client) stands
+      decided.hands.acts refusal (parts fields has tells_told))
+    where
+      answered_from : (refusal : Option Refusal) (fields : List FieldValue)
+          → told.venue.held ≡ before.venue.held → told.client.held ≡ before.client.held
+          → IsAnswered asked.wording fields refusal (kept_of meaning told)
+          (given told venue client)
+          → IsAnswered asked.wording fields refusal (kept_of meaning before)
+          (given told venue client)
+      answered_from None fields venue_is client_is is = (
+        subst (λ v. Appends v venue (forward_text (codes "VENUE") told.counts.venue fields))
+            venue_is is.0,
+        is.1 ∙ client_is,
+      )
+      answered_from (Some why) fields venue_is client_is is = (
+        is.0 ∙ venue_is,
+        subst (λ v. Appends v client (asked.wording told.client_id told.counts.client fields why))
+            client_is is.1,
+      )
+
+      parts : (fields : List FieldValue) → HasFieldsIn sound.bytes sound.frame fields
+          → TellsAnswer refusal asked.head.sender (record before { desk = decided }) told
+          → Answers before.desk.limits fields asked refusal decided.hands.acts
+          (kept_of meaning before) (given told venue client)
+      parts fields has tells_told = record {
+        decides = subst (λ b. Decides
+            (asked.decide before.desk.limits (map meaning before.desk.screens))
+            before.desk.hands.acts decided.hands.acts before.desk.book.value b refusal)
+            (sym (ap (λ (r : Running H M K). r.desk.book.value) tells_told.others)) decides;
+        acts = tells_told.acts
+            ∙ ap (λ l. acts_tripped l refusal before.counts.firms decided.hands.acts
+            ++ answer_act before.counts.frames refusal ∷ []) limits;
+        screens = ap (λ (r : Running H M K). map meaning r.desk.screens) tells_told.others
+            ∙ screens;
+        counts = tells_told.counts;
+        client_id = tells_told.client_id;
+        answered = answered_from refusal fields
+            (ap (λ (r : Running H M K). r.venue.held) tells_told.others)
+            (ap (λ (r : Running H M K). r.client.held) tells_told.others) (answered fields has);
+      }
+
+  -- a report was settled, told, and passed on
+  pub report_taken : (report : Told) (sound : FrameIn) (own before : Running H M K)
+      (settled : DeskValue H M K) (effect : Effect) (now told : Running H M K)
+      (client : Option (List ℕ)) → before ≡ own → told ≡ now
+      → ReadsAs sound report.message
+      → ((fields : List FieldValue) → HasFieldsIn sound.bytes sound.frame fields
+      → ReportFacts fields report.head)
+      → settled.screens ≡ before.desk.screens
+      → report.settle before.desk.limits before.desk.book.value before.desk.hands.acts
+      ≡ record { effect = effect; acts = settled.hands.acts; book = settled.book.value }
+      → now.desk.hands.acts
+      ≡ settled.hands.acts ++ note_acts before.counts.frames (note_by effect)
+      → now ≡ record before {
+        desk = record settled { hands = now.desk.hands };
+        counts = counted_client before.counts;
+      }
+      → ((fields : List FieldValue) → HasFieldsIn sound.bytes sound.frame fields
+      → Appends told.client.held client (forward_text now.client_id now.counts.client fields))
+      → TakesSound own.desk.limits sound (kept_of meaning own)
+      (given told told.venue.held client)
+  report_taken report sound own before settled effect now told client before_is told_is reads
+      facts screens settles acts others passed =
+      let T : Running H M K → Type 0 = λ r. TakesSound r.desk.limits sound (kept_of meaning r)
+      (given told told.venue.held client) in
+      let N : Running H M K → Type 0 = λ r. TakesSound before.desk.limits sound
+      (kept_of meaning before) (given r r.venue.held client) in
+      let now_told : Running H M K → Type 0 = λ r. (fields : List FieldValue)
+      → HasFieldsIn sound.bytes sound.frame fields
+      → Appends r.client.held client (forward_text now.client_id now.counts.client fields) in
+      subst T before_is (subst N (sym told_is)
+      (from_now (subst now_told told_is passed)))
+    where
+      from_now : ((fields : List FieldValue) → HasFieldsIn sound.bytes sound.frame fields
+          → Appends now.client.held client
+          (forward_text now.client_id now.counts.client fields))
+          → TakesSound before.desk.limits sound (kept_of meaning before)
+          (given now now.venue.held client)
+      from_now passed_now fields has session stands =
+          let done : BookValue → Settled =
+          λ book. record { effect = effect; acts = settled.hands.acts; book = book } in
+          takes_report before.desk.limits fields report session (facts fields has)
+          (reads.each fields has) (kept_of meaning before) (given now now.venue.held client)
+          stands effect settled.hands.acts (record {
+            settled = settles
+                ∙ ap done (sym (ap (λ (r : Running H M K). r.desk.book.value) others));
+            acts = acts;
+            screens = ap (λ (r : Running H M K). map meaning r.desk.screens) others
+                ∙ ap (map meaning) screens;
+            counts = ap (λ (r : Running H M K). r.counts) others;
+            client_id = ap (λ (r : Running H M K). r.client_id) others;
+            venue = ap (λ (r : Running H M K). r.venue.held) others;
+            client = subst (λ v. Appends v client
+                (forward_text now.client_id now.counts.client fields))
+                (ap (λ (r : Running H M K). r.client.held) others) (passed_now fields has);
+          })
+
+-- a session that decided, told and answered the client goes on
+pub continues_answered : {H M K : Type 0} (SameSum : H → H → Type 0) (SameHalt : M → M → Type 0)
+    → ((a b c : H) → SameSum a b → SameSum b c → SameSum a c)
+    → ((a b c : M) → SameHalt a b → SameHalt b c → SameHalt a c)
+    → (own before : Running H M K) (decided : DeskValue H M K) (now told : Running H M K)
+    (client : SinkValue) → before ≡ own → told ≡ now
+    → IsLater SameSum SameHalt before.desk decided 10
+    → Continues SameSum SameHalt (record before { desk = decided }) now 2
+    → IsLaterSink told.client client
+    → Continues SameSum SameHalt own (record told { client = client }) frame_acts
+continues_answered {H} {M} {K} SameSum SameHalt next_sum next_halt own before decided now told
+    client before_is told_is later tells gives =
+    let C : Running H M K → Type 0 = λ r. Continues SameSum SameHalt r
+    (record told { client = client }) frame_acts in
+    let T : Running H M K → Type 0 = λ r. Continues SameSum SameHalt
+    (record before { desk = decided }) r 2 in
+    let told_too = subst T (sym told_is) tells in
+    let all : Continues SameSum SameHalt before told frame_acts =
+    continues_then SameSum SameHalt next_sum next_halt before (record before { desk = decided })
+    told 10 2 frame_acts (record {
+      desk_is = later;
+      venue_is = same_sink before.venue;
+      client_is = same_sink before.client;
+    }) told_too (omega arith) in
+    subst C before_is (record {
+      desk_is = all.desk_is;
+      venue_is = all.venue_is;
+      client_is = later_sink before.client told.client client all.client_is gives;
+    })

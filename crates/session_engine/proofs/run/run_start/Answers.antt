@@ -1,0 +1,78 @@
+-- The hands, the source and the sinks at the end.
+use Rattle.std.proofs.Common.{◌≡◌, refl, sym, ap, ◌∙◌, map, false, arith}
+use Rattle.std.specs.Prelude.{Result, Ok, Err, OnOk, is_err}
+use Rattle.frame_run.proofs.Streaming.{fetches_none}
+use Rattle.limit_table.specs.Trees.{halt_tree}
+use Rattle.risk_journal.specs.ActLists.{calls_below, calls_at}
+use Rattle.screen_kit.specs.Screens.{armed}
+use Rattle.frame_run.specs.Sinks.{SinkValue}
+use Rattle.session_engine.specs.Running.{Running}
+use Rattle.session_engine.proofs.RunLemmas.{took_none, follows_source}
+use Rattle.session_engine.proofs.run.run_start.Goals as goal
+
+-- where the screens were not armed, nothing was done
+pub returns-then-is_err-clause-sum : goal.returns-then-is_err-clause-sum
+returns-then-is_err-clause-sum g c =
+    let own = c.close.ensures.sum ∙ ap (λ (r : Running _ _ _). r.desk.hands.sum) c.open.ensures in
+    record {
+      origin = rw own (g.met.H.Hand.origin_same c.args.start.hands.sum);
+      calls_are = c.close.ensures.sum_calls
+          ∙ ap (λ (r : Running _ _ _). calls_below (halt_tree r.desk.limits) c.close.result.acts.items)
+          c.open.ensures;
+    }
+
+pub returns-then-is_err-clause-halt : goal.returns-then-is_err-clause-halt
+returns-then-is_err-clause-halt g c =
+    let own = c.close.ensures.halt ∙ ap (λ (r : Running _ _ _). r.desk.hands.halt) c.open.ensures in
+    record {
+      origin = rw own (g.met.M.Hand.origin_same c.args.start.hands.halt);
+      calls_are = c.close.ensures.halt_calls
+          ∙ ap (λ (r : Running _ _ _). calls_at (halt_tree r.desk.limits) c.close.result.acts.items)
+          c.open.ensures;
+    }
+
+pub returns-then-is_err-clause-source : goal.returns-then-is_err-clause-source
+returns-then-is_err-clause-source g c =
+    rw (c.close.ensures.source, c.close.ensures.end) (record {
+      fetched = fetches_none (g.S.Source.left c.args.source);
+      later = omega arith;
+      name_is = refl;
+      failed = λ is. absurd cc;
+      whole = λ is. absurd cc;
+    })
+
+pub take_input-end-requires : goal.take_input-end-requires
+take_input-end-requires g c = record {
+  fresh = took_none g.K.Screen.meaning c.open-2.result (rw c.open-2.ensures (record {
+    acts = c.requires.fresh.acts_are;
+    book = c.requires.book;
+    counts = refl;
+    client_id = refl;
+  }));
+}
+
+-- what holds of a value that is there
+on_ok : {X E P : Type 0} (r : Result X E) → OnOk r P → is_err r ≡ false → P
+on_ok (Ok x) on is = on
+on_ok (Err e) on is = absurd cc
+
+pub returns-clause-follows : goal.returns-clause-follows
+returns-clause-follows g c = λ by_input.
+    let now : Running _ _ _ = c.take_input-end.new.taker in
+    let view : c.session.inside.session ≡ now = c.session.view_is in
+    let screens = map g.K.Screen.meaning c.args.screens.items in
+    let ready = on_ok c.arm_all.result c.arm_all.ensures.ok
+    (sym c.is_err.ensures.value ∙ c.if-is_err.false)
+    ∙ ap (λ n. map (armed (record { repeat = n })) screens) c.repeat.ensures in
+    let takes = c.take_input-end.ensures.follows (rw c.close-2.ensures.end at by_input) in
+    let from_open = follows_source g.K.Screen.meaning c.open-2.result now
+    (g.S.Source.left c.args.source) c.take_input-end.result takes in
+    let from_start = rw c.open-2.ensures at from_open in
+    let from_armed = rw ready at from_start in
+    rw (
+      c.close-2.ensures.acts,
+      c.close-2.ensures.end,
+      ap (λ (s : SinkValue). s.held) c.close-2.ensures.venue,
+      ap (λ (s : SinkValue). s.held) c.close-2.ensures.client,
+      view,
+    ) from_armed

@@ -1,0 +1,89 @@
+-- What was read of the frame leads to the next session.
+use Rattle.std.proofs.Common.{◌≡◌, refl, sym, ◌∙◌, ap}
+use Rattle.std.specs.Prelude.{Ok}
+use Rattle.fix_orders.specs.declared.message.Message.{Message}
+use Rattle.fix_orders.specs.declared.message.Message.TheVariants as message
+use Rattle.fix_orders.specs.Reading.{read_of}
+use Rattle.session_engine.specs.Running.{kept_of}
+use Rattle.session_engine.specs.Taken.{Kept}
+use Rattle.session_engine.proofs.MessageFacts.{admin_is_no_request, other_is_no_request}
+use Rattle.session_engine.proofs.PassedFrames.{takes_admin, takes_other}
+use Rattle.session_engine.proofs.session.Session.take_sound.Goals as goal
+
+pub take_faulty-requires-clause-read : goal.take_faulty-requires-clause-read
+take_faulty-requires-clause-read g c = λ fields has.
+    sym (c.read_message.ensures fields (rw (c.bytes.ensures.bytes, c.frame.ensures.frame) has))
+    ∙ c.in-Err.is
+
+pub take_new-requires-clause-read : goal.take_new-requires-clause-read
+take_new-requires-clause-read g c = record {
+  is_sound = c.bytes.ensures.sound;
+  each = λ fields has.
+      sym (c.read_message.ensures fields (rw (c.bytes.ensures.bytes, c.frame.ensures.frame) has))
+      ∙ c.in-Ok-New.is ∙ ap (λ (m : Message). Ok m) c.in-Ok-New.field-0-is;
+}
+
+pub take_cancel-requires-clause-read : goal.take_cancel-requires-clause-read
+take_cancel-requires-clause-read g c = record {
+  is_sound = c.bytes.ensures.sound;
+  each = λ fields has.
+      sym (c.read_message.ensures fields (rw (c.bytes.ensures.bytes, c.frame.ensures.frame) has))
+      ∙ c.in-Ok-Cancel.is ∙ ap (λ (m : Message). Ok m) c.in-Ok-Cancel.field-0-is;
+}
+
+pub take_replace-requires-clause-read : goal.take_replace-requires-clause-read
+take_replace-requires-clause-read g c = record {
+  is_sound = c.bytes.ensures.sound;
+  each = λ fields has.
+      sym (c.read_message.ensures fields (rw (c.bytes.ensures.bytes, c.frame.ensures.frame) has))
+      ∙ c.in-Ok-Replace.is ∙ ap (λ (m : Message). Ok m) c.in-Ok-Replace.field-0-is;
+}
+
+pub take_report-requires-clause-read : goal.take_report-requires-clause-read
+take_report-requires-clause-read g c = record {
+  is_sound = c.bytes.ensures.sound;
+  each = λ fields has.
+      sym (c.read_message.ensures fields (rw (c.bytes.ensures.bytes, c.frame.ensures.frame) has))
+      ∙ c.in-Ok-Report.is ∙ ap (λ (m : Message). Ok m) c.in-Ok-Report.field-0-is;
+}
+
+pub take_cancel_reject-requires-clause-read : goal.take_cancel_reject-requires-clause-read
+take_cancel_reject-requires-clause-read g c = record {
+  is_sound = c.bytes.ensures.sound;
+  each = λ fields has.
+      sym (c.read_message.ensures fields (rw (c.bytes.ensures.bytes, c.frame.ensures.frame) has))
+      ∙ c.in-Ok-CancelReject.is ∙ ap (λ (m : Message). Ok m) c.in-Ok-CancelReject.field-0-is;
+}
+
+pub returns-in-Ok-Admin-clause-taken : goal.returns-in-Ok-Admin-clause-taken
+returns-in-Ok-Admin-clause-taken g c =
+    rw (← c.self.view_is) (λ taken fields has session own.
+    let read : read_of fields ≡ Ok message.Admin = sym (c.read_message.ensures fields
+    (rw (c.bytes.ensures.bytes, c.frame.ensures.frame) has)) ∙ c.in-Ok-Admin.is
+    ∙ ap (λ (m : Message). Ok m) c.in-Ok-Admin.field-0-is in
+    takes_admin c.self.inside.desk.limits fields session _ _ (admin_is_no_request fields read)
+    read own (record {
+      book = refl;
+      screens = refl;
+      counts = refl;
+      client_id = refl;
+      venue = refl;
+      client = refl;
+    }) refl)
+
+pub returns-in-Ok-Other-clause-taken : goal.returns-in-Ok-Other-clause-taken
+returns-in-Ok-Other-clause-taken g c = λ taken fields has session own.
+    let read : read_of fields ≡ Ok message.Other = sym (c.read_message.ensures fields
+    (rw (c.bytes.ensures.bytes, c.frame.ensures.frame) has)) ∙ c.in-Ok-Other.is
+    ∙ ap (λ (m : Message). Ok m) c.in-Ok-Other.field-0-is in
+    let noted = c.note_frame.ensures.noted in
+    takes_other c.args.self.now.desk.limits fields session
+    (kept_of g.K.Screen.meaning c.args.self.now) (kept_of g.K.Screen.meaning c.note_frame.new.self)
+    (other_is_no_request fields read) read own (record {
+      book = ap (λ (k : Kept). k.book) noted;
+      screens = ap (λ (k : Kept). k.screens) noted;
+      counts = ap (λ (k : Kept). k.counts) noted;
+      client_id = ap (λ (k : Kept). k.client_id) noted;
+      venue = ap (λ (k : Kept). k.venue) noted;
+      client = ap (λ (k : Kept). k.client) noted;
+    }) (ap (λ (k : Kept). k.acts) noted)
