@@ -29,13 +29,13 @@ is_itself : (n : ℕ) → (n == n) ≡ true
 is_itself n = grind (arith, nat_tests)
 
 -- the halt tree is one of the largest
-fold_halt : (limits : Limits) → fold_of limits (halt_tree limits) ≡ whole_of max 0
+pub fold_halt : (limits : Limits) → fold_of limits (halt_tree limits) ≡ whole_of max 0
 fold_halt limits =
     ap (λ (halts : Bool). cond halts (whole_of max 0) (whole_of sum_of 0))
     (is_itself (halt_tree limits))
 
 -- and has no limit
-no_halt_limit : (limits : Limits) → limit_of limits (halt_tree limits) ≡ None
+pub no_halt_limit : (limits : Limits) → limit_of limits (halt_tree limits) ≡ None
 no_halt_limit limits = slice_get_past (tree_limits limits) (halt_tree limits)
     (omega (
       arith,
@@ -45,7 +45,7 @@ no_halt_limit limits = slice_get_past (tree_limits limits) (halt_tree limits)
     ))
 
 -- a tree below the halt tree is one of sums
-fold_below : (limits : Limits) (tree : ℕ) → tree < halt_tree limits
+pub fold_below : (limits : Limits) (tree : ℕ) → tree < halt_tree limits
     → fold_of limits tree ≡ whole_of sum_of 0
 fold_below limits tree below =
     ap (λ (halts : Bool). cond halts (whole_of max 0) (whole_of sum_of 0))

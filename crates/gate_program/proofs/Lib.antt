@@ -23,6 +23,8 @@ pub mod Ways
 pub mod Sessions
 pub mod WholeInputs
 pub mod Made
+pub mod Agreed
+pub mod TreesTold
 pub mod LoadTold
 pub mod LoadRuns
 pub mod Sums

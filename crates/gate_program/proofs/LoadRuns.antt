@@ -59,7 +59,8 @@ pub venues_are : (out : List ℕ) (count : ℕ) (outputs : List Outputs) (names 
     → map string_bytes names ≡ map (venue_name out) (range_with_len 0 count)
 venues_are out count outputs names are named =
     named
-    ∙ venues_from out 0 outputs (λ place own is. (are.each place own is).venue)
+    ∙ venues_from out 0 outputs (λ place own is. (are.each place own is).venue
+    ∙ ap (venue_name out) (omega arith))
     ∙ ap (λ (n : ℕ). map (venue_name out) (range_with_len 0 n)) are.many
 
 -- there are as many of them
@@ -70,6 +71,26 @@ pub names_many : (out : List ℕ) (count : ℕ) (outputs : List Outputs) (names 
 names_many out count outputs names are named =
     sym (length-map names string_bytes) ∙ ap length named
     ∙ length-map outputs (λ (o : Outputs). string_bytes o.venue) ∙ are.many
+
+-- the same of the names as they are handed on
+module _ (out : List ℕ) (count : ℕ) (outputs first : List Outputs)
+    (names second : List (String Global)) (are : AreNames out count outputs)
+    (first_is : first ≡ outputs) (second_is : second ≡ names)
+    (named : map string_bytes names ≡ map (λ (o : Outputs). string_bytes o.venue) first) where
+  by_outputs : map string_bytes names ≡ map (λ (o : Outputs). string_bytes o.venue) outputs
+  by_outputs = named ∙ ap (map (λ (o : Outputs). string_bytes o.venue)) first_is
+
+  pub second_many : length second ≡ count
+  second_many = ap length second_is ∙ names_many out count outputs names are by_outputs
+
+  pub second_are : map string_bytes second ≡ map (venue_name out) (range_with_len 0 count)
+  second_are =
+      ap (map string_bytes) second_is ∙ venues_are out count outputs names are by_outputs
+
+  pub names_for : (third : List Outputs) → third ≡ outputs → AreNames out (length second) third
+  names_for third third_is =
+      subst (λ (n : ℕ). AreNames out n third) (sym second_many)
+      (subst (λ (all : List Outputs). AreNames out count all) (sym third_is) are)
 
 -- a load has as many sessions as were asked for
 pub load_many : (asked : Asked) → length (load_run asked).sessions ≡ asked.sessions
@@ -102,8 +123,10 @@ pub file_is : (asked : Asked) (session : ℕ) (text : List ℕ)
 file_is asked session text is =
     text_from _ 0 asked.sessions session text is ∙ ap (input_of asked) (omega arith)
 
-none_at : (count place : ℕ) → place < count
-    → set_of (replicate count ([] : List ScreenValue)) place ≡ []
+abbrev empty : List ScreenValue
+empty = []
+
+none_at : (count place : ℕ) → place < count → set_of (replicate count empty) place ≡ []
 none_at zero place below = absurd (omega arith)
 none_at (suc count) zero below = refl
 none_at (suc count) (suc place) below = none_at count place (omega arith)
@@ -115,23 +138,39 @@ no_set sets session are below =
     ap (λ (all : List (List ScreenValue)). set_of all session) are
     ∙ none_at session_most session below
 
+-- so many empty sets have no screen, by whatever each is
+pub no_screens_in : {A : Type 0} (f : A → ScreenValue) (sets : List (Vec A Global)) (count : ℕ)
+    → map (λ (set : Vec A Global). set.items) sets ≡ replicate count []
+    → map (λ (set : Vec A Global). map f set.items) sets ≡ replicate count []
+no_screens_in f [] zero are = refl
+no_screens_in f [] (suc count) are = absurd cc
+no_screens_in f (set ∷ sets) zero are = absurd cc
+no_screens_in {A} f (set ∷ sets) (suc count) are =
+    let none : set.items ≡ [] = cc in
+    let rest : map (λ (own : Vec A Global). own.items) sets ≡ replicate count [] = cc in
+    ap (λ (l : List A). map f l ∷ map (λ (own : Vec A Global). map f own.items) sets) none
+    ∙ ap (λ (l : List (List ScreenValue)). [] ∷ l) (no_screens_in f sets count rest)
+
 -- the limit file of a load gives limits, unless memory is wanting
-pub gives_limits : (P : ℕ → Type 0) (s : Status) → IsLimitFile limit_text load_limits
-    → GivesNoLimits limit_text s → (number_of s ≡ 8) ⊎ P (number_of s)
-gives_limits P (status.Limits why) file fault =
+pub gives_no_limits : (asked : Asked) (t0 : Option Texts) (r0 w0 : List ℕ → ℕ) (t1 : Option Texts)
+    (r1 w1 : List ℕ → ℕ) (s : Status) → IsLimitFile limit_text load_limits
+    → GivesNoLimits limit_text s
+    → (number_of s ≡ 8)
+    ⊎ LoadWent asked (shown t0 r0 w0 []) (shown t1 r1 w1 (told_text s)) (number_of s)
+gives_no_limits asked t0 r0 w0 t1 r1 w1 (status.Limits why) file fault =
     absurd (not_both limit_text load_limits why file fault)
-gives_limits P status.NotBuilt file other =
+gives_no_limits asked t0 r0 w0 t1 r1 w1 status.NotBuilt file other =
     absurd (served (ap is_served (one_limits limit_text other.file load_limits other.held file))
     other.unserved) where
       served : is_served other.file ≡ is_served load_limits
           → is_served other.file ≡ false → ⊥
       served same isnt = cc
-gives_limits P status.Memory file fault = inl refl
-gives_limits P status.Done file fault = absurd fault
-gives_limits P status.Usage file fault = absurd fault
-gives_limits P status.CutShort file fault = absurd fault
-gives_limits P status.ReadFault file fault = absurd fault
-gives_limits P status.WriteFault file fault = absurd fault
+gives_no_limits asked t0 r0 w0 t1 r1 w1 status.Memory file fault = inl refl
+gives_no_limits asked t0 r0 w0 t1 r1 w1 status.Done file fault = absurd fault
+gives_no_limits asked t0 r0 w0 t1 r1 w1 status.Usage file fault = absurd fault
+gives_no_limits asked t0 r0 w0 t1 r1 w1 status.CutShort file fault = absurd fault
+gives_no_limits asked t0 r0 w0 t1 r1 w1 status.ReadFault file fault = absurd fault
+gives_no_limits asked t0 r0 w0 t1 r1 w1 status.WriteFault file fault = absurd fault
 
 -- an output of a load could not be made
 unmade : (asked : Asked) (t0 : Option Texts) (r0 w0 : List ℕ → ℕ) (t1 : Option Texts)
@@ -172,8 +211,11 @@ files_small law asked is files are = small files (λ place own at.
     )))) where
       few : (session : ℕ) → session < 100 → length (input_of asked session) ≤ 20000000
       few session below =
-          omega (arith, law.size asked.number asked.orders session is.most_orders below,
-          is.most_orders)
+          omega (
+            arith,
+            law.size asked.number asked.orders session is.most_orders below,
+            is.most_orders,
+          )
 
       small : (all : List (Vec ℕ Global))
           → ((place : ℕ) (own : Vec ℕ Global) → slice_get all place ≡ Some own

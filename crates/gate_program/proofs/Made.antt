@@ -51,8 +51,11 @@ pub input_is_whole : FilesLaw → (asked : Asked) → IsAsked asked → (session
 input_is_whole law asked is session below =
     let split = law.frames asked.number asked.orders session is.most_orders below in
     record {
-      few = omega (arith, law.size asked.number asked.orders session is.most_orders below,
-          is.most_orders);
+      few = omega (
+        arith,
+        law.size asked.number asked.orders session is.most_orders below,
+        is.most_orders,
+      );
       frames = split.0;
       split = split.1;
     }

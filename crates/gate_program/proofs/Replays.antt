@@ -28,7 +28,9 @@ use Rattle.trail_replay.specs.Reads.{list_below}
 use Rattle.trail_replay.proofs.PreparedTables.{get_or-list_below}
 use Rattle.stamp_word.specs.Places.{IsLeast}
 use Rattle.risk_journal.proofs.PlacedEvents.{events_below, events_at}
-use Rattle.trail_replay.specs.Fronts.{IsLawful}
+use Rattle.trail_replay.specs.Arrays.{AreLines}
+use Rattle.trail_replay.specs.Fronts.{IsLawful, last_stamp}
+use Rattle.trail_replay.proofs.Walkable.{walkable}
 use Rattle.fold_law.specs.declared.limits.TheConstants.{LEAF}
 use Rattle.gate_program.specs.declared.forests.Forests.{Forests}
 use Rattle.gate_program.specs.declared.forests.Passes.{Passes}
@@ -219,12 +221,13 @@ module _ (trees : ℕ) (records : Records) (acts : List (List Act))
 
   total_of : (tree : ℕ) (own is : List Line) → own ≡ is
       → AllByRecursion (λ line. line.session < length (map (events_of tree) placed)) own
-      → length is < 2 ^ 32
+      → length is < 2 ^ 32 → AreLines LEAF is
       → All (λ value. value ≤ LEAF) (array_after 0 (components_of (length placed)) is)
       → HasTotal (length placed) own
-  total_of tree own is same sessions few leaves = record {
+  total_of tree own is same sessions few lines leaves = record {
     sessions = of_sessions tree own sessions;
     few = subst (λ (l : List Line). length l < 2 ^ 32) (sym same) few;
+    lines = subst (λ (l : List Line). AreLines LEAF l) (sym same) lines;
     leaves = subst (λ (l : List Line). All (λ value. value ≤ LEAF)
         (array_after 0 (components_of (length placed)) l)) (sym same) leaves;
   }
@@ -236,6 +239,7 @@ module _ (trees : ℕ) (records : Records) (acts : List (List Act))
         | inl below ↦ total_of tree own (history_of sums tree) (sum_is tree own below is)
             (sum_legal tree own below is).sessions
             (sum_laws.few sums tree left.lawful (sum_in tree below))
+            (walkable 0 LEAF sum_of sums tree (last_stamp sums tree) left.lawful)
             (sum_laws.leaves sums tree _ left.lawful (omega arith))
         | inr above ↦ at_halt tree own
             (omega (arith, inside, above, count_both (history_of sums) (history_of halts) trees)) is
@@ -248,6 +252,7 @@ module _ (trees : ℕ) (records : Records) (acts : List (List Act))
           subst (λ (n : ℕ). slice_get lines n ≡ Some own) same is in
           total_of trees own (history_of halts 0) (halt_is own there) (halt_legal own there).sessions
           (halt_laws.few halts 0 left.halt_lawful halt_in)
+          (walkable 0 LEAF max halts 0 (last_stamp halts 0) left.halt_lawful)
           (halt_laws.leaves halts 0 _ left.halt_lawful (omega arith))
 
   pub are_histories : AreHistories trees placed lines

@@ -12,6 +12,7 @@ pub mod Limits
 pub mod Statuses
 pub mod Forests
 pub mod Histories
+pub mod Agreeing
 pub mod Stages
 pub mod Objects
 pub mod Finish

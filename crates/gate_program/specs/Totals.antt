@@ -17,6 +17,7 @@ use Rattle.risk_journal.specs.declared.totals.TreeKind.{TreeKind}
 use Rattle.risk_journal.specs.declared.totals.TreeKind.TheVariants as kind
 use Rattle.risk_journal.specs.declared.totals.TreeTotal.{TreeTotal}
 use Rattle.risk_journal.specs.TotalsText.{totals_text}
+use Rattle.trail_replay.specs.Arrays.{AreLines}
 use Rattle.limit_table.specs.Trees.{halt_tree, fold_of, limit_of}
 
 abbrev pub is_sent : Act → Bool
@@ -98,11 +99,12 @@ abbrev pub totals_of : Limits → List (List Act) → List End → List (List Li
 totals_of limits acts ends lines status =
     totals_text (session_totals ends acts) (tree_totals_from limits (length acts) 0 lines) status
 
--- the lines of a tree have a total: each is of one of so many sessions, a `u32` counts them, and
--- the array behind them has leaf values alone
+-- the lines of a tree have a total: each is of one of so many sessions and has a leaf value, a `u32`
+-- counts them, and the array behind them has leaf values alone
 pub record HasTotal (many : ℕ) (own : List Line) : Type 0 where
   pub sessions : AllByRecursion (λ line. line.session < many) own
   pub few : length own < 2 ^ 32
+  pub lines : AreLines LEAF own
   pub leaves : All (λ value. value ≤ LEAF) (array_after 0 (components_of many) own)
 
 -- so have those of each tree

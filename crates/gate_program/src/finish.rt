@@ -4,6 +4,7 @@ ghost use Rattle.std.specs.Prelude.{OnOk, OnErr, IsErrOf};
 ghost use Rattle.std.specs.Io.KnownBytes.{Appends};
 ghost use Rattle.gate_program.specs.CommandOf.{run_value};
 ghost use Rattle.gate_program.specs.Finish.{HasAnswer, HasStood, HasFinished};
+ghost use Rattle.gate_program.specs.Histories.{AreLegalLines};
 ghost use Rattle.gate_program.specs.Telling.{told_of};
 ghost use Rattle.gate_program.specs.Totals.{HaveTotals};
 ghost use Rattle.gate_program.specs.Names.{AreNames};
@@ -76,18 +77,20 @@ fn answer_after<R: Threads + Sync>(
     alloc: Global,
     limits: &Limits,
     told: &Told,
-    journal: &Journal,
+    journal: Journal,
     ends: &[End],
     refused: bool,
 ) -> Answer
-    requires few { length journal.now.acts.items ≤ session_most }
-    requires ends { length ends.now ≡ length journal.now.acts.items }
-    requires acts { All (λ own. length own.items < 2 ^ 32) journal.now.acts.items }
-    requires lines { HaveTotals (length journal.now.acts.items)
-        (map (λ own. own.items) journal.now.lines.items) }
+    requires few { length journal.acts.items ≤ session_most }
+    requires ends { length ends.now ≡ length journal.acts.items }
+    requires acts { All (λ own. length own.items < 2 ^ 32) journal.acts.items }
+    requires lines { HaveTotals (length journal.acts.items)
+        (map (λ own. own.items) journal.lines.items) }
+    requires legal { AreLegalLines limits.now (map (λ own. own.items) journal.acts.items)
+        (map (λ own. own.items) journal.lines.items) }
     ensures { (answer_number result ≡ 8) ⊎ HasAnswer (told_of told.now limits.now)
-        (map (λ own. own.items) journal.now.acts.items) ends.now
-        (map (λ own. own.items) journal.now.lines.items) refused
+        (map (λ own. own.items) journal.acts.items) ends.now
+        (map (λ own. own.items) journal.lines.items) refused
         (answer_text result) (answer_number result) }
 {
     let status = standing(ends, refused);
@@ -107,26 +110,28 @@ fn keep_journal<R: Threads + Sync, D: Folder>(
     limits: &Limits,
     told: &Told,
     name: &str,
-    journal: &Journal,
+    journal: Journal,
     ends: &[End],
     folder: &mut D,
 ) -> Answer
-    requires few { length journal.now.acts.items ≤ session_most }
-    requires ends { length ends.now ≡ length journal.now.acts.items }
-    requires few_trees { length journal.now.lines.items < 2 ^ 32 }
-    requires acts { All (λ own. length own.items < 2 ^ 32) journal.now.acts.items }
-    requires lines { HaveTotals (length journal.now.acts.items)
-        (map (λ own. own.items) journal.now.lines.items) }
+    requires few { length journal.acts.items ≤ session_most }
+    requires ends { length ends.now ≡ length journal.acts.items }
+    requires few_trees { length journal.lines.items < 2 ^ 32 }
+    requires acts { All (λ own. length own.items < 2 ^ 32) journal.acts.items }
+    requires lines { HaveTotals (length journal.acts.items)
+        (map (λ own. own.items) journal.lines.items) }
+    requires legal { AreLegalLines limits.now (map (λ own. own.items) journal.acts.items)
+        (map (λ own. own.items) journal.lines.items) }
     ensures went { Went (folder_of D.texts D.read_faults D.write_faults folder.old)
         (folder_of D.texts D.read_faults D.write_faults folder.new) }
     ensures stood { (answer_number result ≡ 8) ⊎ HasStood (told_of told.now limits.now) name.now
         (folder_of D.texts D.read_faults D.write_faults folder.old)
         (folder_of D.texts D.read_faults D.write_faults folder.new)
-        (map (λ own. own.items) journal.now.acts.items) ends.now
-        (map (λ own. own.items) journal.now.lines.items)
+        (map (λ own. own.items) journal.acts.items) ends.now
+        (map (λ own. own.items) journal.lines.items)
         (answer_text result) (answer_number result) }
 {
-    let pieces = match journal_pieces(rt, alloc, journal) {
+    let pieces = match journal_pieces(rt, alloc, &journal) {
         Ok(pieces) => pieces,
         Err(Memory) => return Answer::Stopped(Status::Memory),
     };
@@ -164,6 +169,8 @@ pub(crate) fn finish<R: Threads + Sync, D: Folder, I: Inputs<D>>(
     requires acts { All (λ own. length own.items < 2 ^ 32) finished.journal.acts.items }
     requires lines { HaveTotals (length finished.journal.acts.items)
         (map (λ own. own.items) finished.journal.lines.items) }
+    requires legal { AreLegalLines limits.now (map (λ own. own.items) finished.journal.acts.items)
+        (map (λ own. own.items) finished.journal.lines.items) }
     requires act_count { length finished.journal.acts.items ≡ length run.now.sessions.now }
     requires end_count { length finished.ends.items ≡ length run.now.sessions.now }
     requires object_count { length finished.opened.items ≡ length run.now.sessions.now }
@@ -192,7 +199,7 @@ pub(crate) fn finish<R: Threads + Sync, D: Folder, I: Inputs<D>>(
         limits,
         told,
         names.journal.as_str(),
-        &journal,
+        journal,
         &ends,
         folder,
     )

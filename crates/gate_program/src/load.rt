@@ -42,8 +42,7 @@ pub(crate) fn input_names(alloc: Global, outputs: &[Outputs]) -> Result<Vec<Stri
 /// An empty set of screens for each session that there may be.
 pub(crate) fn no_screens(alloc: Global) -> Result<Vec<Vec<Box<dyn Screen + Send>>>, Memory>
     ensures sets { IfOk result (λ sets.
-        map (λ set. map (λ b. (Screen-box b).meaning b.value) set.items) sets.items
-        ≡ replicate session_most []) }
+        map (λ set. set.items) sets.items ≡ replicate session_most []) }
     ensures many { IfOk result (λ sets. length sets.items ≡ session_most) }
 {
     let mut sets = Vec::new(alloc);

@@ -2,6 +2,7 @@
 //! totals.
 #![tactic(auto)]
 
+mod agreeing;
 mod close;
 mod command;
 mod completeness;
@@ -16,6 +17,8 @@ mod leaf_tests;
 mod limits;
 mod load;
 mod make;
+#[cfg(test)]
+mod make_tests;
 mod names;
 mod open;
 #[cfg(test)]

@@ -1,10 +1,12 @@
 //! The text that is told of sessions that have ended.
 ghost use Rattle.std.specs.Prelude.{◌≡◌, ◌^◌, ◌*◌, ◌≤◌, ◌<◌, length, map, All, IfOk, count_by};
+ghost use Rattle.gate_program.specs.Histories.{AreLegalLines};
 ghost use Rattle.gate_program.specs.Statuses.{number_of};
 ghost use Rattle.gate_program.specs.Telling.{is_read, reads_of, told_of};
 ghost use Rattle.gate_program.specs.Totals.{HaveTotals};
 ghost use Rattle.gate_program.specs.Words.{session_most};
 
+use crate::agreeing::compare_trees;
 use crate::status::Status;
 use crate::told::Told;
 use crate::totals::totals_text;
@@ -38,24 +40,27 @@ fn count_all_reads(acts: &[Vec<Act>]) -> u64
     reads
 }
 
-/// The text that is told of sessions that ended with this journal, these ends and this status.
+/// The text that is told of sessions that ended with this journal, these ends and this status. Before a
+/// summary the journal's trees are compared with what it tells.
 pub(crate) fn text_after<R: Threads + Sync>(
     rt: &R,
     alloc: Global,
     limits: &Limits,
     told: &Told,
-    journal: &Journal,
+    journal: Journal,
     ends: &[End],
     status: Status,
 ) -> Result<Vec<u8>, Memory>
-    requires few { length journal.now.acts.items ≤ session_most }
-    requires ends { length ends.now ≡ length journal.now.acts.items }
-    requires acts { All (λ own. length own.items < 2 ^ 32) journal.now.acts.items }
-    requires lines { HaveTotals (length journal.now.acts.items)
-        (map (λ own. own.items) journal.now.lines.items) }
+    requires few { length journal.acts.items ≤ session_most }
+    requires ends { length ends.now ≡ length journal.acts.items }
+    requires acts { All (λ own. length own.items < 2 ^ 32) journal.acts.items }
+    requires lines { HaveTotals (length journal.acts.items)
+        (map (λ own. own.items) journal.lines.items) }
+    requires legal { AreLegalLines limits.now (map (λ own. own.items) journal.acts.items)
+        (map (λ own. own.items) journal.lines.items) }
     ensures { IfOk result (λ text. text.items ≡ told_of told.now limits.now
-        (map (λ own. own.items) journal.now.acts.items) ends.now
-        (map (λ own. own.items) journal.now.lines.items) (number_of status)) }
+        (map (λ own. own.items) journal.acts.items) ends.now
+        (map (λ own. own.items) journal.lines.items) (number_of status)) }
 {
     match (told, status) {
         (Told::Summary(asked, counts), Status::Done) => {
@@ -63,8 +68,9 @@ pub(crate) fn text_after<R: Threads + Sync>(
                 reads: count_all_reads(&journal.acts),
                 ..*counts
             };
+            compare_trees(rt, alloc, limits, journal)?;
             summary_text(alloc, asked, &counts)
         }
-        _ => totals_text(rt, alloc, limits, journal, ends, status),
+        _ => totals_text(rt, alloc, limits, &journal, ends, status),
     }
 }

@@ -92,8 +92,7 @@ const STOPS: [(&str, &[&str], &[u8], u8, &[u8]); 15] = [
     ("no session", &WORDS, SMALL, 5, b"read fault\n"),
 ];
 
-const USAGE: &[u8] =
-    b"usage: gate run LIMITS OUT SESSION... | gate make NUMBER SESSIONS ORDERS\n";
+const USAGE: &[u8] = b"usage: gate run LIMITS OUT SESSION... | gate make NUMBER SESSIONS ORDERS\n";
 
 /// A limit file's text, the status and what is told. No session is there, so limits that are served
 /// end as a read fault.

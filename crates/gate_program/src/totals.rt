@@ -91,14 +91,14 @@ fn session_totals<R: Threads + Sync>(
 
 /// What the limit file says of a tree.
 #[derive(Drop)]
-struct Row {
+pub(crate) struct Row {
     kind: TreeKind,
     name: Id64,
-    limit: u64,
+    pub limit: u64,
 }
 
 /// What the limit file says of the tree of this number.
-fn row_of(limits: &Limits, tree: usize) -> Row
+pub(crate) fn row_of(limits: &Limits, tree: usize) -> Row
     ensures kind { result.kind ≡ kind_of limits.now tree }
     ensures name { result.name ≡ name_of limits.now tree }
     ensures limit { result.limit ≡ or_zero (limit_of limits.now tree) }

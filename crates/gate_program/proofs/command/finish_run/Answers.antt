@@ -14,6 +14,10 @@ finish-requires-clause-acts g c κs within =
     all_few c.in-Ok.journal.acts.items (map (λ own. own.items) c.args.ended.acts.items)
     c.in-Ok.ensures.acts c.requires.few
 
+pub finish-requires-clause-legal : goal.finish-requires-clause-legal
+finish-requires-clause-legal g c κs within =
+    c.in-Ok.ensures.legal c.args.limits.now c.requires.ran
+
 pub finish-requires-clause-few_trees : goal.finish-requires-clause-few_trees
 finish-requires-clause-few_trees g c κs within =
     let limits = c.args.limits.now in

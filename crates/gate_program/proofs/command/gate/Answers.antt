@@ -1,3 +1,14 @@
-use Rattle.gate_program.specs.CommandOf.{command_value}
+use Rattle.std.proofs.Common.{ap, sym, ◌∙◌}
+use Rattle.std.specs.Prelude.{Some}
+use Rattle.gate_program.specs.CommandOf.{command_value, run_value}
+use Rattle.gate_program.specs.Words.{Command}
+use Rattle.gate_program.specs.Words.Command.{Run}
 use Rattle.gate_program.proofs.Ways.{command_went}
 use Rattle.gate_program.proofs.command.gate.Goals as goal
+
+pub returns-in-Some-Run : goal.returns-in-Some-Run
+returns-in-Some-Run g c = record {
+  run = command_went _ _ (Run (run_value c.in-Some-Run.run')) _ _ _ _
+      (ap (λ (own : Command). Some own) (sym (ap command_value c.in-Some-Run.field-0-is))
+      ∙ c.in-Some-Run.ensures.command) c.run_and_tell.ensures;
+}

@@ -9,21 +9,11 @@ use Rattle.gate_program.specs.CommandOf.{run_value}
 use Rattle.gate_program.specs.Objects.{objects_of}
 use Rattle.gate_program.proofs.Early.{leaves_empty}
 use Rattle.gate_program.proofs.Folder.{each_own_later}
-use Rattle.gate_program.proofs.Created.{creates_named, named_by_venue, next_created, none_created}
-use Rattle.gate_program.specs.declared.open.Opened.{Opened}
+use Rattle.gate_program.proofs.Created.{creates_named, named_by_venue, next_created}
 use Rattle.gate_program.proofs.Created.{lefts_more, unmade_named}
 use Rattle.gate_program.proofs.Lists.{first_left, map_at, take_one}
 use Rattle.gate_program.proofs.Sessions.{outputs_at}
 use Rattle.gate_program.proofs.load.create_sessions.Goals as goal
-
-pub loop-session-init : goal.loop-session-init
-loop-session-init g c = record {
-  created = none_created _ _;
-  many = refl;
-  lefts = refl;
-  files = refl;
-  room = omega (arith, c.in-Ok.ensures.capacity, c.requires.files, c.requires.names.many);
-}
 
 pub close_sessions-requires-clause-few : goal.close_sessions-requires-clause-few
 close_sessions-requires-clause-few g c κs within = omega (
@@ -82,10 +72,11 @@ loop-session-preserved g c =
       many = ap length c.push_reserved.ensures.items
           ∙ length-append c.loop-session.all.items _
           ∙ ap (λ (n : ℕ). n + 1) c.loop-session.invariant.many;
-      lefts = ap (map (λ (own : Opened SureState g.D.Out). own.input.left)) c.push_reserved.ensures.items
-          ∙ lefts_more (λ (own : Opened SureState g.D.Out). own.input.left) c.loop-session.all.items _
+      lefts = ap (map _) c.push_reserved.ensures.items
+          ∙ lefts_more _ c.loop-session.all.items _
           (map (λ own. own.items) c.args.files.items) session c.loop-session.invariant.lefts
-          (map_at (λ own. own.items) c.args.files.items session c.remove.result taken.0);
+          (map_at (λ own. own.items) c.args.files.items session c.remove.result taken.0
+          ∙ ap (λ (s : SureState). Some s.left) (sym c.new.ensures));
       files = taken.1;
       room = omega (
         arith,

@@ -18,5 +18,5 @@ invariant-loop-session g l = record {
   lefts : map (λ own. own.input.left) l.all.items
       ≡ take l.session (map (λ own. own.items) l.initial.files.items);
   files : l.files.items ≡ drop l.session l.initial.files.items;
-  room : vec_len l.all + (length l.names.now - l.session) ≤ vec_capacity l.all;
+  room : vec_len l.all + (length l.names - l.session) ≤ vec_capacity l.all;
 }

@@ -6,7 +6,7 @@ use Rattle.gate_program.proofs.tasks.run_tasks.Goals as goal
 pub map_all-requires-after_bounds : goal.map_all-requires-after_bounds
 map_all-requires-after_bounds g c κs within =
     all_with _ _ c.args.tasks.items c.requires.ready (
+      record { owned = search; leaving = λ k. nothing_left (k (of_param 0)) },
       record { owned = search; leaving = λ k. nothing_left (k (of_param 1)) },
-      record { owned = search; leaving = λ k. nothing_left (k (of_param 2)) },
       search,
     )
