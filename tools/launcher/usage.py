@@ -20,12 +20,13 @@ has to be.
 
 `make` makes a load from a NUMBER below 4,294,967,296, of 1 to 32 SESSIONS with 1 to 10,000 ORDERS
 each, and runs it in memory: it reads no file, and writes the outputs into the folder load. Then it
-compares what every session read with a walk along each tree's history, and tells what it found.
+compares what every session read with a walk along each tree's history, and tells what it found. It
+ends with 0, 1, 2, 6 or 8 alone.
 
 `report`, with the words of a run that has ended, writes OUT/report.html and
 OUT/requests.csv about it.
 
-status of a run, of which a load has 0, 1, 2, 6 and 8 alone
+status of a run
   0  every session file was read to its end, and everything was written
   1  the program couldn't be built or started
   2  the command line is malformed, or names one file twice; nothing was read or written

@@ -81,7 +81,7 @@ class Words(InFolder):
         for words in (["--help"], ["-h"], ["run", "--help"], ["make", "-h"], ["report", "-h"]):
             status, out, error = self.gate(*words, env={"GATE_PROGRAM": None, "PATH": self.bare()})
             self.assertEqual((status, error), (0, ""))
-            of_run, of_report = out.split("status of a run")[1].split("status of a report\n")
+            of_run, of_report = out.split("status of a run\n")[1].split("status of a report\n")
             self.assertEqual(re.findall(r"^  ([0-9]+) ", of_run, re.M), [*"012345689", "128"])
             self.assertEqual(re.findall(r"^  ([0-9]+) ", of_report, re.M), [*"0234"])
             self.says(
