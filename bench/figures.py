@@ -273,7 +273,8 @@ def measured(group, asked):
     before = machine.load()
     with contextlib.redirect_stdout(sys.stderr):
         rows = group.rows(asked)
-    runs = f"{asked.runs} runs; " if group.is_repeated else ""
+    many = "" if asked.runs == 1 else "s"
+    runs = f"{asked.runs} run{many}; " if group.is_repeated else ""
     where = f"{place(asked)}; {runs}load {before} before and {machine.load()} after."
     return f"{where}\n\n{table(group.head, rows)}"
 
