@@ -144,7 +144,8 @@ class Command(unittest.TestCase):
         group = figures.Group("live", ("What",), wrong)
         told = io.StringIO()
         with contextlib.redirect_stdout(told), mock.patch("figures.put") as put:
-            self.assertFalse(figures.run_group(group, SimpleNamespace(write=True, gate=GATE, runs=1)))
+            asked = SimpleNamespace(write=True, gate=GATE, runs=1)
+            self.assertFalse(figures.run_group(group, asked))
         self.assertTrue("run 7 is wrong" in told.getvalue())
         put.assert_not_called()
 
