@@ -80,11 +80,16 @@ def run(program, kind, threads, pairs):
 
 
 def measure(programs, kind, threads, pairs, repetitions):
-    """The runs of all programs in turn, and a line for each program."""
+    """The runs of all programs in turn: for each program its rates and times."""
     runs = {name: [] for name in programs}
     for _ in range(repetitions):
         for name, program in programs.items():
             runs[name].append(run(program, kind, threads, pairs))
+    return runs
+
+
+def tell(kind, threads, runs):
+    """A line for each program."""
     for name, all_runs in runs.items():
         rates, times = zip(*all_runs)
         print(f"{kind:5}{threads:8}  {name:11}{statistics.median(rates):8.2f}{min(rates):8.2f}{max(rates):8.2f}"
@@ -101,8 +106,9 @@ def main():
         print("array threads  program      median  lowest highest   ns CPU")
         for kind in ("one", "own"):
             for threads in THREADS:
-                measure(programs, kind, threads, pairs, repetitions)
+                tell(kind, threads, measure(programs, kind, threads, pairs, repetitions))
         print("load after:", *("%.1f" % load for load in os.getloadavg()))
 
 
-main()
+if __name__ == "__main__":
+    main()

@@ -315,8 +315,9 @@ def arguments():
     return parser.parse_args()
 
 
-def main():
-    asked, counts, start = arguments(), Counter(), time.monotonic()
+def run_all(asked):
+    """Judges all runs. Gives the counts, or ends with status 1 at the first run that is wrong."""
+    counts = Counter()
     numbers = range(asked.runs) if asked.only is None else [asked.only]
     chunks = [numbers[at:at + CHUNK] for at in range(0, len(numbers), CHUNK)]
     with Pool(asked.jobs) as pool:
@@ -324,7 +325,12 @@ def main():
             counts += found
             if wrong:
                 stop(asked, *wrong)
-    tell(counts, time.monotonic() - start)
+    return counts
+
+
+def main():
+    asked, start = arguments(), time.monotonic()
+    tell(run_all(asked), time.monotonic() - start)
 
 
 if __name__ == "__main__":

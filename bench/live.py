@@ -90,6 +90,10 @@ class Line:
             time.sleep(0.0002)
         self.slowest = max(self.slowest, time.monotonic() - start)
 
+    def counts(self):
+        """How many orders were sent, and how many refused."""
+        return tuple(len(self.wanted[stream]) for stream in ("venue", "client"))
+
     def held(self, stream):
         """What one of its two files holds; None where it isn't there yet."""
         try:
@@ -120,8 +124,8 @@ def talk(lines, asked):
         os.close(line.pipe)
 
 
-def main():
-    asked = arguments()
+def run_all(asked):
+    """Runs the program over the sessions, and gives their lines; or ends with what is wrong."""
     with tempfile.TemporaryDirectory() as folder:
         os.mkdir(os.path.join(folder, "out"))
         limits = os.path.join(folder, "limits.csv")
@@ -136,14 +140,19 @@ def main():
                 told, _ = gate.communicate(timeout=asked.seconds)
             finally:
                 gate.kill()
-        for line in lines:
-            sent, refused = (len(line.wanted[stream]) for stream in ("venue", "client"))
-            print(f"session {line.session}: {sent} orders sent and {refused} refused, each "
-                  f"answered before the next was written, the slowest after "
-                  f"{line.slowest * 1000:.1f} ms")
-        if gate.returncode != 0 or not told.endswith("status 0\n"):
-            sys.exit(f"status {gate.returncode}: {told}")
-        print(f"{len(lines)} open at once; status 0")
+    if gate.returncode != 0 or not told.endswith("status 0\n"):
+        sys.exit(f"status {gate.returncode}: {told}")
+    return lines
+
+
+def main():
+    lines = run_all(arguments())
+    for line in lines:
+        sent, refused = line.counts()
+        print(f"session {line.session}: {sent} orders sent and {refused} refused, each "
+              f"answered before the next was written, the slowest after "
+              f"{line.slowest * 1000:.1f} ms")
+    print(f"{len(lines)} open at once; status 0")
 
 
 if __name__ == "__main__":

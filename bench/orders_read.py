@@ -139,7 +139,7 @@ def tell_differences(medians):
 
 
 def measure_file(programs, name, path, size, rounds, repetitions):
-    """The table of one file."""
+    """The table of one file. Gives the medians by program and work: by the clock and of the processor."""
     mean = size / MESSAGES
     print(f"{name}: {MESSAGES} messages of {mean:.0f} bytes, {rounds} rounds, {repetitions} repetitions")
     print("work     program         ns median  lowest highest   ns CPU   M/s CPU  MB/s CPU")
@@ -151,6 +151,7 @@ def measure_file(programs, name, path, size, rounds, repetitions):
             print(f"{work:9}{program:14}{middle:11.0f}{min(clock):8.0f}{max(clock):8.0f}{cpu:9.0f}"
                   f"{1000 / cpu:10.2f}{mean * 1000 / cpu:10.0f}", flush=True)
     tell_differences(medians)
+    return medians
 
 
 def main():
@@ -164,4 +165,5 @@ def main():
         print("load after:", *("%.1f" % load for load in os.getloadavg()))
 
 
-main()
+if __name__ == "__main__":
+    main()

@@ -74,4 +74,5 @@ def main():
         print("load after:", *("%.1f" % load for load in os.getloadavg()))
 
 
-main()
+if __name__ == "__main__":
+    main()

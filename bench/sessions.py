@@ -10,18 +10,21 @@ load of the machine.
 """
 import argparse
 import os
-import resource
+import re
 import statistics
 import subprocess
 import tempfile
 import time
+from dataclasses import dataclass
 
 from orders import order
 
 LIMITS = ("firm,,999999999999,,,\naccount,ACC,999999999999,,,\n"
-          "symbol,XYZ,999999999999,1,1000,1000000\n")
+          "symbol,XYZ,999999999999,1,1000,1000000\nquota,,200000,,,\n")
 HERE = os.path.dirname(os.path.abspath(__file__))
 PROGRAM = os.path.join(HERE, "..", "crates", "gate_program", "out", "gate_program")
+# How many runs the most memory is taken of, which are looked at and so not timed.
+LOOKED_AT = 3
 
 
 def write(folder, name, text):
@@ -37,19 +40,91 @@ def size(folder):
     return sum(os.path.getsize(os.path.join(folder, name)) for name in os.listdir(folder))
 
 
-def timed(words, out, processors):
-    """The seconds of a run on these processors, with new outputs, and the last line of it."""
-    for name in os.listdir(out):
-        os.remove(os.path.join(out, name))
-    start = time.perf_counter()
-    done = subprocess.run(words, check=True, capture_output=True, text=True,
-                          preexec_fn=lambda: os.sched_setaffinity(0, processors))
-    return time.perf_counter() - start, done.stdout.splitlines()[-1]
+def highest(process):
+    """The most memory that a process had so far, in bytes; 0 where it has ended."""
+    try:
+        with open(f"/proc/{process}/status", encoding="ascii") as file:
+            found = re.search(r"^VmHWM:\s+(\d+) kB$", file.read(), re.M)
+    except OSError:
+        return 0
+    return int(found[1]) * 1024 if found else 0
 
 
 def spread(seconds):
     """The median and the range."""
     return f"{statistics.median(seconds):.3f} s ({min(seconds):.3f} to {max(seconds):.3f})"
+
+
+class Runs:
+    """Runs of a program in a folder, over sessions of these texts."""
+
+    def __init__(self, gate, folder, texts):
+        self.out, self.inputs = os.path.join(folder, "out"), os.path.join(folder, "in")
+        os.mkdir(self.out)
+        os.mkdir(self.inputs)
+        names = [write(self.inputs, f"s{place:02}.fix", text) for place, text in enumerate(texts)]
+        self.words = [gate, "run", write(folder, "limits.csv", LIMITS), self.out] + names
+        self.last = ""
+
+    def clear(self):
+        """Takes the outputs of the last run away."""
+        for name in os.listdir(self.out):
+            os.remove(os.path.join(self.out, name))
+
+    def seconds(self, processors):
+        """The seconds of a run on these processors."""
+        self.clear()
+        start = time.perf_counter()
+        done = subprocess.run(self.words, check=True, capture_output=True, text=True,
+                              preexec_fn=lambda: os.sched_setaffinity(0, processors))
+        taken = time.perf_counter() - start
+        self.last = done.stdout.splitlines()[-1]
+        return taken
+
+    def memory(self):
+        """The most memory of a run, in bytes, of a few that are looked at again and again. What the
+        system tells of a process that has ended isn't taken: it has in it what the memory was
+        before the program was called, which is Python's."""
+        most = 0
+        for _ in range(LOOKED_AT):
+            self.clear()
+            with subprocess.Popen(self.words, stdout=subprocess.DEVNULL) as gate:
+                while gate.poll() is None:
+                    most = max(most, highest(gate.pid))
+                    time.sleep(0.0002)
+        return most
+
+
+@dataclass
+class Figures:
+    """What runs over sessions took: the seconds of each run on so many processors and on one, and
+    in bytes the most memory, what is read and what is written."""
+    sessions: int
+    orders: int
+    processors: int
+    side_by_side: list
+    on_one: list
+    memory: int
+    read: int
+    written: int
+    last: str
+
+    def times_as_fast(self):
+        """The median of the ratios of runs beside each other."""
+        return statistics.median(one / own for one, own in zip(self.on_one, self.side_by_side))
+
+
+def measure(gate, sessions, orders, runs):
+    """The figures of so many sessions of so many orders."""
+    every, side_by_side, on_one = os.sched_getaffinity(0), [], []
+    text = "".join(order(number) for number in range(1, orders + 1))
+    with tempfile.TemporaryDirectory() as folder:
+        made = Runs(gate, folder, [text] * sessions)
+        for _ in range(runs):
+            side_by_side.append(made.seconds(every))
+            on_one.append(made.seconds({min(every)}))
+        return Figures(sessions, orders, len(every), side_by_side, on_one, made.memory(),
+                       size(made.inputs), size(made.out), made.last)
 
 
 def arguments():
@@ -63,25 +138,13 @@ def arguments():
 
 
 def main():
-    asked, all_processors = arguments(), os.sched_getaffinity(0)
-    with tempfile.TemporaryDirectory() as folder:
-        out, inputs = os.path.join(folder, "out"), os.path.join(folder, "in")
-        os.mkdir(out)
-        os.mkdir(inputs)
-        text = "".join(order(number) for number in range(1, asked.orders + 1))
-        names = [write(inputs, f"s{number:02}.fix", text) for number in range(asked.sessions)]
-        words = [asked.gate, "run", write(folder, "limits.csv", LIMITS), out] + names
-        side_by_side, on_one, last = [], [], ""
-        for _ in range(asked.runs):
-            seconds, last = timed(words, out, all_processors)
-            side_by_side.append(seconds)
-            on_one.append(timed(words, out, {min(all_processors)})[0])
-        ratio = statistics.median(one / own for one, own in zip(on_one, side_by_side))
-        most = resource.getrusage(resource.RUSAGE_CHILDREN).ru_maxrss / 1024
-        print(f"{asked.sessions} sessions of {asked.orders} orders: {spread(side_by_side)} on "
-              f"{len(all_processors)} processors, {spread(on_one)} on one, {ratio:.2f} times as "
-              f"fast; at most {most:.1f} MB, {size(inputs):,} bytes read, {size(out):,} bytes "
-              f"written, {last}; load {os.getloadavg()[0]:.1f}")
+    asked = arguments()
+    seen = measure(asked.gate, asked.sessions, asked.orders, asked.runs)
+    print(f"{seen.sessions} sessions of {seen.orders} orders: {spread(seen.side_by_side)} on "
+          f"{seen.processors} processors, {spread(seen.on_one)} on one, "
+          f"{seen.times_as_fast():.2f} times as fast; at most {seen.memory / 1e6:.1f} MB, "
+          f"{seen.read:,} bytes read, {seen.written:,} bytes written, {seen.last}; "
+          f"load {os.getloadavg()[0]:.1f}")
 
 
 if __name__ == "__main__":

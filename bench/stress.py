@@ -115,8 +115,9 @@ def tell(counts, seconds):
     print(f"noted by code    {notes}")
 
 
-def main():
-    asked, counts, start = arguments(), Counter(), time.monotonic()
+def run_all(asked):
+    """Judges all runs. Gives the counts, or ends with status 1 at the first run that is wrong."""
+    counts = Counter()
     for number in range(asked.runs):
         limits, inputs = made(asked.seed * 1_000_003 + number)
         with tempfile.TemporaryDirectory() as folder:
@@ -128,7 +129,12 @@ def main():
                     shutil.copytree(folder, asked.keep)
                 print(f"run {number} of seed {asked.seed} is wrong: {wrong!r}")
                 sys.exit(1)
-    tell(counts, time.monotonic() - start)
+    return counts
+
+
+def main():
+    asked, start = arguments(), time.monotonic()
+    tell(run_all(asked), time.monotonic() - start)
 
 
 if __name__ == "__main__":

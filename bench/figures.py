@@ -1,0 +1,335 @@
+"""All figures of the project, a group for each script: what `run` prints and puts into README.md.
+
+usage: run [--all] [--gate PATH] [--runs N] [--write] [GROUP...]
+
+With no words it runs the groups that take seconds; with `--all` also those that take minutes, some
+of which build Rust or prove a crate, each where the programs that it needs are there; with GROUPs
+those alone. It prints a line on the machine and a table in Markdown for each, and then which groups
+it left out and why; what the scripts themselves tell goes to standard error. N is how many runs a
+median is of, 7. With `--write` each table takes its place in README.md, between two comments.
+
+It ends with status 1 where a group ended with something wrong, and 2 where it can't run.
+"""
+import argparse
+import contextlib
+import os
+import shutil
+import statistics
+import subprocess
+import sys
+import tempfile
+from dataclasses import dataclass
+from types import SimpleNamespace
+from typing import Callable
+
+import forests
+import fuzz
+import live
+import machine
+import most
+import orders_read
+import refuse
+import replay
+import sessions
+import stress
+from model.session import ENDS
+from rows import RUNS
+from sessions import spread
+from table import table, with_part
+
+README = os.path.join(sessions.HERE, "README.md")
+# Sessions, and the orders of each.
+LOADS = ((1, 40_000), (4, 2_000), (8, 1_000), (8, 2_000), (8, 5_000), (32, 2_000))
+STRESS_RUNS, FUZZ_RUNS = 2_000, 24_000
+# What the refusals for a field fault have as their code, and how many codes there are.
+FIELD_FAULT, REFUSALS, NOTES = 16, 16, 6
+# Trees, posts of each pass in each, and the works: 2,048,000 posts each time.
+RECORDS = ((4, 16_000, replay.WORKS), (500, 128, replay.WORKS[:2]))
+# The programs of `forests.py` in the order of the columns.
+SHARED = ("forest", "kept mutex", "kept tree", "bare mutex", "bare tree")
+
+
+def megabytes(count):
+    """Bytes in millions, with one digit where they are few."""
+    return f"{count / 1e6:.0f} MB" if count >= 1e7 else f"{count / 1e6:.1f} MB"
+
+
+def between(values, form):
+    """The least and the most, or the one where they read the same."""
+    least, highest = (format(value, form) for value in (min(values), max(values)))
+    return least if least == highest else f"{least} to {highest}"
+
+
+def session_cells(seen):
+    """The row of a load."""
+    return (f"{seen.sessions}", f"{seen.orders:,}", spread(seen.side_by_side),
+            spread(seen.on_one), f"{seen.times_as_fast():.2f}", megabytes(seen.memory),
+            megabytes(seen.read), megabytes(seen.written))
+
+
+def session_rows(asked):
+    """A row for each load."""
+    return [session_cells(sessions.measure(asked.gate, count, orders, asked.runs))
+            for count, orders in LOADS]
+
+
+def most_cells(seen):
+    """The row of a session of the most bytes."""
+    return (f"{seen.messages:,} {seen.name}", spread(seen.seconds), megabytes(seen.memory),
+            f"{seen.read:,}", f"{seen.written:,}")
+
+
+def most_rows(asked):
+    """A row for each kind of message."""
+    return [most_cells(most.measure(asked.gate, name, asked.runs)) for name in most.KINDS]
+
+
+def causes(counts, kind, codes):
+    """How many causes of a kind came, of all."""
+    return f"{sum(counts[kind, code] > 0 for code in range(1, codes + 1))} of {codes}"
+
+
+def stress_cells(counts):
+    """The rows of runs judged from outside."""
+    return [("runs; of them those whose sessions met", f"{counts['runs']:,}; {counts['met']:,}"),
+            ("sessions", f"{counts['sessions']:,}"),
+            ("posts, reads", f"{counts['post']:,}, {counts['read']:,}"),
+            ("orders and requests sent, refused; notes",
+             f"{counts['sent']:,}, {counts['refused']:,}; {counts['noted']:,}"),
+            ("causes of refusals that came; of notes",
+             f"{causes(counts, 'refused', REFUSALS)}; {causes(counts, 'noted', NOTES)}")]
+
+
+def judged(asked, runs):
+    """What the scripts that judge runs are asked."""
+    return SimpleNamespace(gate=asked.gate, runs=runs, seed=1, keep=None, only=None,
+                           jobs=len(os.sched_getaffinity(0)))
+
+
+def stress_rows(asked):
+    """What came in runs judged from outside."""
+    return stress_cells(stress.run_all(judged(asked, STRESS_RUNS)))
+
+
+def fuzz_cells(counts):
+    """The rows of inputs with something wrong."""
+    faults = sum(value for _, value in fuzz.of_kind(counts, "fault"))
+    states = [value for _, value in fuzz.of_kind(counts, "state")]
+    whole = counts["runs"] - faults - counts["not built"]
+    ended = ", ".join(f"{counts['end', number]:,}" for number in ENDS.values())
+    return [
+        ("runs, sessions, frames",
+         f"{counts['runs']:,}, {counts['sessions']:,}, {counts['frames']:,}"),
+        ("of the runs: judged whole; a limit file with a fault; a dropped screen, which isn't "
+         "served (`not built`)", f"{whole:,}; {faults:,}; {counts['not built']:,}"),
+        ("sessions that ended whole, cut, broken, too long", ended),
+        ("orders and requests sent, refused; notes",
+         f"{counts['sent']:,}, {counts['refused']:,}; {counts['noted']:,}"),
+        ("of the refusals: by a field fault", f"{counts['refused', FIELD_FAULT]:,}"),
+        ("reports on known orders", f"{sum(states):,}"),
+        ("of how many kinds: whether the order is open, partly filled, filled or dead; what is "
+         "pending; which of its ids is told; which report", f"{len(states):,}")]
+
+
+def fuzz_rows(asked):
+    """What came in inputs with something wrong."""
+    return fuzz_cells(fuzz.run_all(judged(asked, FUZZ_RUNS)))
+
+
+def refuse_cells(name, counts):
+    """The row of a worked run."""
+    return (name, f"{counts['runs']:,}", f"{counts['status 8']:,}",
+            f"{counts['as with ample memory']:,}", f"{counts['with a journal']:,}",
+            f"{counts['sessions ended by memory']:,}")
+
+
+def refuse_rows(asked):
+    """A row for each worked run."""
+    wanted = SimpleNamespace(gate=asked.gate, keep=None, onward=False, most=100_000)
+    with tempfile.TemporaryDirectory() as folder:
+        loaded = refuse.library(folder)
+        return [refuse_cells(name, refuse.refuse_each(wanted, loaded, name)) for name in RUNS]
+
+
+def live_cells(session, counts, slowest):
+    """The row of a session."""
+    return (f"{session}", f"{counts[0]:,}", f"{counts[1]:,}", f"{slowest * 1000:.1f} ms")
+
+
+def live_rows(asked):
+    """A row for each of two sessions that are open at once."""
+    lines = live.run_all(SimpleNamespace(gate=asked.gate, orders=20, seconds=10, one=False))
+    return [live_cells(line.session, line.counts(), line.slowest) for line in lines]
+
+
+def forest_cells(threads, one, own):
+    """The row of so many threads, of runs on one array and on arrays of their own by program."""
+    rates = [statistics.median(rate for rate, _ in runs[name])
+             for runs in (one, own) for name in SHARED]
+    return (f"{threads}", *(f"{rate:.1f}" for rate in rates))
+
+
+def forest_rows(asked):
+    """A row for each number of threads."""
+    with tempfile.TemporaryDirectory() as folder:
+        programs = forests.build(folder)
+        return [forest_cells(threads, *(forests.measure(programs, kind, threads, 100_000,
+                                                        asked.runs) for kind in ("one", "own")))
+                for threads in forests.THREADS]
+
+
+def replay_cells(trees, ran):
+    """The row of so many trees, of what `replay.run` gives by work."""
+    each = "not run"
+    if "each" in ran:
+        each = between([one[4] for one in ran["each"]], ".1f") + " s"
+    memory = ", ".join(f"{max(one[5] for one in ran[work]):.0f} MB"
+                       for work in ("prepared", "record"))
+    return (f"{trees}", between([one[4] for one in ran["prepared"]], ".1f") + " s",
+            between([one[3] for one in ran["prepared"]], ".2f") + " s", each, memory)
+
+
+def replay_rows(_):
+    """A row for each number of trees, of three runs, since each takes seconds."""
+    with tempfile.TemporaryDirectory() as folder:
+        program = replay.build(folder)
+        return [replay_cells(trees, {work: [replay.run(program, work, trees, posts)
+                                            for _ in range(3)] for work in works})
+                for trees, posts, works in RECORDS]
+
+
+def message_cells(name, medians):
+    """The row of a file, by the medians of `orders_read.measure_file`."""
+    own, plain = ([medians[program, work][0] for work in orders_read.WORKS]
+                  for program in ("fix_orders", "plain Rust"))
+    apart = [[find, read - find, forward - read] for find, read, forward in (own, plain)]
+    return (name, *(f"{nanoseconds:,.0f} ns" for nanoseconds in apart[0]),
+            ", ".join(f"{nanoseconds:,.0f}" for nanoseconds in apart[1]) + " ns")
+
+
+def message_rows(asked):
+    """A row for each file."""
+    with tempfile.TemporaryDirectory() as folder:
+        programs, files = orders_read.build(folder), orders_read.write_files(folder)
+        return [message_cells(name, orders_read.measure_file(programs, name, path, size, 100,
+                                                             asked.runs))
+                for name, (path, size) in files.items()]
+
+
+@dataclass(frozen=True)
+class Group:
+    """Figures of one table: its name, its columns, what measures its rows, which programs that
+    needs, whether it takes seconds, and whether each figure is of several runs."""
+    name: str
+    head: tuple
+    rows: Callable
+    needs: tuple = ()
+    is_quick: bool = False
+    is_repeated: bool = True
+
+
+ON_TREES = ("forest", "mutex", "steps", "bare mutex", "bare steps")
+GROUPS = (
+    Group("sessions", ("Sessions", "Orders each", "On all processors", "On one", "Times as fast",
+                       "Memory at most", "Read", "Written"), session_rows, is_quick=True),
+    Group("most", ("Session", "Seconds", "Memory at most", "Bytes read", "Bytes written"),
+          most_rows, is_quick=True),
+    Group("stress", ("What", "How many"), stress_rows, is_repeated=False),
+    Group("fuzz", ("What", "How many"), fuzz_rows, is_repeated=False),
+    Group("refuse", ("Run", "Runs", "Status 8", "As with ample memory", "Whole journals at 8",
+                     "Sessions ended by memory"), refuse_rows, ("cc",),
+          is_repeated=False),
+    Group("live", ("Session", "Sent", "Refused", "Slowest answer"), live_rows,
+          is_repeated=False),
+    Group("forests", ("Threads", "one tree: forest", *ON_TREES[1:], "own trees: forest",
+                      *ON_TREES[1:]), forest_rows, ("rt", "rustc")),
+    Group("replay", ("Trees", "Prepared once", "of which preparing", "By `replay` of each tree",
+                     "Memory, with no history"), replay_rows, ("rt",), is_repeated=False),
+    Group("orders_read", ("Messages", "`next_frame`", "`read_message`",
+                          "`write_forward` with `finish`", "plain Rust, the same three"),
+          message_rows, ("rt", "rustc")),
+)
+
+
+def left_out(group, asked):
+    """Why a group isn't run, None where it is."""
+    if asked.groups and group.name not in asked.groups:
+        return "not asked for"
+    if not (asked.groups or asked.all or group.is_quick):
+        return "takes minutes (--all)"
+    missing = [name for name in group.needs if shutil.which(name) is None]
+    return f"needs {', '.join(missing)}" if missing else None
+
+
+def place(asked):
+    """What all figures are of: the machine, the version, and how runs are scheduled."""
+    own = "" if asked.gate == sessions.PROGRAM else " with another program"
+    return (f"{machine.processors()}; {machine.kit()}; {machine.commit(sessions.HERE)}{own}; "
+            f"{machine.priority()}")
+
+
+def measured(group, asked):
+    """The text of a group: a line on the machine, and its table."""
+    before = machine.load()
+    with contextlib.redirect_stdout(sys.stderr):
+        rows = group.rows(asked)
+    many = "" if asked.runs == 1 else "s"
+    runs = f"{asked.runs} run{many}; " if group.is_repeated else ""
+    where = f"{place(asked)}; {runs}load {before} before and {machine.load()} after."
+    return f"{where}\n\n{table(group.head, rows)}"
+
+
+def put(name, part):
+    """Puts a group's text into its place in README.md."""
+    with open(README, encoding="utf-8") as file:
+        text = with_part(file.read(), name, part)
+    with open(README, "w", encoding="utf-8") as file:
+        file.write(text)
+
+
+def run_group(group, asked):
+    """Runs a group and prints it. Gives whether nothing was wrong."""
+    try:
+        part = measured(group, asked)
+    except (SystemExit, OSError, ValueError, subprocess.SubprocessError) as wrong:
+        print(f"## {group.name}\n\nIt ended with something wrong: {wrong}\n", flush=True)
+        return False
+    print(f"## {group.name}\n\n{part}", flush=True)
+    if asked.write:
+        put(group.name, part)
+    return True
+
+
+def arguments(words):
+    """What the command line asks for."""
+    parser = argparse.ArgumentParser(prog="run", description=__doc__,
+                                     formatter_class=argparse.RawDescriptionHelpFormatter)
+    parser.add_argument("--all", action="store_true")
+    parser.add_argument("--gate", default=sessions.PROGRAM)
+    parser.add_argument("--runs", type=int, default=7)
+    parser.add_argument("--write", action="store_true")
+    parser.add_argument("groups", nargs="*", metavar="GROUP")
+    asked = parser.parse_args(words)
+    unknown = set(asked.groups) - {group.name for group in GROUPS}
+    if unknown:
+        parser.error(f"no group {', '.join(sorted(unknown))}")
+    if asked.runs < 1:
+        parser.error("a median is of one run at least")
+    if not os.access(asked.gate, os.X_OK):
+        parser.error(f"there is no program {asked.gate}: `./gate` builds it, --gate names another")
+    return asked
+
+
+def main(words=None):
+    asked = arguments(words)
+    print(f"{place(asked)}; load {machine.load()}\n", flush=True)
+    reasons, is_right = {}, True
+    for group in GROUPS:
+        reason = left_out(group, asked)
+        if reason:
+            reasons[group.name] = reason
+        else:
+            is_right = run_group(group, asked) and is_right
+    for name, reason in reasons.items():
+        print(f"left out: {name}: {reason}")
+    return 0 if is_right else 1
