@@ -129,11 +129,11 @@ fn a_load_leaves_a_journal_with_its_reads(rt: HostRuntime) -> Result<(), Fail> {
     let text = folder.get("load/journal.csv").ok_or("no journal")?;
     assert!(rt; text.len() <= 1_000_000, "a journal of a small load");
     let journal = read_journal(alloc, text).ok().ok_or("no journal's text")?;
-    let mut reads = 0;
+    let mut reads: u32 = 0;
     for own in &journal.acts {
         for act in own {
             if let Act::Read { .. } = act {
-                reads += 1;
+                reads = reads.saturating_add(1);
             }
         }
     }
