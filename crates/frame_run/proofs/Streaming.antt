@@ -28,7 +28,7 @@ use Rattle.frame_run.specs.Ahead.{LooksAhead, FailsAhead}
 use Rattle.frame_run.specs.Ends.{EndsBy, FetchesInput, IsByInput, end_by, input_most}
 use Rattle.frame_run.specs.Frames.{IsFrameOf}
 use Rattle.frame_run.specs.Taking.{Leads, IsUnderWay, TakesNext, TakesInput, TakesSource}
-use Rattle.frame_run.specs.Taking.{SplitsTo, Streams, AreFirst, StopsNext, StopsReading, StopsBy}
+use Rattle.frame_run.specs.Taking.{SplitsTo, Streams, FetchesFrames, StopsNext, StopsReading, StopsBy}
 use Rattle.frame_run.proofs.Endings.{either, open_or_settled, open_moved, by_settled}
 use Rattle.frame_run.proofs.Fetches.{consumes_none}
 use Rattle.frame_run.proofs.Splitting.{splits-snoc, splits-more, splits_then, place_after-snoc}
@@ -60,22 +60,6 @@ fetches_none left = record {
   consumed = consumes_none left;
   broken = λ place is. absurd cc;
 }
-
-no_frames : (left : Option (List ℕ)) → AreFirst left []
-no_frames None = tt
-no_frames (Some bytes) = tt
-
--- frames of what was fetched are first frames of the input
-first_frames : (left left_after : Option (List ℕ)) (fetched : List ℕ) (frames : List FrameValue)
-    → Consumes left left_after fetched → length fetched ≤ input_most → SplitsTo fetched 0 frames
-    → AreFirst left frames
-first_frames None left_after fetched frames taken few split = tt
-first_frames (Some bytes) None fetched frames taken few split = absurd taken
-first_frames (Some bytes) (Some rest) fetched frames taken few split =
-    let more = take (input_most - length fetched) rest in
-    subst (λ l. SplitsTo l 0 frames)
-    (sym (ap (take input_most) taken ∙ more_after input_most fetched rest few))
-    (splits-more fetched more 0 frames split)
 
 module _ {T : Type 0} (Took : Leads T) where
   -- what has come stands before what is next, and perhaps a byte came past the input
@@ -200,35 +184,45 @@ module _ {T : Type 0} (Took : Leads T) where
         (next : T) → ahead.next ≡ found.Frame f → window ≡ after.held
         → StopsNext Took Stopped why window f now next
         → StopsBy Took Stopped start next left left_after (end_by why)
-    stops_at Stopped fault.Failed f window next is held stops =
-        let stands = next_frame f is in
-        let one = frame_value (moved_frame after.base f) stands.fields in
-        let W : List ℕ → Type 0 = λ l. IsFrameOf l f stands.fields in
-        record {
+    stops_at Stopped why f window next is held stops = by why stops
+      where
+        stands : NextFrame f
+        stands = next_frame f is
+
+        one : FrameValue
+        one = frame_value (moved_frame after.base f) stands.fields
+
+        of_window : IsFrameOf window f stands.fields
+        of_window = let W : List ℕ → Type 0 = λ l. IsFrameOf l f stands.fields in
+            subst W (sym held) stands.frame_is
+
+        fetches : (frames : List FrameValue) → SplitsTo comes_to.fetched 0 frames
+            → FetchesFrames left left_after frames
+        fetches frames split = record {
+          fetched = comes_to.fetched;
+          taken = taken_before f is;
+          few = omega (arith, comes_to.size, look.few);
+          split = split;
+        }
+
+        by : (why : PortFault) → StopsNext Took Stopped why window f now next
+            → StopsBy Took Stopped start next left left_after (end_by why)
+        by fault.Failed stops = record {
           frames = comes_to.frames;
           last = one;
-          first = first_frames left left_after comes_to.fetched (comes_to.frames ++ one ∷ [])
-              (taken_before f is) (omega (arith, comes_to.size, look.few)) stands.split;
-          stopped = stops start comes_to.frames one (subst W (sym held) stands.frame_is)
-              comes_to.took;
+          fetches = fetches (comes_to.frames ++ one ∷ []) stands.split;
+          stopped = stops start comes_to.frames one of_window comes_to.took;
         }
-    stops_at Stopped fault.Memory f window next is held (inl within) =
-        let stands = next_frame f is in
-        let one = frame_value (moved_frame after.base f) stands.fields in
-        let W : List ℕ → Type 0 = λ l. IsFrameOf l f stands.fields in
-        record {
+        by fault.Memory (inl within) = record {
           frames = comes_to.frames ++ one ∷ [];
-          first = first_frames left left_after comes_to.fetched (comes_to.frames ++ one ∷ [])
-              (taken_before f is) (omega (arith, comes_to.size, look.few)) stands.split;
-          stopped = within start comes_to.frames one (subst W (sym held) stands.frame_is)
-              comes_to.took;
+          fetches = fetches (comes_to.frames ++ one ∷ []) stands.split;
+          stopped = within start comes_to.frames one of_window comes_to.took;
         }
-    stops_at Stopped fault.Memory f window next is held (inr before) = record {
-      frames = comes_to.frames;
-      first = first_frames left left_after comes_to.fetched comes_to.frames (taken_before f is)
-          (omega (arith, comes_to.size, look.few)) comes_to.split;
-      stopped = before start comes_to.frames comes_to.took;
-    }
+        by fault.Memory (inr before) = record {
+          frames = comes_to.frames;
+          fetches = fetches comes_to.frames comes_to.split;
+          stopped = before start comes_to.frames comes_to.took;
+        }
 
     -- of what the source had left, few bytes were taken
     pub fetches_come : (end : End) → ((place : ℕ) → end ≡ ending.Broken place
@@ -333,7 +327,12 @@ module _ {T : Type 0} (Took : Leads T) where
       → StopsBy Took Stopped start start left left ending.Memory
   stops_first Stopped start left stopped = record {
     frames = [];
-    first = no_frames left;
+    fetches = record {
+      fetched = [];
+      taken = consumes_none left;
+      few = omega arith;
+      split = tt;
+    };
     stopped = stopped;
   }
 

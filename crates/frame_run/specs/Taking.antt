@@ -68,9 +68,13 @@ SplitsTo bytes from (frame ∷ frames) =
     (body_from : ℕ) × (body_to : ℕ) × IsFrameAt bytes from frame body_from body_to
     × SplitsTo bytes frame.end frames
 
--- they are first frames of the input, where the source tells it
-abbrev pub AreFirst : Option (List ℕ) → List FrameValue → Type 0
-AreFirst left frames = IfSome left (λ bytes. SplitsTo (take input_most bytes) 0 frames)
+-- Of what the source had left few bytes were fetched, and these are their first frames.
+pub record FetchesFrames (left left_after : Option (List ℕ)) (frames : List FrameValue) : Type 0
+  where
+    pub fetched : List ℕ
+    pub taken : Consumes left left_after fetched
+    pub few : length fetched ≤ input_most
+    pub split : SplitsTo fetched 0 frames
 
 -- A read failed. The bytes fetched are these frames, all of them taken, and a rest that more bytes may
 -- change: nothing, or what is cut.
@@ -85,20 +89,20 @@ pub record StopsReading {T : Type 0} (Took : Leads T) (start now : T)
   pub may : IsOpen rest
   pub took : Took start frames now
 
--- The run stopped within or behind the last of these first frames, if there is one.
-pub record StopsWithin {T : Type 0} (Stopped : Leads T) (start now : T) (left : Option (List ℕ))
-    : Type 0 where
-  pub frames : List FrameValue
-  pub first : AreFirst left frames
-  pub stopped : Stopped start frames now
-
--- A sink failed, with the last of these first frames in hand.
-pub record StopsGiving {T : Type 0} (Stopped : Leads T) (start now : T) (left : Option (List ℕ))
-    : Type 0 where
+-- A sink failed, with the last of these frames in hand.
+pub record StopsGiving {T : Type 0} (Stopped : Leads T) (start now : T)
+    (left left_after : Option (List ℕ)) : Type 0 where
   pub frames : List FrameValue
   pub last : FrameValue
-  pub first : AreFirst left (frames ++ last ∷ [])
+  pub fetches : FetchesFrames left left_after (frames ++ last ∷ [])
   pub stopped : Stopped start (frames ++ last ∷ []) now
+
+-- The run stopped within or behind the last of these frames, if there is one.
+pub record StopsWithin {T : Type 0} (Stopped : Leads T) (start now : T)
+    (left left_after : Option (List ℕ)) : Type 0 where
+  pub frames : List FrameValue
+  pub fetches : FetchesFrames left left_after frames
+  pub stopped : Stopped start frames now
 
 -- The frames of a run that a fault ended.
 abbrev pub StopsBy : {T : Type 0} → Leads T → (PortFault → Leads T) → T → T → Option (List ℕ)
@@ -106,9 +110,9 @@ abbrev pub StopsBy : {T : Type 0} → Leads T → (PortFault → Leads T) → T 
 StopsBy Took Stopped start now left left_after ending.ReadFault =
     StopsReading Took start now left left_after
 StopsBy Took Stopped start now left left_after ending.WriteFault =
-    StopsGiving (Stopped fault.Failed) start now left
+    StopsGiving (Stopped fault.Failed) start now left left_after
 StopsBy Took Stopped start now left left_after ending.Memory =
-    StopsWithin (Stopped fault.Memory) start now left
+    StopsWithin (Stopped fault.Memory) start now left left_after
 StopsBy Took Stopped start now left left_after ending.Whole = Unit {0}
 StopsBy Took Stopped start now left left_after (ending.Cut place) = Unit {0}
 StopsBy Took Stopped start now left left_after (ending.Broken place) = Unit {0}
