@@ -1,5 +1,6 @@
 -- A frame that was noted, or taken up and taken, is one frame more.
-use Rattle.std.proofs.Common.{◌≡◌, ◌<◌, List, [], ◌∷◌, ◌++◌, length, sym, ap, ◌∙◌, subst, true, false}
+use Rattle.std.proofs.Common.{◌≡◌, ◌<◌, List, [], ◌∷◌, ◌++◌, length, map, sym, ap, ◌∙◌}
+use Rattle.std.proofs.Common.{subst, true, false}
 use Rattle.std.specs.Prelude.{ℕ, Option, Some, None}
 use Rattle.std.proofs.lemmas.Bool.{false≢true}
 use Rattle.fix_fields.specs.Fields.{FieldValue}
@@ -14,12 +15,12 @@ use Rattle.session_engine.specs.declared.counts.Counts.{Counts}
 use Rattle.session_engine.specs.declared.note.Note.TheVariants as note
 use Rattle.session_engine.specs.Running.{Running, kept_of, HasTaken, IsReady, TookFrames}
 use Rattle.session_engine.specs.Running.{frame_acts}
-use Rattle.session_engine.specs.Session.{after_frame, orders_with}
+use Rattle.session_engine.specs.Session.{after_frame, orders_with, screens_with}
 use Rattle.session_engine.specs.Taken.{Kept, HasSmallCounts, TakesFrom, TakesSound}
 use Rattle.session_engine.specs.Taken.{counted, noted_act}
 use Rattle.session_engine.proofs.PassedFrames.{sound_takes, unsound_takes}
 use Rattle.session_engine.proofs.RunLemmas.{small_counts, trips_kept, took_next}
-use Rattle.session_engine.proofs.TakenLemmas.{with_orders}
+use Rattle.session_engine.proofs.TakenLemmas.{with_taken}
 
 -- a frame that is sound has fields
 some_fields : (sound : FrameIn) (fields : Option (List FieldValue)) → sound.frame.sound ≡ true
@@ -27,6 +28,13 @@ some_fields : (sound : FrameIn) (fields : Option (List FieldValue)) → sound.fr
     → (listed : List FieldValue) × HasFieldsIn sound.bytes sound.frame listed
 some_fields sound None is (from, stands, has) = absurd (false≢true (sym has ∙ is))
 some_fields sound (Some listed) is (from, stands, has) = (listed, (from, stands))
+
+-- the session with these screens and counts
+abbrev pub with_screens : {H M K : Type 0} → List K → Counts → Running H M K → Running H M K
+with_screens screens counts before = record before {
+  desk = record (before.desk) { screens = screens };
+  counts = counts;
+}
 
 module _ {H M K : Type 0} (meaning : K → ScreenValue) where
   -- a session that took room is ready
@@ -44,20 +52,23 @@ module _ {H M K : Type 0} (meaning : K → ScreenValue) where
         trips = rw (limits, acts, counts) (trips_kept meaning start before frames took few);
       }
 
-  -- an order that is counted changes nothing of that
-  pub ready_counted : (sound : FrameIn) (before now : Running H M K)
+  -- an order that is taken up changes nothing of that
+  pub ready_taken : (sound : FrameIn) (before now : Running H M K)
       (fields : Option (List FieldValue)) → IsReady before
-      → now ≡ record before { counts = now.counts }
+      → now ≡ with_screens now.desk.screens now.counts before
       → ((listed : List FieldValue) → HasFieldsIn sound.bytes sound.frame listed
       → now.counts ≡ record (before.counts) {
         orders = orders_with listed before.counts.orders;
       }) → sound.frame.sound ≡ true → IsFrameOf sound.bytes sound.frame fields → IsReady now
-  ready_counted sound before now fields ready same counts is frame =
+  ready_taken sound before now fields ready same counts is frame =
       let some = some_fields sound fields is frame in
       let R : Running H M K → Type 0 = λ r. IsReady r in
-      let C : Counts → Type 0 = λ c. IsReady (record before { counts = c }) in
+      let C : Counts → Type 0 = λ c. IsReady (with_screens now.desk.screens c before) in
       subst R (sym same) (subst C (sym (counts some.0 some.1)) (record {
-        room = ready.room;
+        room = record {
+          acts_fit = ready.room.acts_fit;
+          order_fits = ready.room.order_fits;
+        };
         counts = record {
           frames = ready.counts.frames;
           venue = ready.counts.venue;
@@ -97,33 +108,43 @@ module _ {H M K : Type 0} (meaning : K → ScreenValue) where
       (frames : List FrameValue) (next : FrameValue)
       → kept_of meaning reserved ≡ kept_of meaning before
       → up.desk.limits ≡ before.desk.limits → now.desk.limits ≡ before.desk.limits
-      → up ≡ record reserved { counts = up.counts }
+      → up ≡ with_screens up.desk.screens up.counts reserved
       → ((listed : List FieldValue) → HasFieldsIn sound.bytes sound.frame listed
       → up.counts ≡ record (reserved.counts) {
         orders = orders_with listed reserved.counts.orders;
-      }) → HasTaken meaning sound up now → sound.frame.sound ≡ true
+      }) → ((listed : List FieldValue) → HasFieldsIn sound.bytes sound.frame listed
+      → map meaning up.desk.screens ≡ screens_with reserved.desk.limits listed
+      reserved.counts.orders (map meaning reserved.desk.screens)) → HasTaken meaning sound up now → sound.frame.sound ≡ true
       → IsFrameOf sound.bytes sound.frame next.fields → TookFrames meaning start frames before
       → TookFrames meaning start (frames ++ next ∷ []) now
   took_sound sound start before reserved up now frames next same up_limits limits others counts
-      taken is frame took =
+      left taken is frame took =
       let T : Kept → Type 0 = λ k.
       TakesFrom (after_frame before.desk.limits next.fields) 1 k (kept_of meaning now) in
       let orders = up.counts.orders in
+      let screens = map meaning up.desk.screens in
       let some = some_fields sound next.fields is frame in
+      let limits_are : reserved.desk.limits ≡ before.desk.limits =
+      sym (ap (λ (r : Running H M K). r.desk.limits) others) ∙ up_limits in
       let counted_is = counts some.0 some.1 in
       let counts_are : up.counts ≡ record (reserved.counts) { orders = orders } = counted_is
       ∙ ap (λ (n : ℕ). let c : Counts = record (reserved.counts) { orders = n } in c)
       (sym (ap (λ (c : Counts). c.orders) counted_is)) in
-      let up_kept : kept_of meaning up ≡ with_orders orders (kept_of meaning reserved) =
+      let up_kept : kept_of meaning up ≡ with_taken orders screens (kept_of meaning reserved) =
       ap (kept_of meaning) others
-      ∙ ap (λ (c : Counts). let k : Kept = record (kept_of meaning reserved) { counts = c } in k)
-      counts_are in
+      ∙ ap (λ (c : Counts). let k : Kept = record (kept_of meaning reserved) {
+        counts = c;
+        screens = screens;
+      } in k) counts_are in
       let S : LimitsValue → Type 0 = λ l. TakesSound l sound (kept_of meaning up)
       (kept_of meaning now) in
       let U : Kept → Type 0 = λ k. TakesSound before.desk.limits sound k (kept_of meaning now) in
       took_next meaning start before frames took now next limits
       (subst T same
       (sound_takes before.desk.limits sound (kept_of meaning reserved) (kept_of meaning now)
-      orders next.fields
+      orders screens next.fields
       (λ listed has. ap (λ (c : Counts). c.orders) (counts listed has))
+      (λ listed has. left listed has
+      ∙ ap (λ l. screens_with l listed reserved.counts.orders
+      (map meaning reserved.desk.screens)) limits_are)
       (subst U up_kept (subst S up_limits taken)) is frame))

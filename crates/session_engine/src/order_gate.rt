@@ -45,17 +45,18 @@ impl<'a, H: Hand, M: Hand, K: Screen, V: Sink, C: Sink, G: Gate> TakesFrames
 
     ghost Failed = { SinkFailed };
 
-    /// Before an order, a sound frame of type D or G, the gate is called with the session's number and
-    /// the order's, both from 0. None of its fields was read yet but its type.
+    /// Before an order is taken up, the gate is called with the session's number and the order's, both
+    /// from 0. None of its fields was read yet but its type.
     fn take_frame(&mut self, bytes: &[u8], frame: &Frame) -> Result<(), PortFault> {
         self.session.reserve()?;
         let Some(sound) = SoundFrame::of(bytes, frame) else {
             self.session.note_frame(Note::NotSound);
             return Ok(());
         };
-        if let Some(order) = self.session.count_order(&sound) {
+        if let Some(order) = self.session.number_of(&sound) {
             self.gate.gate.before(self.gate.number, order);
         }
+        self.session.take_up(&sound);
         self.session.take_sound(&sound)
     }
 

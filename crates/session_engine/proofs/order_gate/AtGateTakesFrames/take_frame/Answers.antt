@@ -2,7 +2,7 @@
 use Rattle.std.proofs.Common.{◌≡◌, true, ap, ◌∙◌, sym, subst, refl}
 use Rattle.frame_run.specs.Frames.{FrameIn, IsFrameOf}
 use Rattle.session_engine.specs.Running.{Running}
-use Rattle.session_engine.proofs.TakenFrames.{ready_reserved, ready_counted, took_unsound}
+use Rattle.session_engine.proofs.TakenFrames.{ready_reserved, ready_taken, took_unsound}
 use Rattle.session_engine.proofs.TakenFrames.{took_sound}
 use Rattle.session_engine.proofs.order_gate.AtGateTakesFrames.take_frame.Goals as goal
 
@@ -36,12 +36,12 @@ take_sound-requires g c =
     let F : FrameIn → Type 0 = λ s. IsFrameOf s.bytes s.frame stands.0 in
     let S : FrameIn → Type 0 = λ s. s.frame.sound ≡ true in
     record {
-      ready = ready_counted g.K.Screen.meaning c.in-Some.sound c.reserve.new.self
-          c.count_order.new.self stands.0
+      ready = ready_taken g.K.Screen.meaning c.in-Some.sound c.reserve.new.self
+          c.take_up.new.self stands.0
           (ready_reserved g.K.Screen.meaning under.start c.self.inside.session c.reserve.new.self
           under.frames took under.few c.reserve.ensures.continues.desk_is.limits_are
           c.reserve.ensures.kept (c.in_ok-reserve.ensures.room refl))
-          c.count_order.ensures.same c.count_order.ensures.counted
+          c.take_up.ensures.same c.take_up.ensures.counted
           (subst S (sym some) (c.in-Some.ensures.sound refl)) (subst F (sym some) stands.1);
     }
 
@@ -51,12 +51,12 @@ returns-clause-took g c = λ taken start frames next frame took.
     let some = c.in-Some.ensures.some in
     let F : FrameIn → Type 0 = λ s. IsFrameOf s.bytes s.frame next.fields in
     let S : FrameIn → Type 0 = λ s. s.frame.sound ≡ true in
-    let up_limits : c.count_order.new.self.desk.limits ≡ c.self.inside.session.desk.limits =
-    ap (λ (r : Running _ _ _). r.desk.limits) c.count_order.ensures.same
+    let up_limits : c.take_up.new.self.desk.limits ≡ c.self.inside.session.desk.limits =
+    ap (λ (r : Running _ _ _). r.desk.limits) c.take_up.ensures.same
     ∙ c.reserve.ensures.continues.desk_is.limits_are in
     took_sound g.K.Screen.meaning c.in-Some.sound start c.self.inside.session c.reserve.new.self
-    c.count_order.new.self c.take_sound.new.self frames next c.reserve.ensures.kept
+    c.take_up.new.self c.take_sound.new.self frames next c.reserve.ensures.kept
     up_limits (c.take_sound.ensures.continues.desk_is.limits_are ∙ up_limits)
-    c.count_order.ensures.same
-    c.count_order.ensures.counted (c.take_sound.ensures.taken taken)
+    c.take_up.ensures.same
+    c.take_up.ensures.counted c.take_up.ensures.screens (c.take_sound.ensures.taken taken)
     (subst S (sym some) (c.in-Some.ensures.sound refl)) (subst F (sym some) frame) own
