@@ -19,15 +19,17 @@ use Rattle.fix_fields.proofs.FoundLaws.{found_stays}
 use Rattle.fix_fields.proofs.FrameLaws.{frame_within}
 use Rattle.fix_fields.proofs.Windows.{holds_none, holds_finds, holds_stands, holds_pass}
 use Rattle.gate_ports.proofs.Pieces.{Consumes-append}
+use Rattle.gate_ports.specs.declared.ports.PortFault.{PortFault}
+use Rattle.gate_ports.specs.declared.ports.PortFault.TheVariants as fault
 use Rattle.risk_journal.specs.declared.acts.End.{End}
 use Rattle.risk_journal.specs.declared.acts.End.TheVariants as ending
 use Rattle.frame_run.specs.declared.ahead.Ahead.{Ahead}
-use Rattle.frame_run.specs.Ahead.{LooksAhead, TakesFew}
-use Rattle.frame_run.specs.Ends.{EndsBy, FetchesInput, input_most}
+use Rattle.frame_run.specs.Ahead.{LooksAhead, FailsAhead}
+use Rattle.frame_run.specs.Ends.{EndsBy, FetchesInput, IsByInput, end_by, input_most}
 use Rattle.frame_run.specs.Frames.{IsFrameOf}
 use Rattle.frame_run.specs.Taking.{Leads, IsUnderWay, TakesNext, TakesInput, TakesSource}
-use Rattle.frame_run.specs.Taking.{SplitsTo, Streams}
-use Rattle.frame_run.proofs.Endings.{either, open_or_settled, by_settled}
+use Rattle.frame_run.specs.Taking.{SplitsTo, Streams, FetchesFrames, StopsNext, StopsReading, StopsBy}
+use Rattle.frame_run.proofs.Endings.{either, open_or_settled, open_moved, by_settled}
 use Rattle.frame_run.proofs.Fetches.{consumes_none}
 use Rattle.frame_run.proofs.Splitting.{splits-snoc, splits-more, splits_then, place_after-snoc}
 
@@ -113,18 +115,46 @@ module _ {T : Type 0} (Took : Leads T) where
     no_byte_past f is (inl goes) = absurd (subst IsOpen is (look.may goes))
     no_byte_past f is (inr stops) = look.within stops
 
+    -- the frame that stands next, as contracts see it, behind those that were taken
+    pub record NextFrame (f : Frame) : Type 0 where
+      pub fields : Option (List FieldValue)
+      pub frame_is : IsFrameOf after.held f fields
+      pub split : SplitsTo comes_to.fetched 0
+          (comes_to.frames ++ frame_value (moved_frame after.base f) fields ∷ [])
+
+    pub next_frame : (f : Frame) → ahead.next ≡ found.Frame f → NextFrame f
+    next_frame f is =
+        let come = comes_to in
+        let F : Found → Type 0 = λ n. Finds after.held 0 n in
+        let finds = subst F is look.finds in
+        record {
+          fields = finds.0;
+          frame_is = (0, finds.1, finds.2);
+          split = splits-snoc come.fetched 0 come.frames
+              (frame_value (moved_frame after.base f) finds.0) (after.base + f.body_from)
+              (after.base + f.body_to) come.split
+              (holds_stands come.fetched (place_after 0 come.frames) after f finds.0 come.holds
+              finds.1);
+        }
+
+    -- no byte past the input was fetched before a frame
+    taken_before : (f : Frame) → ahead.next ≡ found.Frame f → Consumes left left_after comes_to.fetched
+    taken_before f is = subst (Consumes left left_after)
+        (ap (λ o. comes_to.fetched ++ o) (no_byte_past f is (either ahead.goes_on))
+        ∙ append-nil comes_to.fetched) comes_to.taken
+
     -- one frame more
     pub streams_on : (passed : BufferValue) (f : Frame) (window : List ℕ) (next : T)
-        → ahead.next ≡ found.Frame f → window ≡ after.held → TakesNext Took window f now next
+        → ahead.next ≡ found.Frame f → window ≡ after.held → TakesNext Took Took window f now next
         → passed ≡ without_front f.end after → Streams Took start next left left_after passed
     streams_on passed f window next is held takes front =
         let come = comes_to in
         let F : Found → Type 0 = λ n. Finds after.held 0 n in
         let finds = subst F is look.finds in
-        let fields : Option (List FieldValue) = finds.0 in
+        let stands = next_frame f is in
         let inside = frame_ends_within after.held f ahead.next is look.finds in
-        let W : List ℕ → Type 0 = λ l. IsFrameOf l f fields in
-        let one : FrameValue = frame_value (moved_frame after.base f) fields in
+        let W : List ℕ → Type 0 = λ l. IsFrameOf l f stands.fields in
+        let one : FrameValue = frame_value (moved_frame after.base f) stands.fields in
         let ends : place_after 0 (come.frames ++ one ∷ []) ≡ one.end =
         place_after-snoc 0 come.frames one in
         let P : BufferValue → Type 0 = λ b. Streams Took start next left left_after b in
@@ -133,16 +163,11 @@ module _ {T : Type 0} (Took : Leads T) where
         subst P (sym front) (record {
           fetched = come.fetched;
           frames = come.frames ++ one ∷ [];
-          taken = subst (Consumes left left_after)
-              (ap (λ o. come.fetched ++ o) (no_byte_past f is (either ahead.goes_on))
-              ∙ append-nil come.fetched) come.taken;
+          taken = taken_before f is;
           holds = subst H (sym ends)
               (holds_pass come.fetched (place_after 0 come.frames) after f come.holds finds);
           few = omega (arith, look.few, inside.inside, size);
-          split = splits-snoc come.fetched 0 come.frames one (after.base + f.body_from)
-              (after.base + f.body_to) come.split
-              (holds_stands come.fetched (place_after 0 come.frames) after f fields come.holds
-              finds.1);
+          split = stands.split;
           counted = omega (
             arith,
             ends,
@@ -151,8 +176,53 @@ module _ {T : Type 0} (Took : Leads T) where
             come.holds.after,
             inside.some,
           );
-          took = takes start come.frames one (subst W (sym held) (0, finds.1, finds.2)) come.took;
+          took = takes start come.frames one (subst W (sym held) stands.frame_is) come.took;
         })
+
+    -- the frame was refused
+    pub stops_at : (Stopped : PortFault → Leads T) (why : PortFault) (f : Frame) (window : List ℕ)
+        (next : T) → ahead.next ≡ found.Frame f → window ≡ after.held
+        → StopsNext Took Stopped why window f now next
+        → StopsBy Took Stopped start next left left_after (end_by why)
+    stops_at Stopped why f window next is held stops = by why stops
+      where
+        stands : NextFrame f
+        stands = next_frame f is
+
+        one : FrameValue
+        one = frame_value (moved_frame after.base f) stands.fields
+
+        of_window : IsFrameOf window f stands.fields
+        of_window = let W : List ℕ → Type 0 = λ l. IsFrameOf l f stands.fields in
+            subst W (sym held) stands.frame_is
+
+        fetches : (frames : List FrameValue) → SplitsTo comes_to.fetched 0 frames
+            → FetchesFrames left left_after frames
+        fetches frames split = record {
+          fetched = comes_to.fetched;
+          taken = taken_before f is;
+          few = omega (arith, comes_to.size, look.few);
+          split = split;
+        }
+
+        by : (why : PortFault) → StopsNext Took Stopped why window f now next
+            → StopsBy Took Stopped start next left left_after (end_by why)
+        by fault.Failed stops = record {
+          frames = comes_to.frames;
+          last = one;
+          fetches = fetches (comes_to.frames ++ one ∷ []) stands.split;
+          stopped = stops start comes_to.frames one of_window comes_to.took;
+        }
+        by fault.Memory (inl within) = record {
+          frames = comes_to.frames ++ one ∷ [];
+          fetches = fetches (comes_to.frames ++ one ∷ []) stands.split;
+          stopped = within start comes_to.frames one of_window comes_to.took;
+        }
+        by fault.Memory (inr before) = record {
+          frames = comes_to.frames;
+          fetches = fetches comes_to.frames comes_to.split;
+          stopped = before start comes_to.frames comes_to.took;
+        }
 
     -- of what the source had left, few bytes were taken
     pub fetches_come : (end : End) → ((place : ℕ) → end ≡ ending.Broken place
@@ -211,27 +281,72 @@ module _ {T : Type 0} (Took : Leads T) where
     took = fresh;
   }
 
-  -- where a fetch failed, few bytes were taken
-  pub fetches_few : (start now : T) (left left_between left_after : Option (List ℕ))
-      (before : BufferValue) → Streams Took start now left left_between before
-      → TakesFew left_between left_after (input_most - (before.base + length before.held))
-      → FetchesInput left left_after ending.ReadFault
-  fetches_few start now left left_between left_after before s few =
-      let h = s.holds in
+  -- where a read failed, what was fetched are the frames taken and a rest
+  pub stops_reading : (start now : T) (left left_between left_after : Option (List ℕ))
+      (before after : BufferValue) → Streams Took start now left left_between before
+      → FailsAhead left_between left_after before after
+      → StopsReading Took start now left left_after
+  stops_reading start now left left_between left_after before after s fails =
+      let fetched = s.fetched ++ fails.more in
+      let place = place_after 0 s.frames in
+      let holds = fails.holds s.fetched place s.holds in
       record {
-        taken = s.fetched ++ few.0;
-        most = omega (
+        fetched = fetched;
+        frames = s.frames;
+        rest = moved after.base fails.next;
+        taken = Consumes-append left left_between left_after s.fetched fails.more s.taken
+            fails.taken;
+        few = omega (
           arith,
-          length-append s.fetched few.0,
-          few.2,
-          h.within,
-          ap length h.held,
-          length-drop before.base s.fetched,
-          s.few,
+          fails.few,
+          holds.within,
+          ap length holds.held,
+          length-drop after.base fetched,
         );
-        consumed = Consumes-append left left_between left_after s.fetched few.0 s.taken few.1;
-        broken = λ place is. absurd cc;
+        split = splits_then fetched 0 s.frames (moved after.base fails.next)
+            (splits-more s.fetched fails.more 0 s.frames s.split)
+            (holds_finds fetched place after fails.next holds fails.finds);
+        may = open_moved after.base fails.next fails.may;
+        took = s.took;
       }
+
+  -- and few bytes were taken
+  pub fetches_short : (start now : T) (left left_after : Option (List ℕ))
+      → StopsReading Took start now left left_after
+      → FetchesInput left left_after ending.ReadFault
+  fetches_short start now left left_after stops = record {
+    taken = stops.fetched;
+    most = omega (arith, stops.few);
+    consumed = stops.taken;
+    broken = λ place is. absurd cc;
+  }
+
+  -- where no frame was taken
+  pub stops_first : (Stopped : PortFault → Leads T) (start : T) (left : Option (List ℕ))
+      → Stopped fault.Memory start [] start
+      → StopsBy Took Stopped start start left left ending.Memory
+  stops_first Stopped start left stopped = record {
+    frames = [];
+    fetches = record {
+      fetched = [];
+      taken = consumes_none left;
+      few = omega arith;
+      split = tt;
+    };
+    stopped = stopped;
+  }
+
+  -- what stands next is no frame, and no fault ends the run
+  pub stops_by_input : (Stopped : PortFault → Leads T) (start now : T)
+      (left left_after : Option (List ℕ)) (end : End) → IsByInput end
+      → StopsBy Took Stopped start now left left_after end
+  stops_by_input Stopped start now left left_after ending.Whole by = tt
+  stops_by_input Stopped start now left left_after (ending.Cut place) by = tt
+  stops_by_input Stopped start now left left_after (ending.Broken place) by = tt
+  stops_by_input Stopped start now left left_after (ending.TooLong place) by = tt
+  stops_by_input Stopped start now left left_after ending.ReadFault by = absurd by
+  stops_by_input Stopped start now left left_after ending.WriteFault by = absurd by
+  stops_by_input Stopped start now left left_after ending.Memory by = absurd by
 
   -- the frames of the input were taken, up to what ends the run
   takes_input : (start now : T) (bytes input : List ℕ) (frames : List FrameValue) (next : Found)
