@@ -1,15 +1,16 @@
 -- The frames of what has come, as the run goes on and where it stops.
-use Rattle.std.proofs.Common.{◌≡◌, ℕ, ◌+◌, ◌-◌, ◌≤◌, ◌<◌, List, [], ◌∷◌, ◌++◌, length, take, sym}
+use Rattle.std.proofs.Common.{◌≡◌, ℕ, ◌+◌, ◌-◌, ◌≤◌, ◌<◌, List, [], ◌∷◌, ◌++◌, length, take, drop, sym}
 use Rattle.std.proofs.Common.{ap, ◌∙◌, subst, Bool, true, false, arith, inl, inr, append_assoc}
 use Rattle.std.proofs.Common.{length-append, length-drop}
 use Rattle.std.proofs.lemmas.Bool.{lt-ltb, le-ltb}
 use Rattle.std.specs.Prelude.{Option, Some, None, nat_lt, ◌⊎◌}
 use Rattle.std.specs.Io.KnownBytes.{Consumes}
-use Rattle.std.proofs.lemmas.List.{append-nil, take_at, take_all}
+use Rattle.std.proofs.lemmas.List.{append-nil, take_at, take_all, drop-append-le, drop-drop}
+use Rattle.std.proofs.lemmas.List.{take-append-le}
 use Rattle.std.proofs.Math.Seq.{take-append-add}
 use Rattle.fix_fields.specs.Fields.{FieldValue}
 use Rattle.fix_fields.specs.Frames.{FrameValue}
-use Rattle.fix_fields.specs.Found.{Finds, IsSettled, Splits, frame_value, place_after}
+use Rattle.fix_fields.specs.Found.{Finds, IsSettled, Splits, StandsAt, frame_value, place_after}
 use Rattle.fix_fields.specs.FrameBuffers.{BufferValue, IsOpen, without_front, buffer_most}
 use Rattle.fix_fields.specs.Windows.{HoldsRest, moved, moved_frame}
 use Rattle.fix_fields.specs.declared.frame.Frame.{Frame}
@@ -26,7 +27,7 @@ use Rattle.risk_journal.specs.declared.acts.End.TheVariants as ending
 use Rattle.frame_run.specs.declared.ahead.Ahead.{Ahead}
 use Rattle.frame_run.specs.Ahead.{LooksAhead, FailsAhead}
 use Rattle.frame_run.specs.Ends.{EndsBy, FetchesInput, IsByInput, end_by, input_most}
-use Rattle.frame_run.specs.Frames.{IsFrameOf}
+use Rattle.frame_run.specs.Frames.{IsSameFrame, text_of, text_in}
 use Rattle.frame_run.specs.Taking.{Leads, IsUnderWay, TakesNext, TakesInput, TakesSource}
 use Rattle.frame_run.specs.Taking.{SplitsTo, Streams, FetchesFrames, StopsNext, StopsReading, StopsBy}
 use Rattle.frame_run.proofs.Endings.{either, open_or_settled, open_moved, by_settled}
@@ -61,7 +62,41 @@ fetches_none left = record {
   broken = λ place is. absurd cc;
 }
 
+-- the bytes of a frame in the buffer are those at its place in any input that begins with what has come
+text_is : (fetched more : List ℕ) (place : ℕ) (buffer : BufferValue) (f : Frame)
+    (fields : Option (List FieldValue)) → HoldsRest fetched place buffer
+    → StandsAt buffer.held 0 f fields
+    → text_of (fetched ++ more) (frame_value (moved_frame buffer.base f) fields)
+    ≡ text_in buffer.held f
+text_is fetched more place buffer f fields holds stands =
+    let base : ℕ = buffer.base in
+    let w = frame_within buffer.held 0 (frame_value f fields) f.body_from f.body_to stands in
+    let size : length buffer.held ≡ length fetched - base =
+    ap length holds.held ∙ length-drop base fetched in
+    let rest : drop (base + f.start) (fetched ++ more) ≡ drop f.start buffer.held ++ more =
+    drop-append-le (base + f.start) fetched more (omega (arith, holds.within, size, w.some, w.inside))
+    ∙ ap (λ l. l ++ more) (sym (drop-drop f.start base fetched)
+    ∙ ap (drop f.start) (sym holds.held)) in
+    let count : base + f.end - (base + f.start) ≡ f.end - f.start = omega arith in
+    rw (count, rest)
+    (take-append-le (f.end - f.start) (drop f.start buffer.held) more
+    (omega (arith, length-drop f.start buffer.held, w.inside)))
+
 module _ {T : Type 0} (Took : Leads T) where
+  -- frames that lead on over each input that begins so do where more has come
+  takes_more : (start now : T) (fetched came : List ℕ) (frames : List FrameValue)
+      → ((more : List ℕ) → Took (fetched ++ more) start frames now) → (more : List ℕ)
+      → Took ((fetched ++ came) ++ more) start frames now
+  takes_more start now fetched came frames took more =
+      subst (λ l. Took l start frames now) (sym (append_assoc fetched came more))
+      (took (came ++ more))
+
+  -- and over just what has come
+  takes_all : (start now : T) (fetched : List ℕ) (frames : List FrameValue)
+      → ((more : List ℕ) → Took (fetched ++ more) start frames now) → Took fetched start frames now
+  takes_all start now fetched frames took =
+      subst (λ l. Took l start frames now) (append-nil fetched) (took [])
+
   -- what has come stands before what is next, and perhaps a byte came past the input
   pub record ComesTo (start now : T) (left left_after : Option (List ℕ)) (after : BufferValue)
       (next : Found) (over : List ℕ) : Type 0 where
@@ -71,7 +106,7 @@ module _ {T : Type 0} (Took : Leads T) where
     pub holds : HoldsRest fetched (place_after 0 frames) after
     pub split : SplitsTo fetched 0 frames
     pub counted : length frames ≤ place_after 0 frames
-    pub took : Took start frames now
+    pub took : (more : List ℕ) → Took (fetched ++ more) start frames now
     pub finds : Finds fetched (place_after 0 frames) (moved after.base next)
     pub size : length fetched ≡ after.base + length after.held
 
@@ -94,7 +129,7 @@ module _ {T : Type 0} (Took : Leads T) where
           holds = holds;
           split = splits-more s.fetched look.more 0 s.frames s.split;
           counted = s.counted;
-          took = s.took;
+          took = takes_more start now s.fetched look.more s.frames s.took;
           finds = holds_finds fetched place after ahead.next holds look.finds;
           size = omega (arith, holds.within, ap length holds.held, length-drop after.base fetched);
         }
@@ -104,9 +139,10 @@ module _ {T : Type 0} (Took : Leads T) where
     under_way f is =
         let w = frame_ends_within after.held f ahead.next is look.finds in
         record {
+          input = s.fetched ++ [];
           start = start;
           frames = s.frames;
-          took = s.took;
+          took = s.took [];
           few = omega (arith, w.some, w.inside, look.few, s.counted, comes_to.holds.after);
         }
 
@@ -118,7 +154,8 @@ module _ {T : Type 0} (Took : Leads T) where
     -- the frame that stands next, as contracts see it, behind those that were taken
     pub record NextFrame (f : Frame) : Type 0 where
       pub fields : Option (List FieldValue)
-      pub frame_is : IsFrameOf after.held f fields
+      pub frame_is : (more : List ℕ) → IsSameFrame after.held f (comes_to.fetched ++ more)
+          (frame_value (moved_frame after.base f) fields)
       pub split : SplitsTo comes_to.fetched 0
           (comes_to.frames ++ frame_value (moved_frame after.base f) fields ∷ [])
 
@@ -129,7 +166,11 @@ module _ {T : Type 0} (Took : Leads T) where
         let finds = subst F is look.finds in
         record {
           fields = finds.0;
-          frame_is = (0, finds.1, finds.2);
+          frame_is = λ more. record {
+            stands = (0, finds.1, finds.2);
+            text = text_is come.fetched more (place_after 0 come.frames) after f finds.0 come.holds
+                finds.1;
+          };
           split = splits-snoc come.fetched 0 come.frames
               (frame_value (moved_frame after.base f) finds.0) (after.base + f.body_from)
               (after.base + f.body_to) come.split
@@ -153,7 +194,6 @@ module _ {T : Type 0} (Took : Leads T) where
         let finds = subst F is look.finds in
         let stands = next_frame f is in
         let inside = frame_ends_within after.held f ahead.next is look.finds in
-        let W : List ℕ → Type 0 = λ l. IsFrameOf l f stands.fields in
         let one : FrameValue = frame_value (moved_frame after.base f) stands.fields in
         let ends : place_after 0 (come.frames ++ one ∷ []) ≡ one.end =
         place_after-snoc 0 come.frames one in
@@ -176,7 +216,10 @@ module _ {T : Type 0} (Took : Leads T) where
             come.holds.after,
             inside.some,
           );
-          took = takes start come.frames one (subst W (sym held) stands.frame_is) come.took;
+          took = λ more.
+              let W : List ℕ → Type 0 = λ l. IsSameFrame l f (come.fetched ++ more) one in
+              takes (come.fetched ++ more) start come.frames one (subst W (sym held)
+              (stands.frame_is more)) (come.took more);
         })
 
     -- the frame was refused
@@ -192,9 +235,14 @@ module _ {T : Type 0} (Took : Leads T) where
         one : FrameValue
         one = frame_value (moved_frame after.base f) stands.fields
 
-        of_window : IsFrameOf window f stands.fields
-        of_window = let W : List ℕ → Type 0 = λ l. IsFrameOf l f stands.fields in
-            subst W (sym held) stands.frame_is
+        of_window : IsSameFrame window f comes_to.fetched one
+        of_window =
+            let W : List ℕ → Type 0 = λ l. IsSameFrame l f comes_to.fetched one in
+            let I : List ℕ → Type 0 = λ l. IsSameFrame after.held f l one in
+            subst W (sym held) (subst I (append-nil comes_to.fetched) (stands.frame_is []))
+
+        took : Took comes_to.fetched start comes_to.frames now
+        took = takes_all start now comes_to.fetched comes_to.frames comes_to.took
 
         fetches : (frames : List FrameValue) → SplitsTo comes_to.fetched 0 frames
             → FetchesFrames left left_after frames
@@ -211,17 +259,17 @@ module _ {T : Type 0} (Took : Leads T) where
           frames = comes_to.frames;
           last = one;
           fetches = fetches (comes_to.frames ++ one ∷ []) stands.split;
-          stopped = stops start comes_to.frames one of_window comes_to.took;
+          stopped = stops comes_to.fetched start comes_to.frames one of_window took;
         }
         by fault.Memory (inl within) = record {
           frames = comes_to.frames ++ one ∷ [];
           fetches = fetches (comes_to.frames ++ one ∷ []) stands.split;
-          stopped = within start comes_to.frames one of_window comes_to.took;
+          stopped = within comes_to.fetched start comes_to.frames one of_window took;
         }
         by fault.Memory (inr before) = record {
           frames = comes_to.frames;
           fetches = fetches comes_to.frames comes_to.split;
-          stopped = before start comes_to.frames comes_to.took;
+          stopped = before comes_to.fetched start comes_to.frames took;
         }
 
     -- of what the source had left, few bytes were taken
@@ -268,7 +316,7 @@ module _ {T : Type 0} (Took : Leads T) where
 
   -- before any bytes
   pub streams_none : (start : T) (left : Option (List ℕ)) (buffer : BufferValue)
-      → buffer.held ≡ [] → buffer.base ≡ 0 → Took start [] start
+      → buffer.held ≡ [] → buffer.base ≡ 0 → ((input : List ℕ) → Took input start [] start)
       → Streams Took start start left left buffer
   streams_none start left buffer held base fresh = record {
     fetched = [];
@@ -307,7 +355,7 @@ module _ {T : Type 0} (Took : Leads T) where
             (splits-more s.fetched fails.more 0 s.frames s.split)
             (holds_finds fetched place after fails.next holds fails.finds);
         may = open_moved after.base fails.next fails.may;
-        took = s.took;
+        took = s.took fails.more;
       }
 
   -- and few bytes were taken
@@ -323,7 +371,7 @@ module _ {T : Type 0} (Took : Leads T) where
 
   -- where no frame was taken
   pub stops_first : (Stopped : PortFault → Leads T) (start : T) (left : Option (List ℕ))
-      → Stopped fault.Memory start [] start
+      → Stopped fault.Memory [] start [] start
       → StopsBy Took Stopped start start left left ending.Memory
   stops_first Stopped start left stopped = record {
     frames = [];
@@ -351,14 +399,14 @@ module _ {T : Type 0} (Took : Leads T) where
   -- the frames of the input were taken, up to what ends the run
   takes_input : (start now : T) (bytes input : List ℕ) (frames : List FrameValue) (next : Found)
       (end : End) → take input_most bytes ≡ input → SplitsTo input 0 frames
-      → Finds input (place_after 0 frames) next → Took start frames now
+      → Finds input (place_after 0 frames) next → Took input start frames now
       → EndsBy (nat_lt input_most (length bytes)) next end → TakesInput Took start now bytes end
   takes_input start now bytes input frames next end is split finds took end_is = record {
     frames = frames;
     next = next;
     split = subst (λ l. Splits l 0 frames next) (sym is)
         (splits_then input 0 frames next split finds);
-    took = took;
+    took = subst (λ l. Took l start frames now) (sym is) took;
     end_is = end_is;
   }
 
@@ -394,7 +442,8 @@ module _ {T : Type 0} (Took : Leads T) where
           takes_input start now bytes come.fetched come.frames next end
           (ap (take input_most) all
           ∙ take_all input_most come.fetched (omega (arith, come.size, look.few)))
-          come.split come.finds come.took (subst E (stops ∙ sym on) end_is)
+          come.split come.finds (takes_all start now come.fetched come.frames come.took)
+          (subst E (stops ∙ sym on) end_is)
       by_open stops (inr settled) =
           let all : bytes ≡ come.fetched ++ rest = come.taken
           ∙ ap (λ o. (come.fetched ++ o) ++ rest) (look.within stops)
@@ -405,7 +454,7 @@ module _ {T : Type 0} (Took : Leads T) where
           ∙ more_after input_most come.fetched rest (omega (arith, come.size, look.few)))
           (splits-more come.fetched more 0 come.frames come.split)
           (found_stays come.fetched more (place_after 0 come.frames) next settled come.finds)
-          come.took
+          (come.took more)
           (by_settled ahead.goes_on (nat_lt input_most (length bytes)) next end settled end_is)
 
       by_goes_on : (ahead.goes_on ≡ true) ⊎ (ahead.goes_on ≡ false)
@@ -426,5 +475,6 @@ module _ {T : Type 0} (Took : Leads T) where
           takes_input start now bytes come.fetched come.frames next end
           (ap (take input_most) (come.taken ∙ append_assoc come.fetched look.over rest)
           ∙ take_at come.fetched (look.over ++ rest) input_most (come.size ∙ p.1))
-          come.split come.finds come.took (subst E (goes ∙ sym on) end_is)
+          come.split come.finds (takes_all start now come.fetched come.frames come.took)
+          (subst E (goes ∙ sym on) end_is)
       by_goes_on (inr stops) = by_open stops (open_or_settled after.base ahead.next)

@@ -17,10 +17,10 @@ use std::alloc::Global;
 
 /// What takes frames one after another, and gives what comes of them to sinks.
 pub trait TakesFrames {
-    /// The frames that lead from one value to another.
+    /// The frames of an input that lead from one value to another.
     ghost Took: { Leads Self };
-    /// The frames that lead from one value to another at which the run stopped for this refusal. Of
-    /// what comes of the last of them some may not have been given.
+    /// The frames of an input that lead from one value to another at which the run stopped for this
+    /// refusal. Of what comes of the last of them some may not have been given.
     ghost Stopped: { PortFault → Leads Self };
     /// One value, and a value so many frames later at most.
     ghost IsAfter: { Self → Self → ℕ → Type 0 };
@@ -40,8 +40,8 @@ pub trait TakesFrames {
     ghost after_next: { (a b c : Self) (one two : ℕ) → IsAfter a b one → IsAfter b c two
         → IsAfter a c (one + two) };
 
-    ghost stopped_whole: { (start now : Self) (frames : List FrameValue) → Took start frames now
-        → Stopped PortFault.Memory start frames now };
+    ghost stopped_whole: { (input : List ℕ) (start now : Self) (frames : List FrameValue)
+        → Took input start frames now → Stopped PortFault.Memory input start frames now };
 }
 
 /// Takes the frames of a source up to what is no frame, and says how the run ends.
@@ -51,7 +51,7 @@ fn take_frames<T: TakesFrames, S: Source>(
     buffer: &mut FrameBuffer,
 ) -> End
     requires empty { (buffer.old.held ≡ []) × (buffer.old.base ≡ 0) }
-    requires fresh { T.Took taker.old [] taker.old }
+    requires fresh { (input : List ℕ) → T.Took input taker.old [] taker.old }
     ensures follows { IsByInput result
         → TakesSource T.Took taker.old taker.new (S.left source.old) result }
     ensures stopped { StopsBy T.Took T.Stopped taker.old taker.new (S.left source.old)
@@ -80,7 +80,7 @@ fn take_frames<T: TakesFrames, S: Source>(
 /// Takes the frames of a source up to what is no frame, over at most `INPUT_MOST` bytes, and says how
 /// the run ends. More is fetched only where what has come is no whole frame.
 pub fn take_input<T: TakesFrames, S: Source>(alloc: Global, taker: &mut T, source: &mut S) -> End
-    requires fresh { T.Took taker.old [] taker.old }
+    requires fresh { (input : List ℕ) → T.Took input taker.old [] taker.old }
     ensures follows { IsByInput result
         → TakesSource T.Took taker.old taker.new (S.left source.old) result }
     ensures stopped { StopsBy T.Took T.Stopped taker.old taker.new (S.left source.old)

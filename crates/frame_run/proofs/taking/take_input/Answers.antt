@@ -13,4 +13,4 @@ returns-in-Err-clause-after g c =
 pub returns-in-Err-clause-stopped : goal.returns-in-Err-clause-stopped
 returns-in-Err-clause-stopped g c =
     stops_first g.T.TakesFrames.Took g.T.TakesFrames.Stopped c.args.taker.now (g.S.Source.left c.args.source.now)
-    (g.met.T.TakesFrames.stopped_whole c.args.taker.now c.args.taker.now [] c.requires.fresh)
+    (g.met.T.TakesFrames.stopped_whole [] c.args.taker.now c.args.taker.now [] (c.requires.fresh []))
