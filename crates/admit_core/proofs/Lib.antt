@@ -4,10 +4,12 @@ pub mod Asked
 pub mod AskedAdmits
 pub mod AskedTrees
 pub mod CallLemmas
+pub mod EachMoment
 pub mod LegPosts
 pub mod LowerLemmas
 pub mod LoweredTrees
 pub mod Noted
+pub mod OwnAdmits
 pub mod OwnPlaces
 pub mod OwnReads
 pub mod OwnStandings
