@@ -14,6 +14,7 @@ pub mod OwnPlaces
 pub mod OwnReads
 pub mod OwnStandings
 pub mod OwnSteps
+pub mod Slices
 pub mod Standings
 pub mod Steps
 pub mod Tripped
