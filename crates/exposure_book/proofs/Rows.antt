@@ -32,13 +32,14 @@ book : Order → BookValue
 book one = record {
   accounts = 1;
   symbols = 1;
+  nets = false ∷ [];
   orders = one ∷ [];
   ids = (codes "a1", 0) ∷ (codes "b1", 0) ∷ [];
 }
 
 -- the value of the firm
-value : List Order → ℕ
-value orders = units_up (firm_sum orders)
+value : Order → ℕ
+value one = units_up (firm_sum (book one))
 
 -- the same value in the three trees
 all : ℕ → Applied
@@ -51,8 +52,8 @@ all units = applied.Applied (record {
 })
 
 -- sell 100 @ 9.00 counts at the upper collar price
-sell : value (order 50 90000 pending.Nothing ∷ []) ≡ 1200
-unfolding order value
+sell : value (order 50 90000 pending.Nothing) ≡ 1200
+unfolding order book value
 sell = refl
 
 -- a trade of 40 @ 9.50 of it: 380 and 720
@@ -68,8 +69,8 @@ unfolding order book
 beyond = refl
 
 -- buy 100 @ 10.00 with a replace to 150 pending
-raised : value (order 49 100000 (pending.Replace (codes "b1") 150 100000) ∷ []) ≡ 1500
-unfolding order value
+raised : value (order 49 100000 (pending.Replace (codes "b1") 150 100000)) ≡ 1500
+unfolding order book value
 raised = refl
 
 -- the replace is rejected
@@ -79,8 +80,8 @@ unfolding order book all
 rejected = refl
 
 -- a replace to 80 pending raises and lowers nothing until it takes place
-lowering : value (order 49 100000 (pending.Replace (codes "b1") 80 100000) ∷ []) ≡ 1000
-unfolding order value
+lowering : value (order 49 100000 (pending.Replace (codes "b1") 80 100000)) ≡ 1000
+unfolding order book value
 lowering = refl
 
 lowered : (outcome_by (book (order 49 100000 (pending.Replace (codes "b1") 80 100000))) Replaced
