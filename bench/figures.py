@@ -115,13 +115,15 @@ def fuzz_cells(counts):
     """The rows of inputs with something wrong."""
     faults = sum(value for _, value in fuzz.of_kind(counts, "fault"))
     states = [value for _, value in fuzz.of_kind(counts, "state")]
-    whole = counts["runs"] - faults - counts["not built"]
+    whole = counts["runs"] - faults
     ended = ", ".join(f"{counts['end', number]:,}" for number in ENDS.values())
     return [
         ("runs, sessions, frames",
          f"{counts['runs']:,}, {counts['sessions']:,}, {counts['frames']:,}"),
-        ("of the runs: judged whole; a limit file with a fault; a dropped screen, which isn't "
-         "served (`not built`)", f"{whole:,}; {faults:,}; {counts['not built']:,}"),
+        ("of the runs: judged whole; a limit file with a fault", f"{whole:,}; {faults:,}"),
+        ("of those judged whole: runs with `off` rows; screens that were dropped; sessions that did "
+         "otherwise than without the rows", f"{counts['with off rows']:,}; "
+         f"{counts['off', 'dropped']:,}; {counts['off', 'told']:,}"),
         ("sessions that ended whole, cut, broken, too long", ended),
         ("orders and requests sent, refused; notes",
          f"{counts['sent']:,}, {counts['refused']:,}; {counts['noted']:,}"),

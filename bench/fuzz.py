@@ -5,15 +5,15 @@ plain model.
 usage: fuzz.py [--runs N] [--seed N] [--only NUMBER] [--jobs N] [--gate PATH] [--keep FOLDER]
 
 20,000 runs, seed 1, one job. A run has 1 to 4 sessions, made of worked runs (`rows.py`), of random
-sessions (`loads.py`), of messages with each value at the limits of a field, or of reports on orders
-in every state, with up to three changes in each (`broken.py`). It is judged as `stress.py` judges:
+sessions (`loads.py`), of messages with each value at the limits of a field, of orders worth as much
+as a limit, or of reports on orders in every state (`hostile.py`), with up to three changes in each
+(`broken.py`); its limit file may drop screens. It is judged as `stress.py` judges:
 acts, streams, totals and status are those of the model in `model`; and so is the fault of a limit
 file that has one. It depends on the seed and its number alone, so `--only` repeats one. It prints
 what it ran and saw. At a run that is wrong it looks for a smaller one that is wrong too, leaves its
 files in FOLDER, where one is given, and ends with status 1.
 """
 import argparse
-import random
 import shutil
 import sys
 import tempfile
@@ -23,76 +23,17 @@ from functools import partial
 from multiprocessing import Pool
 
 import broken
-import loads
+from inputs import made
 from model.book import Book
-from model.frames import next_frame
 from model.judge import Wrong, demand, judge_run
 from model.limits import Limits, first_fault
 from model.screens import own_screens
-from model.session import ENDS, Session, take_frames
-from rows import ROWS, base, buy, cancel, refusal, replace, trade
+from model.session import ENDS, Session, run_session, take_frames
 from stress import PROGRAM, call, count, results
 
-# The status of a limit file with a fault, and what is answered to one that isn't served.
+# The status of a limit file with a fault.
 FAULTY = 3
-NOT_BUILT = (9, b"not built\n")
 CHUNK = 100
-
-
-class Desk(loads.Client):
-    """Few small orders, and a venue that reports everything on each, in whatever state it is. A
-    plain session to which the trees never say no keeps the book."""
-
-    def __init__(self, dice, number, limits):
-        super().__init__(dice, number)
-        self.plain = Session(limits, own_screens(limits), [])
-
-    def terms(self):
-        """Few prices and quantities, so that trades meet leaves and prices exactly."""
-        price = self.random.choice(("1", "2.5", "12", "12.0000"))
-        return [(55, "XYZ"), (54, self.random.choice((1, 1, 2, 5, 6))),
-                (38, self.random.randint(1, 4)), (40, self.random.choice((2, 2, 2, 1))),
-                (44, price)]
-
-    def any_id(self):
-        """An id that the book has, mostly a late one; now and then one that it hasn't."""
-        some = list(self.plain.book.by_id)
-        if not some or self.random.random() < 0.05:
-            return "none"
-        return self.random.choice(some[-self.random.choice((3, 6, 60)):]).decode()
-
-    def known(self):
-        """An OrigClOrdID: mostly an order's current id."""
-        if self.random.random() < 0.2:
-            return self.any_id()
-        order = self.plain.book.by_id.get(self.any_id().encode())
-        return order.id.decode() if order else "none"
-
-    def trade(self):
-        """A trade of up to what may be left, at a price on either side of the order's."""
-        price = self.random.choice(("1", "1.0001", "2.5", "2.5001", "12", "12.0001"))
-        return self.from_venue("8", [(17, "E"), (150, "F"), (11, self.any_id()),
-                                     (32, self.random.randint(1, 5)), (31, price)])
-
-    def report(self):
-        """A report of any kind, now and then without an id."""
-        own = [(11, self.any_id())] if self.random.random() < 0.95 else []
-        exec_type = self.random.choice("000444555888CCC1236790ABDEGHI")
-        return self.from_venue("8", [(17, "E"), (150, exec_type)] + own)
-
-    def refusal(self):
-        """An OrderCancelReject of any id."""
-        return self.from_venue("9", [(11, self.any_id()), (41, self.any_id()), (39, 0), (434, 1),
-                                     (102, 2)])
-
-    def next(self):
-        """The next message."""
-        kinds = ((self.order, 4), (self.cancel, 3), (self.replace, 4), (self.trade, 5),
-                 (self.report, 7), (self.refusal, 2))
-        calls, weights = zip(*kinds)
-        made = self.random.choices(calls, weights)[0]()
-        self.plain.take(next_frame(made, 0).fields)
-        return made
 
 
 class Watched(Book):
@@ -117,80 +58,6 @@ class Watched(Book):
         return super().apply(kind, values)
 
 
-def limits_of(dice):
-    """A limit file: wide, of the loads, or with values at their ends; now and then with dropped
-    screens."""
-    text = base(100_000) if dice.random() < 0.5 else loads.limits(dice)
-    if dice.random() < 0.2:
-        firm, account, symbol = (dice.choice((0, 1, 999, 34_359_738_367, 999_999_999_999))
-                                 for _ in range(3))
-        low, high = dice.choice((("0.0001", "999999.9999"), ("1", "12"), ("12", "12.0000")))
-        size = dice.choice((1, 500, 1_000_000_000))
-        text = (f"firm,,{firm},,,\naccount,ACC,{account},,,\naccount,ACD,5,,,\n"
-                f"symbol,ABC,7,1,2,3\nsymbol,XYZ,{symbol},{low},{high},{size}\n"
-                f"quota,,{dice.choice((1, 2, 3, 200_000))},,,\n")
-    if dice.random() < 0.05:
-        name = dice.choice(("size", "collar", "repeat", "none"))
-        text += f"off,{name},{dice.randint(0, 4)},,,\n"
-    return text
-
-
-def asked_of(kind, place):
-    """What comes before a message of a kind, and the message, with ids of their own."""
-    own, other = f"o{place}", f"r{place}"
-    first = buy("C1", own, 2, "2.5")
-    return {"D": (b"", first), "F": (first, cancel(other, own)),
-            "G": (first, replace(other, own, 3, "2.5")), "8": (first, trade(own, 1, "2")),
-            "9": (first + cancel(other, own), refusal(other, own))}[kind]
-
-
-def ladder(dice):
-    """One kind of message, once with each value at the limits of one of its fields."""
-    kind, data = dice.choice("DFG89"), []
-    tag = dice.choice([tag for tag in broken.VALUES if b"\x01%d=" % tag in asked_of(kind, 0)[1]])
-    for place, value in enumerate(broken.VALUES[tag]):
-        before, message = asked_of(kind, place)
-        data += before, broken.with_value(message, tag, value)
-    return b"".join(data)
-
-
-def session_of(dice, number, limits):
-    """A session's input, before it is changed."""
-    choice = dice.random()
-    if choice < 0.2:
-        return ladder(dice)
-    if choice < 0.5:
-        return loads.session(dice, number, dice.randint(1, 12))
-    desk = Desk(dice, number, Limits(limits))
-    # Now and then more than the program's buffer holds.
-    messages = dice.randint(1, 24) if dice.random() < 0.97 else dice.randint(150, 300)
-    return b"".join(desk.next() for _ in range(messages))
-
-
-def changed(dice, data, counts):
-    """An input with up to three changes."""
-    for _ in range(dice.choice((0, 1, 1, 1, 2, 3))):
-        data, name = broken.change(dice, data)
-        counts["change", name] += 1
-    return data
-
-
-def made(seed, number, counts):
-    """The limit file and the inputs of a run."""
-    dice = random.Random(f"{seed}/{number}")
-    if dice.random() < 0.3:
-        limits, inputs = dice.choice(ROWS)
-    else:
-        limits = limits_of(dice)
-        inputs = [session_of(dice, session, limits)
-                  for session in range(dice.choice((1, 1, 2, 3, 4)))]
-    if dice.random() < 0.1:
-        counts["change", "limits"] += 1
-        for _ in range(dice.choice((1, 1, 2))):
-            limits = broken.change_limits(dice, limits)
-    return limits, [changed(dice, data, counts) for data in inputs]
-
-
 def wrong_of(program, limits, inputs, counts, keep=None):
     """What is wrong with a run, None where nothing is."""
     with tempfile.TemporaryDirectory() as folder:
@@ -201,8 +68,6 @@ def wrong_of(program, limits, inputs, counts, keep=None):
                 wanted = FAULTY, b"limits fault %d row %d\n" % fault
                 demand(answer == wanted, "a limit file's fault", wanted, answer)
                 counts.update(("runs", ("fault", fault[0])))
-            elif Limits(limits).off and answer == NOT_BUILT:
-                counts.update(("runs", "not built"))
             else:
                 acts = judge_run(limits, inputs, *results(done, out, len(inputs)))
                 count(counts, acts)
@@ -214,14 +79,42 @@ def wrong_of(program, limits, inputs, counts, keep=None):
             return wrong
 
 
+class Dropping(Session):
+    """A session that counts its `off` rows by what they drop."""
+
+    def take_up(self):
+        """Counts the rows of an order, and the screens that go."""
+        before = len(self.screens)
+        rows = sum(place == self.orders for _, place in self.limits.off)
+        super().take_up()
+        gone = before - len(self.screens)
+        self.book.counts["off", "dropped"] += gone
+        self.book.counts["off", "dropped nothing"] += rows - gone
+        self.book.counts["off", "several at one order"] += rows > 1
+
+
 def see(counts, limits, inputs, acts):
-    """Counts the frames of inputs, how they end, and the reports by their orders' states."""
+    """Counts the frames of inputs, how they end, the reports by their orders' states, and the rows
+    that drop screens."""
+    counts["with off rows"] += bool(limits.off)
     for data, own in zip(inputs, acts):
         reads = [act[2:] for act in own if act[0] == "read"]
-        session = Session(limits, own_screens(limits), reads)
+        session = Dropping(limits, own_screens(limits), reads)
         session.book = Watched(counts)
         counts["frames"] += sum(1 for _ in take_frames(session, data))
         counts["end", own[-1][1]] += 1
+        late = sum(place >= session.orders for _, place in limits.off)
+        counts["off", "of an order that never came"] += late
+        if late < len(limits.off):
+            counts["off", "told"] += tells_of_rows(limits, data, reads, own)
+
+
+def tells_of_rows(limits, data, reads, acts):
+    """Whether a session's acts are others than without the rows that drop screens."""
+    rows, limits.off = limits.off, []
+    other, _ = run_session(limits, data, reads)
+    limits.off = rows
+    return other.acts != acts
 
 
 def smaller(program, limits, inputs):
@@ -283,12 +176,17 @@ def tell(counts, seconds):
     notes = ", ".join(f"{code}: {counts['noted', code]:,}" for code in range(1, 7))
     faults = ", ".join(f"{code}: {counts['fault', code]:,}" for code in range(1, 9))
     print(f"{counts['runs']:,} runs of {counts['sessions']:,} sessions with {counts['frames']:,} "
-          f"frames, {seconds:.0f} s; not built: {counts['not built']:,}")
+          f"frames, {seconds:.0f} s")
     print(f"faults of limit files  {faults}")
     print(f"changes  {changes}")
     print(f"ends  {ends}")
     print(f"{sum(states):,} reports of known orders, of {len(states)} kinds: what the order is, "
           f"what is pending, which of its ids is told, and the report")
+    print(f"off rows in {counts['with off rows']:,} runs: {counts['off', 'dropped']:,} dropped a "
+          f"screen, {counts['off', 'dropped nothing']:,} nothing, "
+          f"{counts['off', 'of an order that never came']:,} were of an order that never came, "
+          f"{counts['off', 'several at one order']:,} orders had several; "
+          f"{counts['off', 'told']:,} sessions did otherwise than without")
     print(f"sent {counts['sent']:,}, refused {counts['refused']:,}, noted {counts['noted']:,}")
     print(f"refused by code  {causes}")
     print(f"noted by code  {notes}")

@@ -1,7 +1,7 @@
 #!/usr/bin/env python3
-"""Tests of what breaks inputs, of how a wrong run is made smaller, and of the judge of sessions
-that ended early; and a few runs of each over the built program, where `GATE_PROGRAM` names it or it
-is there.
+"""Tests of what breaks inputs, of the rows that drop screens, of reports on orders in each state,
+of how a wrong run is made smaller, and of the judge of sessions that ended early; and a few runs of
+each over the built program, where `GATE_PROGRAM` names it or it is there.
 
 usage: fuzz_tests.py
 """
@@ -15,12 +15,16 @@ from types import SimpleNamespace
 
 import broken
 import fuzz
+import hostile
+import inputs
 import refuse
+from model.book import LEAF_MOST
 from model.frames import next_frame
 from model.judge import Wrong, judge_early
-from model.limits import Limits
-from model.session import run_session
-from rows import FIRST, ROWS, base, buy, one
+from model.limits import Limits, first_fault
+from model.screens import own_screens
+from model.session import Session, run_session, take_frames
+from rows import FIRST, ROWS, base, buy, one, repeats, replace, text
 from stress import PROGRAM
 
 GATE = os.environ.get("GATE_PROGRAM", PROGRAM)
@@ -64,7 +68,7 @@ class Broken(unittest.TestCase):
         """In each kind of message, for a field that it is read of; and no other field changes."""
         for kind, tag in (("D", 38), ("F", 41), ("G", 44), ("8", 31), ("9", 11)):
             with self.subTest(kind):
-                frame = fuzz.asked_of(kind, 0)[1]
+                frame = inputs.asked_of(kind, 0)[1]
                 given = next_frame(broken.with_value(frame, tag, b"7"), 0).fields
                 wanted = [(own, b"7" if own == tag else value)
                           for own, value in next_frame(frame, 0).fields]
@@ -74,6 +78,87 @@ class Broken(unittest.TestCase):
         """Frames and the rest behind them, with what is passed over."""
         data = b"\r\n" + FIRST + b"\n" + FIRST[:40]
         self.assertEqual(broken.split(data), [b"\r\n" + FIRST, b"\n" + FIRST[:40]])
+
+
+# An order with a field fault: it has no Symbol (55).
+FAULTY = text("35=D|49=C1|56=GATE|34=1|52=T|11=f1|1=ACC|54=1|38=1|40=2|44=9|60=T|")
+# Buys of more than the size, 100,000, by their ids, and a dear one.
+LARGE = [buy("C1", own, 100_001, "1", 1) for own in ("a0", "a1", "a2")]
+DEAR = buy("C1", "d0", 1, "12.01")
+# A name, `off` rows, the messages, and what becomes of each: 0 sent, -1 a field fault, -2 unknown,
+# or a screen's code.
+DROPPED = (
+    ("no row", (), LARGE[:2] + [DEAR], (1, 1, 2)),
+    ("the first order", ("off,size,0,,,",), LARGE[:2] + [DEAR], (0, 0, 2)),
+    ("from the second on", ("off,size,1,,,",), LARGE, (1, 0, 0)),
+    ("no screen's name", ("off,none,0,,,", "off,Size,0,,,"), LARGE[:1], (1,)),
+    ("no such order", ("off,size,3,,,",), LARGE, (1, 1, 1)),
+    ("two at one order", ("off,collar,1,,,", "off,size,1,,,"), [LARGE[0], DEAR, LARGE[1]],
+     (1, 0, 0)),
+    ("out of order", ("off,size,1,,,", "off,collar,0,,,"), [DEAR] + LARGE[:2], (0, 0, 0)),
+    ("a field fault and a replace count", ("off,size,2,,,",),
+     [FAULTY, replace("r1", "none", 1, "1"), *LARGE[:2]], (-1, -2, 0, 0)),
+)
+
+
+class Screens(unittest.TestCase):
+    """Rows that drop screens."""
+
+    def becomes(self, limits, data):
+        """What becomes of the messages of an input to which the trees never say no."""
+        session, _ = run_session(Limits(limits), data, [])
+        told = {16: -1, 11: -2}
+        return [0 if act[0] == "sent" else told.get(act[2], act[3]) for act in session.acts
+                if act[0] in ("sent", "refused")]
+
+    def test_from_which_order_on_a_screen_is_not_asked(self):
+        for name, rows, messages, wanted in DROPPED:
+            with self.subTest(name):
+                limits = base(200_000, *rows)
+                self.assertEqual(self.becomes(limits, b"".join(messages)), list(wanted))
+
+    def test_the_worked_run_of_repeats(self):
+        for rows, wanted in ((("off,repeat,2,,,",), [0, 3, 0, 2]), ((), [0, 3, 3, 2])):
+            run = repeats(*rows)
+            self.assertEqual(self.becomes(run.limits, run.inputs[0]), wanted)
+
+    def test_the_rows_that_are_made(self):
+        """They have no fault; some are of one order, some out of order, and some name a screen."""
+        seen = Counter()
+        for seed in range(200):
+            limits = inputs.with_dropped(random.Random(seed), base(1_000))
+            self.assertIsNone(first_fault(limits), limits)
+            orders = [place for _, place in Limits(limits).off]
+            seen["several"] += len(set(orders)) < len(orders)
+            seen["out of order"] += orders != sorted(orders)
+            for name, _ in Limits(limits).off:
+                seen[name.decode() in inputs.SCREENS] += 1
+        self.assertTrue(all(seen[kind] for kind in ("several", "out of order", True, False)), seen)
+
+
+class Hostile(unittest.TestCase):
+    """Reports of every kind on orders in every state, and orders worth a limit."""
+
+    def test_each_report_meets_an_order_in_each_state(self):
+        counts = Counter()
+        for state in hostile.states():
+            session = Session(Limits(base(100_000)), own_screens(Limits(base(100_000))), [])
+            session.book = fuzz.Watched(counts)
+            self.assertTrue(list(take_frames(session, hostile.session(state))))
+        kinds = {(*state, told) for state in hostile.states()
+                 for told in (*hostile.TYPES, "F", "refusal")}
+        self.assertEqual({kind for kind, _ in fuzz.of_kind(counts, "state")}, kinds)
+
+    def test_an_order_worth_a_limit(self):
+        """Exactly, rounded up; and more, where its price is one higher."""
+        for limit, most in ((1, 120_000), (999, 120_000), (5_000, 125_000), (100_000, 120_000),
+                            (LEAF_MOST, inputs.PRICE_MOST)):
+            with self.subTest(limit):
+                quantity, price = inputs.worth(limit, most)
+                self.assertLessEqual(price, most)
+                worth = [-(-quantity * own // 10_000) for own in (price, price + 1)]
+                self.assertEqual(worth[0], limit)
+                self.assertGreater(worth[1], limit)
 
 
 class Smaller(unittest.TestCase):
@@ -127,6 +212,15 @@ class Program(unittest.TestCase):
         """A hundred."""
         _, wrong = fuzz.chunk(SimpleNamespace(seed=2, gate=GATE), range(100))
         self.assertIsNone(wrong)
+
+    def test_hostile_reports(self):
+        """Of each kind on an order in each state; and the rows that drop screens."""
+        states = [hostile.session(state) for state in hostile.states()]
+        self.assertIsNone(fuzz.wrong_of(GATE, base(100_000), states, Counter()))
+        for name, rows, messages, _ in DROPPED:
+            with self.subTest(name):
+                limits = base(200_000, *rows)
+                self.assertIsNone(fuzz.wrong_of(GATE, limits, [b"".join(messages)], Counter()))
 
     def test_each_front_of_a_frame(self):
         """Also of frames whose BodyLength is of too many digits, of none, or no number."""

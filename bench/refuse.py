@@ -30,7 +30,7 @@ from stress import PROGRAM, call, read, write
 HERE = os.path.dirname(os.path.abspath(__file__))
 # How long a run may take.
 SECONDS = 60
-OUT_OF_MEMORY, NOT_BUILT = 8, 9
+OUT_OF_MEMORY = 8
 ENDED_BY_MEMORY = ("ended", 6, None)
 
 
@@ -79,7 +79,7 @@ def run(asked, loaded, folder, worked, refused):
 
 def judge_ample(worked, ample, done):
     """A run that ended as with ample memory."""
-    if len(worked.inputs) == 1 or ample.status == NOT_BUILT:
+    if len(worked.inputs) == 1:
         demand(done.same() == ample.same(), "it isn't the run with ample memory", done.same())
         return
     venues, clients = zip(*map(done.streams, range(len(worked.inputs))))

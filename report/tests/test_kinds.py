@@ -9,7 +9,7 @@ from report.__main__ import DONE, main
 from report.tests.quiet import quiet
 from report.tests.runs import asks, frame, journal, lines, small_run
 
-LIMITS = "firm,,1000,,,\naccount,ACC,1000,,,\nsymbol,XYZ,1000,1,12,1000\n"
+LIMITS = "firm,,1000,,,\naccount,ACC,1000,,,\nsymbol,XYZ,1000,1,12,1000\noff,collar,1,,,\n"
 TREES = (0, 1, 2)
 ORDER = "1=ACC|55=XYZ|54=1|38={}|40=2|44=10.00|"
 HEAD = "49={}|56=GATE|34={}|52=T|"

@@ -30,7 +30,7 @@ def reasons_of(run, status, before):
     """The same, where the files can still be read."""
     if status < 0:
         return [killed(-status)]
-    told = {3: of_limits, 4: of_sessions, 5: of_reads, 6: of_writes, 8: of_memory, 9: of_rows}
+    told = {3: of_limits, 4: of_sessions, 5: of_reads, 6: of_writes, 8: of_memory}
     if status not in told:
         return [f"the program ended with {status}, which is no status of a run"]
     return told[status](run, before)
@@ -173,16 +173,3 @@ def of_memory(run, _):
         "out of memory: give it more, or run fewer or shorter sessions at once. "
         "What OUT holds now is of no use"
     ]
-
-
-def of_rows(run, _):
-    """The first row that isn't served."""
-    with open(run.limits, "rb") as file:
-        data = file.read(limit_file.LONGEST + 1)
-    for row in limit_file.rows(data):
-        if row.kind == b"off":
-            return [
-                f"{name(run.limits)}, row {row.number}, line {row.line}: `off` rows, which drop "
-                "a screen, aren't served yet: take the row away"
-            ]
-    return [f"{name(run.limits)} has a row that isn't served yet"]

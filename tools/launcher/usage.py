@@ -35,7 +35,6 @@ status of a run
   5  a file couldn't be read
   6  a file, or standard output, couldn't be written
   8  out of memory
-  9  the limit file has a row that isn't served yet
   128 and the number of a signal, where one ended the program
 
 status of a report

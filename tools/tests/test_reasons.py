@@ -4,13 +4,16 @@ comes from the files."""
 import os
 import signal
 import unittest
+from unittest import mock
 
 from launcher.limit_file import first_fault
+from launcher.reasons import reasons
 from launcher.session_file import end_of_input
 from tests.places import LIMITS, ORDER, InFolder, soh
 
 RUN = ("run", "limits.csv", "out", "a.fix")
 ROWS = "firm,,1000,,,\n"
+DROPPED = "".join(f"off,S{n},1,,,\n" for n in range(17))
 SYMBOLS = "".join(f"symbol,S{n},1,1,2,1\n" for n in range(401))
 
 # A limit file, the fault and the row that docs/FORMATS.md gives it, its line, and what is told
@@ -96,6 +99,10 @@ FAULTS = [
     ),
     ("no firm", "quota,,1,,,\n", 6, 0, 0, ["no row sets the firm's limit"]),
     ("nothing", "", 6, 0, 0, ["no row sets the firm's limit"]),
+    ("a screen dropped twice", ROWS + "off,size,1,,,\noff,size,2,,,\n", 5, 3, 3, ["row off `size`"]),
+    ("no screen", ROWS + "off,,1,,,\n", 4, 2, 2, ["the name is ``"]),
+    ("an order too late", ROWS + "off,size,1000000001,,,\n", 3, 2, 2, ["0 to 1,000,000,000"]),
+    ("17 screens", ROWS + DROPPED, 7, 18, 18, ["there are 16 rows `off` before"]),
     ("401 symbols", ROWS + SYMBOLS, 7, 402, 402, ["there are 400 rows `symbol` before"]),
     ("too many bytes", "#" * 1_048_577, 7, 0, 0, ["1,048,576 are read"]),
     ("a band", ROWS + "symbol,X,1,2.5,2.4999,1\n", 8, 2, 2, ["low is 2.5 and high 2.4999"]),
@@ -235,7 +242,8 @@ class LimitFaults(InFolder):
 
     def test_a_sound_file_has_no_fault(self):
         for text in (
-            LIMITS, "\ufefffirm,,1,,,\n", 'firm,"",0,,,', ROWS + 'symbol,X,1,.5,"2.",007\n'
+            LIMITS, "\ufefffirm,,1,,,\n", 'firm,"",0,,,', ROWS + 'symbol,X,1,.5,"2.",007\n',
+            'off,"no, such",1000000000,,,\noff,size,0,,,\n' + ROWS + "off,collar,0,,,\n"
         ):
             self.assertIsNone(first_fault(text.encode()))
 
@@ -353,18 +361,17 @@ class OtherStatuses(InFolder):
             "standard output couldn't be written",
         )
 
-    def test_memory_and_rows_that_are_not_served(self):
+    def test_memory_and_a_status_that_is_none(self):
         self.says(self.told(8), "out of memory")
-        self.write("limits.csv", LIMITS + "\noff,size,3,,,\n")
-        self.says(self.told(9), "limits.csv, row 4, line 5: `off` rows")
+        self.says(self.told(9), "the program ended with 9, which is no status of a run")
 
     def test_a_journal_that_is_cut_and_files_that_are_gone(self):
         error = self.told(
             6, files={"journal.csv": "kind,session,a,b,c,d\nended,0,x,,,\nended,7,1,0,,\nended,0"}
         )
         self.says(error, "out/journal.csv couldn't be written whole")
-        error = self.told(9, "run", "gone.csv", "out", "a.fix")
-        self.says(error, "the cause can't be found any more")
+        with mock.patch("launcher.reasons.reasons_of", side_effect=OSError("it is gone")):
+            self.says(reasons(None, 4, {})[0], "the cause can't be found any more: it is gone")
 
     def test_a_program_that_was_killed(self):
         status, _, error = self.gate(*RUN, signal=int(signal.SIGKILL))

@@ -4,14 +4,17 @@ pub mod Asked
 pub mod AskedAdmits
 pub mod AskedTrees
 pub mod CallLemmas
+pub mod EachMoment
 pub mod LegPosts
 pub mod LowerLemmas
 pub mod LoweredTrees
 pub mod Noted
+pub mod OwnAdmits
 pub mod OwnPlaces
 pub mod OwnReads
 pub mod OwnStandings
 pub mod OwnSteps
+pub mod Slices
 pub mod Standings
 pub mod Steps
 pub mod Tripped

@@ -5,3 +5,4 @@ pub mod Asking
 pub mod Admission
 pub mod Lowering
 pub mod Admitted
+pub mod Slices

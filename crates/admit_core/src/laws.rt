@@ -1,5 +1,5 @@
 //! Laws on what a session's acts admit. The functions do nothing: their contracts are the laws.
-ghost use Rattle.std.specs.Prelude.{◌≡◌, ℕ, ◌≤◌, ◌<◌, List, length, All, false};
+ghost use Rattle.std.specs.Prelude.{◌≡◌, ℕ, ◌≤◌, ◌<◌, List, length, take, All, false};
 ghost use Rattle.fold_law.specs.Sum.{sum_of};
 ghost use Rattle.fold_law.specs.Whole.{whole_of};
 ghost use Rattle.risk_board.specs.History.{Event, IsLegal};
@@ -10,6 +10,7 @@ ghost use Rattle.admit_core.specs.Admitted.{AdmitsLast, AdmitsOwn, StaysWithin};
 ghost use Rattle.admit_core.specs.Asking.{asking, is_short};
 ghost use Rattle.admit_core.specs.Legs.{legs_of};
 ghost use Rattle.admit_core.specs.Lowering.{lowering};
+ghost use Rattle.admit_core.specs.Slices.{Machine, KeepsSlice, admitted_together, slices_sum};
 ghost use Rattle.admit_core.specs.Tapes.{Tape, with_post};
 ghost use Rattle.limit_table.specs.Trees.{LimitsValue, halt_tree};
 
@@ -52,4 +53,13 @@ pub fn lowering_admits()
 pub fn tripping_admits()
     ensures { (limits : LimitsValue) (value : ℕ) (acts : List ActValue)
         → AdmitsLast limits acts → AdmitsLast limits (with_post (halt_tree limits) value acts) }
+{}
+
+/// Where any number of machines stay each within a slice of a limit, and the slices together are
+/// within it, so is what they have admitted together: after each step, in whatever order their steps
+/// come in time.
+pub fn slices_keep_the_limit()
+    ensures { (limit : ℕ) (machines : List Machine) (steps : List ℕ)
+        → slices_sum machines ≤ limit → All KeepsSlice machines
+        → (count : ℕ) → admitted_together (take count steps) machines ≤ limit }
 {}

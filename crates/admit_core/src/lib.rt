@@ -27,7 +27,7 @@ pub use asking::{ask_all, is_above_last};
 pub use hands::{Ended, Hands, trip};
 pub use laws::{
     a_history_admits_what_sessions_do, admitted_stays_within, asking_admits, lowering_admits,
-    tripping_admits,
+    slices_keep_the_limit, tripping_admits,
 };
 pub use lowering::{lower, lower_all};
 pub use rows::OrderRows;

@@ -24,8 +24,3 @@ pub use forest::Forest;
 pub use pass::{Keeper, Pass};
 pub use record::{PassRecord, Record};
 pub use tree_hand::TreeHand;
-
-#[cfg(test)]
-mod fold_tests;
-#[cfg(test)]
-mod tests;

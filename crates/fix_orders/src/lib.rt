@@ -33,8 +33,3 @@ pub use order_reject::write_reject_order;
 pub use read::{read_message, type_text};
 pub use reject::{write_reject_cancel, write_reject_session};
 pub use side::Side;
-
-#[cfg(test)]
-mod message_tests;
-#[cfg(test)]
-mod tests;

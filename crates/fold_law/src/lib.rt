@@ -14,6 +14,3 @@ pub use fold::{Fold, Memory, whole};
 pub use limits::{LEAF, QUOTA, SESSIONS, STAMPS, VALUES};
 pub use max::Max;
 pub use sum::Sum;
-
-#[cfg(test)]
-mod tests;

@@ -5,8 +5,6 @@
 #![tactic(auto)]
 
 mod slots;
-#[cfg(test)]
-mod tests;
 
 ghost use Rattle.std.specs.Prelude.{◌≡◌, IfErr, IfOk};
 ghost use Rattle.std.specs.List.{AllZip, AllByRecursion};

@@ -13,7 +13,7 @@ use Rattle.risk_journal.specs.declared.acts.End.TheVariants as ending
 use Rattle.frame_run.specs.Ends.{EndsBy, IsByInput, end_by}
 
 -- an end that the input says is by the input
-said_by_input : (goes_on : Bool) (next : Found) (end : End) → EndsBy goes_on next end
+pub said_by_input : (goes_on : Bool) (next : Found) (end : End) → EndsBy goes_on next end
     → IsByInput end
 said_by_input goes_on (found.Frame f) end e = absurd e
 said_by_input goes_on (found.Broken p) end e = subst IsByInput (sym e) tt
@@ -27,10 +27,6 @@ pub no_read_fault : (goes_on : Bool) (next : Found) (end : End) → EndsBy goes_
     → end ≡ ending.ReadFault → ⊥
 no_read_fault goes_on next end e is = subst IsByInput is (said_by_input goes_on next end e)
 
-pub no_write_fault : (goes_on : Bool) (next : Found) (end : End) → EndsBy goes_on next end
-    → end ≡ ending.WriteFault → ⊥
-no_write_fault goes_on next end e is = subst IsByInput is (said_by_input goes_on next end e)
-
 pub either : (b : Bool) → (b ≡ true) ⊎ (b ≡ false)
 either true = inl refl
 either false = inr refl
@@ -42,6 +38,14 @@ open_or_settled base found.End = inl tt
 open_or_settled base (found.Cut place) = inl tt
 open_or_settled base (found.Broken place) = inr tt
 open_or_settled base (found.TooLong place) = inr tt
+
+-- what may change may so wherever it stands
+pub open_moved : (base : ℕ) (next : Found) → IsOpen next → IsOpen (moved base next)
+open_moved base (found.Frame f) may = absurd may
+open_moved base found.End may = tt
+open_moved base (found.Cut place) may = tt
+open_moved base (found.Broken place) may = absurd may
+open_moved base (found.TooLong place) may = absurd may
 
 -- what is settled ends a run the same way, whether the source goes on or not
 pub by_settled : (goes_on other : Bool) (next : Found) (end : End) → IsSettled next

@@ -12,7 +12,7 @@ use Rattle.fix_fields.specs.Windows.{HoldsRest}
 use Rattle.fix_fields.specs.declared.frame.Found.{Found}
 use Rattle.fix_fields.proofs.Windows.{holds_next, holds_more}
 use Rattle.gate_ports.proofs.Pieces.{Consumes-append}
-use Rattle.frame_run.specs.Ahead.{HasMore, FetchesInto, GoesOn, LooksAhead}
+use Rattle.frame_run.specs.Ahead.{HasMore, FetchesInto, GoesOn, LooksAhead, FailsAhead}
 use Rattle.frame_run.specs.Ends.{input_most}
 
 -- the front of the room is what was written there
@@ -119,6 +119,37 @@ looks_past left left_between left_after ended before after next on may m most fi
   may = λ is. may;
   whole = λ is said. ((goes.none is).1, (goes.none is).2);
 }
+
+-- the same bytes are held, whatever the room is
+holds_same : (bytes : List ℕ) (place : ℕ) (before after : BufferValue)
+    → HoldsRest bytes place before → after.held ≡ before.held → after.base ≡ before.base
+    → HoldsRest bytes place after
+holds_same bytes place before after h held base = record {
+  held = held ∙ h.held ∙ ap (λ b. drop b bytes) (sym base);
+  within = omega (arith, h.within, base);
+  after = omega (arith, h.after, base);
+  passed = omega (arith, h.passed, base);
+}
+
+-- a read failed where this stood next, and more bytes might have changed it
+pub fails_ahead : (left left_between left_after : Option (List ℕ))
+    (before middle after : BufferValue) (next : Found) → HasMore left left_between before middle
+    → Consumes left_between left_after [] → Finds middle.held 0 next → IsOpen next
+    → after.held ≡ middle.held → after.base ≡ middle.base
+    → FailsAhead left left_after before after
+fails_ahead left left_between left_after before middle after next m none finds may held base =
+    let F : List ℕ → Type 0 = λ l. Finds l 0 next in
+    record {
+      more = m.more;
+      next = next;
+      taken = subst (Consumes left left_after) (append-nil m.more)
+          (Consumes-append left left_between left_after m.more [] m.taken none);
+      holds = λ bytes place h.
+          holds_same (bytes ++ m.more) place middle after (m.holds bytes place h) held base;
+      few = omega (arith, m.few, base, ap length held);
+      finds = subst F (sym held) finds;
+      may = may;
+    }
 
 empty : (piece : List ℕ) → length piece ≡ 0 → piece ≡ []
 empty [] none = refl

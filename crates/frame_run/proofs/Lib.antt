@@ -1,4 +1,5 @@
 pub mod Endings
 pub mod Fetches
 pub mod Splitting
+pub mod Stops
 pub mod Streaming

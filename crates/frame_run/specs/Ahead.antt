@@ -3,6 +3,7 @@ use Rattle.std.specs.Prelude.{◌≡◌, ℕ, ◌+◌, ◌≤◌, List, [], ◌+
 use Rattle.std.specs.Io.KnownBytes.{Consumes, IsAtEnd}
 use Rattle.fix_fields.specs.Found.{Finds}
 use Rattle.fix_fields.specs.FrameBuffers.{BufferValue, IsOpen, buffer_most}
+use Rattle.fix_fields.specs.declared.frame.Found.{Found}
 use Rattle.fix_fields.specs.Windows.{HoldsRest}
 use Rattle.frame_run.specs.declared.ahead.Ahead.{Ahead}
 use Rattle.frame_run.specs.Ends.{input_most}
@@ -24,11 +25,6 @@ pub record GoesOn (left left_after : Option (List ℕ)) (ended : Type 0) (on : B
   pub one : on ≡ true → length over ≡ 1
   pub none : on ≡ false → (over ≡ []) × ended × IsAtEnd left_after
 
--- at most so many bytes were taken
-abbrev pub TakesFew : Option (List ℕ) → Option (List ℕ) → ℕ → Type 0
-TakesFew left left_after most =
-    (taken : List ℕ) × Consumes left left_after taken × (length taken ≤ most)
-
 -- More bytes of the input came, and perhaps one past it, and this stands next.
 pub record LooksAhead (left left_after : Option (List ℕ)) (ended : Type 0)
     (before after : BufferValue) (ahead : Ahead) : Type 0 where
@@ -48,6 +44,18 @@ pub record LooksAhead (left left_after : Option (List ℕ)) (ended : Type 0)
   pub may : ahead.goes_on ≡ true → IsOpen ahead.next
   -- or it is at its end, where more bytes might change what stands next
   pub whole : ahead.goes_on ≡ false → IsOpen ahead.next → ended × IsAtEnd left_after
+
+-- More bytes of the input came, and a read failed before it was sure that this stands next.
+pub record FailsAhead (left left_after : Option (List ℕ)) (before after : BufferValue)
+    : Type 0 where
+  pub more : List ℕ
+  pub next : Found
+  pub taken : Consumes left left_after more
+  pub holds : (bytes : List ℕ) (place : ℕ) → HoldsRest bytes place before
+      → HoldsRest (bytes ++ more) place after
+  pub few : after.base + length after.held ≤ input_most
+  pub finds : Finds after.held 0 next
+  pub may : IsOpen next
 
 -- More bytes of the input came.
 pub record HasMore (left left_after : Option (List ℕ)) (before after : BufferValue) : Type 0 where

@@ -1,10 +1,10 @@
 //! What stands next, with as many bytes fetched as that takes.
-ghost use Rattle.std.specs.Prelude.{◌≡◌, ℕ, ◌+◌, ◌-◌, ◌^◌, ◌≤◌, ◌<◌, List, [], length, take, true};
+ghost use Rattle.std.specs.Prelude.{◌≡◌, ℕ, ◌+◌, ◌^◌, ◌≤◌, ◌<◌, List, [], length, take, true};
 ghost use Rattle.std.specs.Prelude.{IfOk, IsErr};
 ghost use Rattle.std.specs.Io.KnownBytes.{Consumes, IsAtEnd};
 ghost use Rattle.gate_ports.specs.Faults.{HasCause};
 ghost use Rattle.frame_run.specs.Ends.{input_most};
-ghost use Rattle.frame_run.specs.Ahead.{FetchesInto, GoesOn, LooksAhead, TakesFew};
+ghost use Rattle.frame_run.specs.Ahead.{FetchesInto, GoesOn, LooksAhead, FailsAhead};
 
 use crate::end::INPUT_MOST;
 use fix_fields::{Found, FrameBuffer};
@@ -49,6 +49,8 @@ fn fetch_into<S: Source>(
     ensures end { IfOk result (λ n. n ≡ 0
         → (S.is_ended source.new ≡ true) × IsAtEnd (S.left source.new)) }
     ensures none { IsErr result → Consumes (S.left source.old) (S.left source.new) [] }
+    ensures held { IsErr result
+        → (buffer.new.held ≡ buffer.old.held) × (buffer.new.base ≡ buffer.old.base) }
     ensures cause { HasCause (S.faults source.old) (S.faults source.new) (IsErr result) }
     ensures name { S.name source.new ≡ S.name source.old }
 {
@@ -79,8 +81,8 @@ pub(crate) fn look_ahead<S: Source>(
     requires few { buffer.old.base + length buffer.old.held ≤ input_most }
     ensures ok { IfOk result (λ ahead. LooksAhead (S.left source.old) (S.left source.new)
         (S.is_ended source.new ≡ true) buffer.old buffer.new ahead) }
-    ensures none { IsErr result → TakesFew (S.left source.old) (S.left source.new)
-        (input_most - (buffer.old.base + length buffer.old.held)) }
+    ensures fails { IsErr result
+        → FailsAhead (S.left source.old) (S.left source.new) buffer.old buffer.new }
     ensures cause { HasCause (S.faults source.old) (S.faults source.new) (IsErr result) }
     ensures name { S.name source.new ≡ S.name source.old }
 {

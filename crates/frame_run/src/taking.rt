@@ -1,9 +1,12 @@
 //! Frames are taken one after another as they come, up to what is no frame.
-ghost use Rattle.std.specs.Prelude.{◌≡◌, ℕ, ◌+◌, ◌≤◌, [], IsOk, IsTrue, Err};
+ghost use Rattle.std.specs.Prelude.{◌≡◌, ℕ, ◌+◌, ◌≤◌, List, [], IsOk, IfErr, IsTrue};
+ghost use Rattle.fix_fields.specs.Frames.{FrameValue};
+ghost use Rattle.gate_ports.specs.declared.ports.PortFault.{PortFault};
 ghost use Rattle.gate_ports.specs.Faults.{Rose};
 ghost use Rattle.frame_run.specs.Ends.{FetchesInput, IsByInput, input_most};
 ghost use Rattle.frame_run.specs.Frames.{IsSomeFrame};
 ghost use Rattle.frame_run.specs.Taking.{Leads, IsUnderWay, TakesNext, TakesSource};
+ghost use Rattle.frame_run.specs.Taking.{StopsNext, StopsBy};
 
 use crate::ahead::look_ahead;
 use crate::end::{end_after, end_by};
@@ -14,27 +17,31 @@ use std::alloc::Global;
 
 /// What takes frames one after another, and gives what comes of them to sinks.
 pub trait TakesFrames {
-    /// The frames that lead from one value to another.
+    /// The frames of an input that lead from one value to another.
     ghost Took: { Leads Self };
+    /// The frames of an input that lead from one value to another at which the run stopped for this
+    /// refusal. Of what comes of the last of them some may not have been given.
+    ghost Stopped: { PortFault → Leads Self };
     /// One value, and a value so many frames later at most.
     ghost IsAfter: { Self → Self → ℕ → Type 0 };
-    /// Between two values a sink failed.
-    ghost Failed: { Self → Self → Type 0 };
 
-    /// Takes a frame. Refused, the run ends.
+    /// Takes a frame. Refused, the run ends: with this frame in hand where a sink failed, and maybe
+    /// before it where memory was wanting.
     fn take_frame(&mut self, bytes: &[u8], frame: &Frame) -> Result<(), PortFault>
         requires stands { IsSomeFrame bytes.now frame.now }
         requires ready { IsUnderWay Took self.old }
-        ensures took { IsOk result → TakesNext Took bytes.now frame.now self.old self.new }
-        ensures after { IsAfter self.old self.new 1 }
-        ensures failed { result ≡ Err PortFault.Failed → Failed self.old self.new };
+        ensures took { IsOk result → TakesNext Took Took bytes.now frame.now self.old self.new }
+        ensures stopped { IfErr result (λ why.
+            StopsNext Took Stopped why bytes.now frame.now self.old self.new) }
+        ensures after { IsAfter self.old self.new 1 };
 
     ghost after_none: { (a : Self) → IsAfter a a 0 };
 
     ghost after_next: { (a b c : Self) (one two : ℕ) → IsAfter a b one → IsAfter b c two
         → IsAfter a c (one + two) };
 
-    ghost failed_later: { (a b c : Self) (count : ℕ) → IsAfter a b count → Failed b c → Failed a c };
+    ghost stopped_whole: { (input : List ℕ) (start now : Self) (frames : List FrameValue)
+        → Took input start frames now → Stopped PortFault.Memory input start frames now };
 }
 
 /// Takes the frames of a source up to what is no frame, and says how the run ends.
@@ -44,13 +51,14 @@ fn take_frames<T: TakesFrames, S: Source>(
     buffer: &mut FrameBuffer,
 ) -> End
     requires empty { (buffer.old.held ≡ []) × (buffer.old.base ≡ 0) }
-    requires fresh { T.Took taker.old [] taker.old }
+    requires fresh { (input : List ℕ) → T.Took input taker.old [] taker.old }
     ensures follows { IsByInput result
         → TakesSource T.Took taker.old taker.new (S.left source.old) result }
+    ensures stopped { StopsBy T.Took T.Stopped taker.old taker.new (S.left source.old)
+        (S.left source.new) result }
     ensures after { (count : ℕ) × (count ≤ input_most) × T.IsAfter taker.old taker.new count }
     ensures fetched { FetchesInput (S.left source.old) (S.left source.new) result }
     ensures read_fault { result ≡ End.ReadFault → Rose (S.faults source.old) (S.faults source.new) }
-    ensures write_fault { result ≡ End.WriteFault → T.Failed taker.old taker.new }
     ensures whole { result ≡ End.Whole → IsTrue (S.is_ended source.new) }
     ensures source_later { S.faults source.old ≤ S.faults source.new }
     ensures source_name { S.name source.new ≡ S.name source.old }
@@ -72,13 +80,14 @@ fn take_frames<T: TakesFrames, S: Source>(
 /// Takes the frames of a source up to what is no frame, over at most `INPUT_MOST` bytes, and says how
 /// the run ends. More is fetched only where what has come is no whole frame.
 pub fn take_input<T: TakesFrames, S: Source>(alloc: Global, taker: &mut T, source: &mut S) -> End
-    requires fresh { T.Took taker.old [] taker.old }
+    requires fresh { (input : List ℕ) → T.Took input taker.old [] taker.old }
     ensures follows { IsByInput result
         → TakesSource T.Took taker.old taker.new (S.left source.old) result }
+    ensures stopped { StopsBy T.Took T.Stopped taker.old taker.new (S.left source.old)
+        (S.left source.new) result }
     ensures after { (count : ℕ) × (count ≤ input_most) × T.IsAfter taker.old taker.new count }
     ensures fetched { FetchesInput (S.left source.old) (S.left source.new) result }
     ensures read_fault { result ≡ End.ReadFault → Rose (S.faults source.old) (S.faults source.new) }
-    ensures write_fault { result ≡ End.WriteFault → T.Failed taker.old taker.new }
     ensures whole { result ≡ End.Whole → IsTrue (S.is_ended source.new) }
     ensures source_later { S.faults source.old ≤ S.faults source.new }
     ensures source_name { S.name source.new ≡ S.name source.old }

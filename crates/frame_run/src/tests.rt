@@ -17,11 +17,11 @@ struct Tally {
 }
 
 impl TakesFrames for Tally {
-    ghost Took = { λ start frames now. (start.frames ≡ 0) × (now.frames ≡ length frames) };
+    ghost Took = { λ input start frames now. (start.frames ≡ 0) × (now.frames ≡ length frames) };
+
+    ghost Stopped = { λ why input start frames now. Unit {0} };
 
     ghost IsAfter = { λ before now count. Unit {0} };
-
-    ghost Failed = { λ before now. Unit {0} };
 
     fn take_frame(&mut self, _bytes: &[u8], _frame: &Frame) -> Result<(), PortFault> {
         if self.frames == self.refuses {
@@ -35,7 +35,7 @@ impl TakesFrames for Tally {
 
     ghost after_next = { λ a b c one two first second. tt };
 
-    ghost failed_later = { λ a b c count after failed. tt };
+    ghost stopped_whole = { λ input start now frames took. tt };
 }
 
 /// A run: what comes in, the call on the source that fails, the frame that is refused and why, and the

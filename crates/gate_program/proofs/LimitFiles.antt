@@ -9,8 +9,7 @@ use Rattle.limit_table.specs.declared.limits.Limits.{Limits}
 use Rattle.gate_program.specs.declared.status.Status.{Status}
 use Rattle.gate_program.specs.declared.status.Status.TheVariants as status
 use Rattle.gate_program.specs.Run.{PortsValue}
-use Rattle.gate_program.specs.Limits.{AreLimits, AreUnserved}
-use Rattle.gate_program.specs.Gate.{HasLimits, HasUnserved, IsRefused}
+use Rattle.gate_program.specs.Gate.{HasLimits, IsRefused}
 use Rattle.gate_program.specs.Stages.{HasFront, HasLimitsFault, GivesNoLimits}
 
 -- what follows of each value follows of an answer with one
@@ -45,20 +44,12 @@ long_fault text bytes rest why is long (inr (inr lacks)) =
 
 module _ (name : List ℕ) (most : ℕ) (room : bytes_most < most) where
   pub has_limits : (told : Option Texts) (bytes : List ℕ) (limits : Limits)
-      → HasFront told name most bytes → AreLimits bytes limits → HasLimits told name limits
+      → HasFront told name most bytes → IsLimitFile bytes limits → HasLimits told name limits
   has_limits None bytes limits front are = tt
   has_limits (Some texts) bytes limits (text, is, inl same) are =
-      (text, is, subst (λ (t : List ℕ). AreLimits t limits) (sym same) are)
+      (text, is, subst (λ (t : List ℕ). IsLimitFile t limits) (sym same) are)
   has_limits (Some texts) bytes limits (text, is, inr (long, rest, spelled)) are =
-      absurd (long_is_none bytes limits (omega (arith, long, room)) are.held)
-
-  pub has_unserved : (told : Option Texts) (bytes : List ℕ)
-      → HasFront told name most bytes → AreUnserved bytes → HasUnserved told name
-  has_unserved None bytes front are = tt
-  has_unserved (Some texts) bytes (text, is, inl same) are =
-      (text, is, subst AreUnserved (sym same) are)
-  has_unserved (Some texts) bytes (text, is, inr (long, rest, spelled)) are =
-      absurd (long_is_none bytes are.file (omega (arith, long, room)) are.held)
+      absurd (long_is_none bytes limits (omega (arith, long, room)) are)
 
   pub is_refused : (told : Option Texts) (bytes : List ℕ) (why : LimitFault)
       → HasFront told name most bytes → IsFirstFault bytes why → IsRefused told name why
@@ -74,8 +65,6 @@ module _ (name : List ℕ) (most : ℕ) (room : bytes_most < most) where
       → HasLimitsFault before after name s
   has_limits_fault before after bytes (status.Limits why) front gives =
       is_refused before.texts bytes why front gives
-  has_limits_fault before after bytes status.NotBuilt front gives =
-      has_unserved before.texts bytes front gives
   has_limits_fault before after bytes status.Memory front gives = tt
   has_limits_fault before after bytes status.Done front gives = absurd gives
   has_limits_fault before after bytes status.Usage front gives = absurd gives

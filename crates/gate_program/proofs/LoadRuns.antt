@@ -8,7 +8,7 @@ use Rattle.std.proofs.lemmas.Option.{slice_get_within}
 use Rattle.std.specs.Prelude.{false, Option, Some, None, slice_get, sum_by, ◌⊎◌}
 use Rattle.std.specs.List.{AllByRecursion, range_with_len}
 use Rattle.gate_ports.specs.Names.{Texts}
-use Rattle.limit_table.proofs.OneAnswer.{one_limits, not_both}
+use Rattle.limit_table.proofs.OneAnswer.{not_both}
 use Rattle.limit_table.specs.Files.{IsLimitFile}
 use Rattle.limit_table.specs.declared.limits.Limits.{Limits}
 use Rattle.make_load.specs.LoadLimits.{load_limits}
@@ -19,7 +19,6 @@ use Rattle.gate_program.specs.declared.names.Outputs.{Outputs}
 use Rattle.gate_program.specs.declared.status.Status.{Status}
 use Rattle.gate_program.specs.declared.status.Status.TheVariants as status
 use Rattle.gate_program.specs.CommandOf.{IsAsked}
-use Rattle.gate_program.specs.Limits.{AreLimits, is_served}
 use Rattle.gate_program.specs.Loads.{LoadWent, counts_of, input_of, load_folder, load_run}
 use Rattle.gate_program.specs.Names.{AreNames}
 use Rattle.gate_program.specs.Finish.{HasEnded}
@@ -159,12 +158,6 @@ pub gives_no_limits : (asked : Asked) (t0 : Option Texts) (r0 w0 : List ℕ → 
     ⊎ LoadWent asked (shown t0 r0 w0 []) (shown t1 r1 w1 (told_text s)) (number_of s)
 gives_no_limits asked t0 r0 w0 t1 r1 w1 (status.Limits why) file fault =
     absurd (not_both limit_text load_limits why file fault)
-gives_no_limits asked t0 r0 w0 t1 r1 w1 status.NotBuilt file other =
-    absurd (served (ap is_served (one_limits limit_text other.file load_limits other.held file))
-    other.unserved) where
-      served : is_served other.file ≡ is_served load_limits
-          → is_served other.file ≡ false → ⊥
-      served same isnt = cc
 gives_no_limits asked t0 r0 w0 t1 r1 w1 status.Memory file fault = inl refl
 gives_no_limits asked t0 r0 w0 t1 r1 w1 status.Done file fault = absurd fault
 gives_no_limits asked t0 r0 w0 t1 r1 w1 status.Usage file fault = absurd fault
@@ -192,7 +185,6 @@ unmade asked t0 r0 w0 t1 r1 w1 status.Usage (session, below, fault, left) = absu
 unmade asked t0 r0 w0 t1 r1 w1 (status.Limits why) (session, below, fault, left) = absurd fault
 unmade asked t0 r0 w0 t1 r1 w1 status.CutShort (session, below, fault, left) = absurd fault
 unmade asked t0 r0 w0 t1 r1 w1 status.ReadFault (session, below, fault, left) = absurd fault
-unmade asked t0 r0 w0 t1 r1 w1 status.NotBuilt (session, below, fault, left) = absurd fault
 
 -- no file of a load has more bytes than this
 pub files_small : FilesLaw → (asked : Asked) → IsAsked asked → (files : List (Vec ℕ Global))
@@ -259,7 +251,7 @@ pub run_went : {S : Type 0} (faults : S → ℕ) → ((s : S) → faults s ≡ 0
     → length objects ≡ asked.sessions
     → ((session : ℕ) (own : ObjectsValue) → slice_get objects session ≡ Some own
     → own.left ≡ Some (input_of asked session))
-    → AreLimits limit_text limits → AdmissionLaws
+    → IsLimitFile limit_text limits → AdmissionLaws
     → (status ≡ 8) ⊎ HasEnded faults (told_of what limits) limits sets run (silent t1 r1 w1)
     (silent t2 r2 w2) objects text status
     → (status ≡ 8) ⊎ LoadWent asked (shown t0 r0 w0 []) (shown t2 r2 w2 text) status

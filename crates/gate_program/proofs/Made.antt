@@ -10,6 +10,7 @@ use Rattle.fix_fields.specs.Found.{Splits}
 use Rattle.fix_fields.specs.declared.frame.Found.TheVariants as found
 use Rattle.gate_ports.specs.Faults.{Rose}
 use Rattle.gate_ports.specs.Names.{Texts}
+use Rattle.limit_table.specs.Files.{IsLimitFile}
 use Rattle.limit_table.specs.declared.limits.Limits.{Limits}
 use Rattle.make_load.specs.Loads.{limit_text, session_text, session_texts}
 use Rattle.make_load.specs.declared.summary.Asked.{Asked}
@@ -22,7 +23,6 @@ use Rattle.session_engine.specs.Session.{armed_for}
 use Rattle.gate_program.specs.declared.told.Told.TheVariants as told
 use Rattle.gate_program.specs.CommandOf.{IsAsked}
 use Rattle.gate_program.specs.Finish.{HasEnded}
-use Rattle.gate_program.specs.Limits.{AreLimits}
 use Rattle.gate_program.specs.Loads.{HasMade, LoadWent, counts_of, input_of, load_run}
 use Rattle.gate_program.specs.Objects.{ObjectsValue, HasCreated, HasDone}
 use Rattle.gate_program.specs.Run.{PortsValue, EndHolds, is_cut_short, is_memory, is_read_fault}
@@ -199,7 +199,7 @@ module _ {S : Type 0} (faults : S → ℕ) (none : (s : S) → faults s ≡ 0) (
       limits sets t0 r0 w0 t1 r1 w1 t2 r2 w2 objects text status created ended session one.own
       one.now acts end one.is_own one.is_now one.done))
 
-  has_made : AreLimits limit_text limits → AdmissionLaws → list_any is_memory ended.ends ≡ false
+  has_made : IsLimitFile limit_text limits → AdmissionLaws → list_any is_memory ended.ends ≡ false
       → length (load_run asked).sessions ≡ asked.sessions
       → HasMade asked (shown t0 r0 w0 []) (shown t2 r2 w2 text) status
   has_made limits_are laws remembered count = record {
@@ -232,7 +232,7 @@ module _ {S : Type 0} (faults : S → ℕ) (none : (s : S) → faults s ≡ 0) (
   }
 
   -- a load whose sessions ended went its way
-  pub load_went : AreLimits limit_text limits → AdmissionLaws
+  pub load_went : IsLimitFile limit_text limits → AdmissionLaws
       → length (load_run asked).sessions ≡ asked.sessions
       → (status ≡ 8) ⊎ LoadWent asked (shown t0 r0 w0 []) (shown t2 r2 w2 text) status
   load_went limits_are laws count =

@@ -40,8 +40,6 @@ no_limits_went run sets t0 r0 w0 t1 r1 w1 status.ReadFault same rose =
     inr (inl (record { rose = rose; texts = same; told = inl (refl, refl) }))
 no_limits_went run sets t0 r0 w0 t1 r1 w1 (status.Limits why) same refused =
     inr (inr (inl (record { why = why; refused = refused; texts = same; told = inl (refl, refl) })))
-no_limits_went run sets t0 r0 w0 t1 r1 w1 status.NotBuilt same other =
-    inr (inr (inr (inl (record { other = other; texts = same; told = inl (refl, refl) }))))
 no_limits_went run sets t0 r0 w0 t1 r1 w1 status.Memory same fault = inl refl
 no_limits_went run sets t0 r0 w0 t1 r1 w1 status.Done same fault = absurd fault
 no_limits_went run sets t0 r0 w0 t1 r1 w1 status.Usage same fault = absurd fault
@@ -134,11 +132,9 @@ pub went_behind : (run : RunWords) (sets : List (List ScreenValue)) (t0 t1 : Opt
     → (n ≡ 8) ⊎ RunWent run sets (shown t0 r0 w0 []) (shown t2 r2 w2 text) n
 went_behind run sets t0 t1 r0 w0 r1 w1 t2 r2 w2 text n went same (inl memory) = inl memory
 went_behind run sets t0 t1 r0 w0 r1 w1 t2 r2 w2 text n went same (inr did) =
-    inr (inr (inr (inr (sessions_earlier run sets t0 r0 w0 r1 w1 t2 r2 w2 text went.read
-    went.written n
+    inr (inr (inr (sessions_earlier run sets t0 r0 w0 r1 w1 t2 r2 w2 text went.read went.written n
     (subst (λ (t : Option Texts). SessionsWent run sets (shown t r1 w1 []) (shown t2 r2 w2 text) n)
-    same
-    did)))))
+    same did))))
 
 -- a session or its outputs could not be opened
 pub unopened : (run : RunWords) (limits : Limits) (sets : List (List ScreenValue))
@@ -179,9 +175,6 @@ unopened run limits sets t0 r0 w0 t1 r1 w1 status.Usage limits_are (session, bel
 unopened run limits sets t0 r0 w0 t1 r1 w1 (status.Limits why) limits_are (session, below, fault, left) =
     absurd fault
 unopened run limits sets t0 r0 w0 t1 r1 w1 status.CutShort limits_are (session, below, fault, left) =
-    absurd
-    fault
-unopened run limits sets t0 r0 w0 t1 r1 w1 status.NotBuilt limits_are (session, below, fault, left) =
     absurd
     fault
 
@@ -317,9 +310,7 @@ module _ (run : RunWords) (sets : List (List ScreenValue)) (t0 : Option Texts)
     texts = h.texts;
     told = told_so _ _ h.told;
   }))
-  went_told (inr (inr (inl h))) =
-      inr (inr (inl (record { other = h.other; texts = h.texts; told = told_so _ _ h.told })))
-  went_told (inr (inr (inr did))) = inr (inr (inr (sessions_told did)))
+  went_told (inr (inr did)) = inr (inr (sessions_told did))
 
 -- what a run did and what was told of it
 pub run_told : (run : RunWords) (sets : List (List ScreenValue)) (t0 : Option Texts)

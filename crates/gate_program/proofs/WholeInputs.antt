@@ -18,7 +18,7 @@ use Rattle.gate_ports.specs.Names.{Texts}
 use Rattle.limit_table.specs.Files.{IsFirstFault, IsLimitFile}
 use Rattle.limit_table.specs.declared.fault.LimitFault.{LimitFault}
 use Rattle.limit_table.specs.declared.limits.Limits.{Limits}
-use Rattle.limit_table.proofs.OneAnswer.{one_limits, not_both}
+use Rattle.limit_table.proofs.OneAnswer.{not_both}
 use Rattle.risk_board.specs.declared.hand.Line.{Line}
 use Rattle.risk_journal.specs.declared.acts.Act.{Act}
 use Rattle.risk_journal.specs.declared.acts.End.{End}
@@ -31,10 +31,9 @@ use Rattle.gate_program.specs.Run.{PortsValue, EndHolds, FollowsText, session_na
 use Rattle.gate_program.specs.Run.{set_of}
 use Rattle.gate_program.specs.Run.{is_write_fault, is_read_fault, is_cut_short, standing_of}
 use Rattle.gate_program.specs.Run.{OutputRose}
-use Rattle.gate_program.specs.Limits.{is_served}
 use Rattle.gate_program.specs.Commands.{CommandWent, GateRun}
 use Rattle.gate_program.specs.Gate.{AreInputs, HasJournal, HasRun}
-use Rattle.gate_program.specs.Gate.{HasUnserved, IsRefused, RunWent, Tells}
+use Rattle.gate_program.specs.Gate.{IsRefused, RunWent, Tells}
 use Rattle.gate_program.specs.WholeInputs.{IsWholeInput, AreWholeTexts, HasNoFault}
 use Rattle.gate_program.specs.WholeInputs.{HasWholeInputs}
 use Rattle.gate_program.proofs.Lists.{map_at, mapped_at, there_is}
@@ -245,33 +244,18 @@ module _ (before after : PortsValue) (run : RunWords) (texts : Texts)
       let (text, is, fault) = if_this _ before.texts texts told refused in
       let same : Some text ≡ Some whole.limit_text = sym is ∙ whole.limits_there in
       let same_text : text ≡ whole.limit_text = cc in
-      not_both whole.limit_text whole.limits why whole.limits_are.held
+      not_both whole.limit_text whole.limits why whole.limits_are
       (subst (λ (t : List ℕ). IsFirstFault t why) same_text fault)
-
-  -- the limits are served
-  not_unserved : HasUnserved before.texts run.limits → ⊥
-  not_unserved unserved =
-      let (text, is, other) = if_this _ before.texts texts told unserved in
-      let same : Some text ≡ Some whole.limit_text = sym is ∙ whole.limits_there in
-      let same_text : text ≡ whole.limit_text = cc in
-      let one : other.file ≡ whole.limits =
-      one_limits whole.limit_text other.file whole.limits
-      (subst (λ (t : List ℕ). IsLimitFile t other.file) same_text other.held)
-      whole.limits_are.held in
-      let served : is_served whole.limits ≡ true = whole.limits_are.served in
-      let isnt : is_served whole.limits ≡ false = sym (ap is_served one) ∙ other.unserved in
-      absurd cc
 
   -- each other way has a cause that didn't come
   went_is_done : RunWent run sets before after status → status ≡ 0
   went_is_done (inl unread) = absurd (no_fault.read _ unread.rose)
   went_is_done (inr (inl refused)) = absurd (not_refused refused.why refused.refused)
-  went_is_done (inr (inr (inl other))) = absurd (not_unserved other.other)
-  went_is_done (inr (inr (inr (inl unopened)))) = absurd (no_fault.read _ unopened.rose)
-  went_is_done (inr (inr (inr (inr (inl refused))))) =
+  went_is_done (inr (inr (inl unopened))) = absurd (no_fault.read _ unopened.rose)
+  went_is_done (inr (inr (inr (inl refused)))) =
       absurd (no_output_rose before after run no_fault refused.session
       refused.rose)
-  went_is_done (inr (inr (inr (inr (inr ran))))) = run_is_done ran
+  went_is_done (inr (inr (inr (inr ran)))) = run_is_done ran
 
 -- whole inputs are done, unless memory was wanting
 pub whole_is_done : (words : List (List ℕ)) (sets : List (List ScreenValue))

@@ -7,7 +7,7 @@ use Rattle.std.specs.Io.KnownBytes.{Appends}
 use Rattle.gate_ports.specs.Faults.{Rose}
 use Rattle.gate_ports.specs.Bytes.{AppendsFront}
 use Rattle.gate_ports.specs.Names.{Texts}
-use Rattle.limit_table.specs.Files.{IsFirstFault}
+use Rattle.limit_table.specs.Files.{IsFirstFault, IsLimitFile}
 use Rattle.limit_table.specs.declared.fault.LimitFault.{LimitFault}
 use Rattle.risk_board.specs.declared.hand.Line.{Line}
 use Rattle.risk_journal.specs.declared.acts.Act.{Act}
@@ -18,7 +18,7 @@ use Rattle.gate_program.specs.Words.{RunWords, command_of, output_names, journal
 use Rattle.gate_program.specs.Words.{is_among}
 use Rattle.gate_program.specs.Early.{KeepsOrFronts, LeavesEmpty}
 use Rattle.gate_program.specs.Totals.{totals_of}
-use Rattle.gate_program.specs.Limits.{AreLimits, AreUnserved, limits_fault_text}
+use Rattle.gate_program.specs.Limits.{limits_fault_text}
 use Rattle.gate_program.specs.Run.{PortsValue, Holds, ReadRose, WriteRose, OutputRose, session_name}
 use Rattle.gate_program.specs.Run.{EndHolds, IsHistory, set_of, standing_of, is_memory}
 use Rattle.screen_kit.specs.Screens.{ScreenValue}
@@ -57,18 +57,10 @@ read_fault_text = codes "read fault" ++ 10 ∷ []
 abbrev pub write_fault_text : List ℕ
 write_fault_text = codes "write fault" ++ 10 ∷ []
 
-abbrev pub not_built_text : List ℕ
-not_built_text = codes "not built" ++ 10 ∷ []
-
--- the name's text is a limit file with these limits, which are served, where the folder tells it
+-- the name's text is a limit file with these limits, where the folder tells it
 abbrev pub HasLimits : Option Texts → List ℕ → Limits → Type 0
 HasLimits told name limits =
-    IfSome told (λ texts. (text : List ℕ) × (texts name ≡ Some text) × AreLimits text limits)
-
--- the name's text is a limit file with limits that aren't served, where the folder tells it
-abbrev pub HasUnserved : Option Texts → List ℕ → Type 0
-HasUnserved told name =
-    IfSome told (λ texts. (text : List ℕ) × (texts name ≡ Some text) × AreUnserved text)
+    IfSome told (λ texts. (text : List ℕ) × (texts name ≡ Some text) × IsLimitFile text limits)
 
 -- the name's text is no limit file, for this fault, where the folder tells it
 abbrev pub IsRefused : Option Texts → List ℕ → LimitFault → Type 0
@@ -94,19 +86,13 @@ pub record HasRefusedLimits (run : RunWords) (before after : PortsValue) (status
   pub texts : after.texts ≡ before.texts
   pub told : Tells before after (limits_fault_text why) 3 status
 
--- The limit file has a row that isn't served.
-pub record HasOtherLimits (run : RunWords) (before after : PortsValue) (status : ℕ) : Type 0 where
-  pub other : HasUnserved before.texts run.limits
-  pub texts : after.texts ≡ before.texts
-  pub told : Tells before after not_built_text 9 status
-
 -- names that are no outputs keep their texts
 abbrev pub KeepsOthers : PortsValue → PortsValue → RunWords → Type 0
 KeepsOthers before after run =
     IfSome before.texts (λ old. IfSome after.texts (λ new. (name : List ℕ)
     → is_among name (output_names run.out (length run.sessions)) ≡ false → new name ≡ old name))
 
--- A session's name could not be opened, behind limits that are served. No session ran.
+-- A session's name could not be opened, behind a limit file. No session ran.
 pub record HasUnopenedSession (run : RunWords) (before after : PortsValue) (status : ℕ) : Type 0
   where
     pub limits : Limits
@@ -118,7 +104,7 @@ pub record HasUnopenedSession (run : RunWords) (before after : PortsValue) (stat
     pub others : KeepsOthers before after run
     pub told : Tells before after read_fault_text 5 status
 
--- An output of a session could not be created, behind limits that are served. No session ran.
+-- An output of a session could not be created, behind a limit file. No session ran.
 pub record HasRefusedOutput (run : RunWords) (before after : PortsValue) (status : ℕ) : Type 0 where
   pub limits : Limits
   pub limits_are : HasLimits before.texts run.limits limits
@@ -185,4 +171,4 @@ SessionsWent run sets before after status =
 abbrev pub RunWent : RunWords → List (List ScreenValue) → PortsValue → PortsValue → ℕ → Type 0
 RunWent run sets before after status =
     HasUnreadLimits run before after status ⊎ HasRefusedLimits run before after status
-    ⊎ HasOtherLimits run before after status ⊎ SessionsWent run sets before after status
+    ⊎ SessionsWent run sets before after status

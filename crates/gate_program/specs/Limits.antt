@@ -1,25 +1,7 @@
--- Which limit files a run is held to, and what is told of a text that isn't one.
-use Rattle.std.specs.Prelude.{◌≡◌, ℕ, ◌==◌, List, [], ◌∷◌, ◌++◌, length, Bool, false}
-use Rattle.std.specs.Prelude.{IsTrue, codes, decimal}
-use Rattle.limit_table.specs.Files.{IsLimitFile}
+-- What is told of a text that is no limit file.
+use Rattle.std.specs.Prelude.{ℕ, List, [], ◌∷◌, ◌++◌, codes, decimal}
 use Rattle.limit_table.specs.declared.fault.LimitFault.{LimitFault}
 use Rattle.limit_table.specs.declared.fault.LimitFault.TheVariants as fault
-use Rattle.limit_table.specs.declared.limits.Limits.{Limits}
-
--- The program serves these limits: they drop no screen.
-abbrev pub is_served : Limits → Bool
-is_served limits = length limits.off == 0
-
--- the text is a limit file with these limits, which are served
-pub record AreLimits (text : List ℕ) (limits : Limits) : Type 0 where
-  pub held : IsLimitFile text limits
-  pub served : IsTrue (is_served limits)
-
--- the text is a limit file with limits that the program doesn't serve
-pub record AreUnserved (text : List ℕ) : Type 0 where
-  pub file : Limits
-  pub held : IsLimitFile text file
-  pub unserved : is_served file ≡ false
 
 -- the number of a fault; want of memory is no fault of a text, and is never told
 abbrev pub fault_number : LimitFault → ℕ

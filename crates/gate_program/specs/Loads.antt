@@ -2,6 +2,7 @@
 use Rattle.std.specs.Prelude.{◌≡◌, ℕ, ◌<◌, List, [], ◌∷◌, length, map, slice_get, sum_by, codes}
 use Rattle.std.specs.Prelude.{Some, IsSome, Bool, false, ◌⊎◌}
 use Rattle.std.specs.List.{list_any, range_with_len}
+use Rattle.limit_table.specs.Files.{IsLimitFile}
 use Rattle.limit_table.specs.declared.limits.Limits.{Limits}
 use Rattle.make_load.specs.Loads.{count_in_load, limit_text, session_text, session_texts}
 use Rattle.make_load.specs.declared.summary.Asked.{Asked}
@@ -13,7 +14,6 @@ use Rattle.session_engine.specs.Session.{armed_for}
 use Rattle.gate_program.specs.declared.told.Told.TheVariants as told
 use Rattle.gate_program.specs.Early.{LeavesEmpty}
 use Rattle.gate_program.specs.Gate.{HasJournal, KeepsOthers, Tells, write_fault_text}
-use Rattle.gate_program.specs.Limits.{AreLimits}
 use Rattle.gate_program.specs.Run.{PortsValue, EndHolds, IsHistory, OutputRose, is_cut_short}
 use Rattle.gate_program.specs.Run.{is_memory, is_read_fault, standing_of}
 use Rattle.gate_program.specs.Telling.{told_of}
@@ -70,7 +70,7 @@ pub record HasMade (asked : Asked) (before after : PortsValue) (status : ℕ) : 
   pub lines : List (List Line)
   -- whether the journal could not be written
   pub refused : Bool
-  pub limits_are : AreLimits limit_text limits
+  pub limits_are : IsLimitFile limit_text limits
   -- a session that wanted memory gives 8, which stands by itself
   pub remembered : list_any is_memory ends ≡ false
   pub no_read_fault : list_any is_read_fault ends ≡ false

@@ -12,8 +12,7 @@ use Rattle.limit_table.specs.Files.{IsFirstFault}
 use Rattle.limit_table.specs.declared.fault.LimitFault.{LimitFault}
 use Rattle.limit_table.specs.declared.fault.LimitFault.TheVariants as fault
 use Rattle.gate_program.specs.Early.{LeavesEmpty}
-use Rattle.gate_program.specs.Limits.{AreUnserved}
-use Rattle.gate_program.specs.Gate.{HasUnserved, IsRefused}
+use Rattle.gate_program.specs.Gate.{IsRefused}
 
 -- a folder as clauses name it, beside a standard output that got this text
 abbrev pub folder_with : {D : Type 0} → (D → Option Texts) → (D → List ℕ → ℕ) → (D → List ℕ → ℕ)
@@ -67,7 +66,6 @@ status_of_fault other = status.Limits other
 -- why a text gives no limits
 abbrev pub GivesNoLimits : List ℕ → Status → Type 0
 GivesNoLimits text (status.Limits why) = IsFirstFault text why
-GivesNoLimits text status.NotBuilt = AreUnserved text
 GivesNoLimits text status.Memory = Unit {0}
 GivesNoLimits text other = ⊥
 
@@ -75,7 +73,6 @@ GivesNoLimits text other = ⊥
 abbrev pub HasLimitsFault : PortsValue → PortsValue → List ℕ → Status → Type 0
 HasLimitsFault before after name status.ReadFault = ReadRose before after name
 HasLimitsFault before after name (status.Limits why) = IsRefused before.texts name why
-HasLimitsFault before after name status.NotBuilt = HasUnserved before.texts name
 HasLimitsFault before after name status.Memory = Unit {0}
 HasLimitsFault before after name other = ⊥
 

@@ -3,7 +3,7 @@ use Rattle.std.specs.Prelude.{ℕ, List, []}
 use Rattle.gate_program.specs.declared.status.Status.{Status}
 use Rattle.gate_program.specs.declared.status.Status.TheVariants as status
 use Rattle.gate_program.specs.Limits.{limits_fault_text}
-use Rattle.gate_program.specs.Gate.{usage_text, read_fault_text, write_fault_text, not_built_text}
+use Rattle.gate_program.specs.Gate.{usage_text, read_fault_text, write_fault_text}
 use Rattle.gate_program.specs.declared.status.Answer.{Answer}
 use Rattle.gate_program.specs.declared.status.Answer.TheVariants as answer
 
@@ -16,7 +16,6 @@ number_of status.CutShort = 4
 number_of status.ReadFault = 5
 number_of status.WriteFault = 6
 number_of status.Memory = 8
-number_of status.NotBuilt = 9
 
 -- what is told of a run that stopped with this status; the statuses after sessions have their
 -- totals,
@@ -29,7 +28,6 @@ told_text status.CutShort = []
 told_text status.ReadFault = read_fault_text
 told_text status.WriteFault = write_fault_text
 told_text status.Memory = []
-told_text status.NotBuilt = not_built_text
 
 -- the exit status of an answer
 abbrev pub answer_number : Answer → ℕ

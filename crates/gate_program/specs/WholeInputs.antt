@@ -5,12 +5,12 @@ use Rattle.fix_fields.specs.Found.{Splits}
 use Rattle.fix_fields.specs.declared.frame.Found.TheVariants as found
 use Rattle.gate_ports.specs.Faults.{Rose}
 use Rattle.gate_ports.specs.Names.{Texts}
+use Rattle.limit_table.specs.Files.{IsLimitFile}
 use Rattle.limit_table.specs.declared.limits.Limits.{Limits}
 use Rattle.session_engine.specs.Follows.{input_most}
 use Rattle.gate_program.specs.Words.{RunWords, command_of}
 use Rattle.gate_program.specs.Words.Command.{Run}
 use Rattle.gate_program.specs.Run.{PortsValue, session_name}
-use Rattle.gate_program.specs.Limits.{AreLimits}
 
 -- no more bytes than an input has, and frames up to their end
 pub record IsWholeInput (bytes : List ℕ) : Type 0 where
@@ -18,12 +18,12 @@ pub record IsWholeInput (bytes : List ℕ) : Type 0 where
   pub frames : List FrameValue
   pub split : Splits bytes 0 frames found.End
 
--- The limit file has limits that are served, and each session's name a text that is a whole input.
+-- The limit file is one, and each session's name has a text that is a whole input.
 pub record AreWholeTexts (texts : Texts) (run : RunWords) : Type 0 where
   pub limit_text : List ℕ
   pub limits : Limits
   pub limits_there : texts run.limits ≡ Some limit_text
-  pub limits_are : AreLimits limit_text limits
+  pub limits_are : IsLimitFile limit_text limits
   pub each : (session : ℕ) → session < length run.sessions
       → (bytes : List ℕ) × (texts (session_name run session) ≡ Some bytes) × IsWholeInput bytes
 

@@ -296,8 +296,7 @@ fn make_and_tell<R: Threads + Sync, D: Folder, O: Sink, G: Gate>(
 /// may have: a session's is the one in its place, and those that no session takes are dropped. The
 /// statuses are 0 where all was read and written, 2 where the words are no form, 3 where the limit
 /// file is refused, 4 after a session that ends within a frame or with none, 5 and 6 after a fault
-/// of reading or of writing, 8 for want of memory, and 9 where a row of the limit file isn't served
-/// yet.
+/// of reading or of writing, and 8 for want of memory.
 pub fn gate<R: Threads + Sync, D: Folder, O: Sink, G: Gate>(
     rt: &R,
     alloc: Global,

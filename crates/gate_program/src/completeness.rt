@@ -5,8 +5,8 @@ ghost use Rattle.gate_program.specs.WholeInputs.{HasWholeInputs};
 ghost use Rattle.gate_program.specs.Commands.{GateRun};
 ghost use Rattle.gate_program.specs.Run.{PortsValue};
 
-/// A run over a limit file that is served and inputs that are whole frames, in which nothing failed
-/// that was read or written, ends with 0, unless memory was wanting, whatever its screens are.
+/// A run over a limit file and inputs that are whole frames, in which nothing failed that was read
+/// or written, ends with 0, unless memory was wanting, whatever its screens are.
 pub fn whole_inputs_are_done()
     ensures { (words : List (List ℕ)) (sets : List (List ScreenValue))
         (before after : PortsValue) (status : ℕ)

@@ -1,34 +1,21 @@
-//! The limits of a limit file that are served, and why a text gives none.
+//! The limits of a limit file, and why a text gives none.
 ghost use Rattle.std.specs.Prelude.{◌≡◌, IfOk, IfErr};
-ghost use Rattle.gate_program.specs.Limits.{AreLimits, is_served};
+ghost use Rattle.limit_table.specs.Files.{IsLimitFile};
 ghost use Rattle.gate_program.specs.Stages.{GivesNoLimits, status_of_fault};
 
 use crate::status::Status;
 use limit_table::{LimitFault, Limits, read_limits};
 use std::alloc::Global;
 
-/// The limits of a text, or why it gives none that are served.
+/// The limits of a text, or why it gives none.
 pub(crate) fn limits_from(alloc: Global, text: &[u8]) -> Result<Limits, Status>
-    ensures ok { IfOk result (λ limits. AreLimits text.now limits) }
+    ensures ok { IfOk result (λ limits. IsLimitFile text.now limits) }
     ensures err { IfErr result (λ status. GivesNoLimits text.now status) }
 {
     match read_limits(alloc, text) {
-        Ok(limits) => {
-            if is_served(&limits) {
-                Ok(limits)
-            } else {
-                Err(Status::NotBuilt)
-            }
-        }
+        Ok(limits) => Ok(limits),
         Err(fault) => Err(status_of_fault(fault)),
     }
-}
-
-/// Whether the program serves these limits.
-fn is_served(limits: &Limits) -> bool
-    ensures { result ≡ is_served limits.now }
-{
-    limits.off.rows().is_empty()
 }
 
 /// The status of a text that is refused for this fault.

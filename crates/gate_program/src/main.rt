@@ -11,6 +11,8 @@ mod ended;
 mod fault_tests;
 mod finish;
 mod forests;
+#[cfg(test)]
+mod hostile_rows;
 mod inputs;
 #[cfg(test)]
 mod leaf_tests;

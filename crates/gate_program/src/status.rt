@@ -25,8 +25,6 @@ pub(crate) enum Status {
     WriteFault,
     /// Memory was wanting.
     Memory,
-    /// The limit file has a row that isn't served.
-    NotBuilt,
 }
 
 impl Status {
@@ -42,7 +40,6 @@ impl Status {
             Status::ReadFault => 5,
             Status::WriteFault => 6,
             Status::Memory => 8,
-            Status::NotBuilt => 9,
         }
     }
 }

@@ -38,7 +38,6 @@ pub(crate) fn tell<O: Sink>(alloc: Global, out: &mut O, standing: Status) -> u8
         Status::Limits(fault) => tell_fault(alloc, out, fault),
         Status::ReadFault => tell_text(out, b"read fault\n", standing),
         Status::WriteFault => tell_text(out, b"write fault\n", standing),
-        Status::NotBuilt => tell_text(out, b"not built\n", standing),
         Status::Done | Status::CutShort => tell_text(out, b"", standing),
         Status::Memory => Status::Memory.number(),
     }

@@ -1,8 +1,11 @@
-//! Gates by which tests hold sessions: one after another, or two at each of their orders.
+//! Gates by which tests hold sessions, one after another, or two at each of their orders, or watch
+//! them.
 
 use gate_ports::Gate;
+use std::alloc::Global;
 use std::hint;
-use std::sync::atomic::{AtomicU32, Ordering};
+use std::sync::Arc;
+use std::sync::atomic::{AtomicU32, AtomicU64, Ordering};
 
 /// How many turns a session makes before it gives up: some seconds.
 pub(crate) const TURNS: u32 = 100_000_000;
@@ -88,6 +91,42 @@ impl Gate for Meeting {
         } else {
             self.second.store(order.saturating_add(1), Ordering::SeqCst);
             self.wait_for(&self.first, order);
+        }
+    }
+}
+
+/// Looks at how many screens were dropped, as an order and the one behind it come to the gate.
+#[derive(Drop)]
+pub(crate) struct Watching {
+    /// The number of the first of the two, from 0.
+    pub order: u32,
+    /// What the screens count their drops in.
+    pub drops: Arc<AtomicU64, Global>,
+    /// How many were dropped as the first came.
+    pub before: AtomicU64,
+    /// How many were dropped as the second came.
+    pub after: AtomicU64,
+}
+
+impl Watching {
+    /// Has looked at nothing yet.
+    pub(crate) fn at(order: u32, drops: Arc<AtomicU64, Global>) -> Watching {
+        Watching {
+            order,
+            drops,
+            before: AtomicU64::new(999),
+            after: AtomicU64::new(999),
+        }
+    }
+}
+
+impl Gate for Watching {
+    fn before(&self, _session: u32, order: u32) {
+        let dropped = self.drops.load(Ordering::SeqCst);
+        if order == self.order {
+            self.before.store(dropped, Ordering::SeqCst);
+        } else if order > self.order {
+            self.after.store(dropped, Ordering::SeqCst);
         }
     }
 }

@@ -1,4 +1,4 @@
-//! A screen of a firm's own, which tests hand in.
+//! Screens of a firm's own, which tests hand in.
 ghost use Rattle.std.specs.Prelude.{◌+◌, [], ◌∷◌, codes, nat_lt, slice_index, if◌then◌else◌};
 
 use screen_kit::{Memory, Order, Screen, Terms};
@@ -46,5 +46,31 @@ impl Screen for FirstTwo {
         } else {
             100
         }
+    }
+}
+
+/// `refusing`: refuses every order with the largest code.
+#[derive(Drop)]
+pub(crate) struct Refusing;
+
+impl Screen for Refusing {
+    ghost meaning = { λ _. record {
+      name = codes "refusing";
+      kept = [];
+      opening = λ _. [];
+      code = λ _ _. 65535;
+      next = λ kept _. kept;
+    } };
+
+    fn name(&self) -> &str {
+        "refusing"
+    }
+
+    fn arm(&mut self, _terms: &Terms) -> Result<(), Memory> {
+        Ok(())
+    }
+
+    fn judge(&mut self, _order: &Order) -> u16 {
+        65_535
     }
 }

@@ -94,8 +94,8 @@ const STOPS: [(&str, &[&str], &[u8], u8, &[u8]); 15] = [
 
 const USAGE: &[u8] = b"usage: gate run LIMITS OUT SESSION... | gate make NUMBER SESSIONS ORDERS\n";
 
-/// A limit file's text, the status and what is told. No session is there, so limits that are served
-/// end as a read fault.
+/// A limit file's text, the status and what is told. No session is there, so with limits a run ends as
+/// a read fault.
 const LIMIT_FILES: [(&str, &[u8], u8, &[u8]); 15] = [
     (
         "five columns",
@@ -145,8 +145,8 @@ const LIMIT_FILES: [(&str, &[u8], u8, &[u8]); 15] = [
     (
         "a dropped screen",
         b"firm,,1,,,\noff,size,0,,,\n",
-        9,
-        b"not built\n",
+        5,
+        b"read fault\n",
     ),
     ("the firm alone", b"firm,,1000,,,\n", 5, b"read fault\n"),
     ("an account and a symbol", SMALL, 5, b"read fault\n"),
@@ -181,7 +181,7 @@ const CUT_OFF: Row = Row {
 };
 
 #[test]
-fn a_limit_file_is_taken_refused_or_not_served(rt: HostRuntime) -> Result<(), Fail> {
+fn a_limit_file_is_taken_or_refused(rt: HostRuntime) -> Result<(), Fail> {
     let alloc = rt.alloc();
     let words = words_of(alloc, &WORDS)?;
     for (name, limits, want, told) in LIMIT_FILES {

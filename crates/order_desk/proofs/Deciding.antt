@@ -7,7 +7,7 @@ use Rattle.exposure_book.specs.Books.{BookValue}
 use Rattle.screen_kit.specs.Screens.{ScreenValue}
 use Rattle.screen_kit.specs.Sets.{first_code}
 use Rattle.risk_journal.specs.declared.acts.Act.{Act}
-use Rattle.risk_journal.specs.ActLists.{SeenAt, reads_of}
+use Rattle.risk_journal.specs.ActLists.{reads_of}
 use Rattle.admit_core.specs.declared.ask.Verdict.{Verdict}
 use Rattle.admit_core.specs.declared.ask.Verdict.TheVariants as verdict
 use Rattle.admit_core.specs.Asking.{asking}

@@ -2,7 +2,9 @@ pub mod Covers
 pub mod DecidedCovers
 pub mod Deciding
 pub mod Desks
+pub mod Dropped
 pub mod HaltKept
+pub mod NameTexts
 pub mod Offered
 pub mod Places
 pub mod ReportedCovers

@@ -6,5 +6,6 @@ pub mod Decisions
 pub mod Reported
 pub mod Backing
 pub mod Desks
+pub mod Dropping
 pub mod Halting
 pub mod Sending

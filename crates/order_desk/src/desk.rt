@@ -1,9 +1,11 @@
 //! What a session decides with.
-ghost use Rattle.std.specs.Prelude.{◌≡◌, ◌≤◌, ◌++◌, [], ◌∷◌, OnOk};
+ghost use Rattle.std.specs.Prelude.{◌≡◌, ◌≤◌, ◌++◌, [], ◌∷◌, map, OnOk};
 ghost use Rattle.risk_journal.specs.ActLists.{posts_in, calls_below, calls_at};
 ghost use Rattle.admit_core.specs.Tapes.{IsNoCall, with_post};
 ghost use Rattle.order_desk.specs.Desks.{HasRoom, IsDesk, IsLater};
+ghost use Rattle.order_desk.specs.Dropping.{screens_left};
 
+use crate::dropping::drop_by_rows;
 use admit_core::{Ended, Hands, trip};
 use exposure_book::Book;
 use fold_law::Memory;
@@ -89,6 +91,17 @@ impl<'a, H: Hand, M: Hand, K: Screen> Desk<'a, H, M, K> {
     {
         self.hands.reserve(acts)?;
         self.book.reserve_one()
+    }
+
+    /// Drops the screens that the limits drop as this order, whose number counts from 0, is taken up.
+    /// Takes no memory.
+    pub fn drop_screens(&mut self, order: u32)
+        ensures same { self.new ≡ record self.old { screens = self.new.screens } }
+        ensures screens { map K.meaning self.new.screens
+            ≡ screens_left self.old.limits order (map K.meaning self.old.screens) }
+    {
+        let limits: &Limits = self.limits;
+        drop_by_rows(&mut self.screens, limits.off.rows(), order);
     }
 
     /// Trips the halt tree, where the session hasn't yet.

@@ -9,6 +9,7 @@
 mod complete_laws;
 mod decide;
 mod desk;
+mod dropping;
 mod effect;
 mod halt_laws;
 mod judge;
@@ -22,6 +23,7 @@ mod values;
 pub use complete_laws::{an_order_is_sent_exactly_within_limits, what_raises_no_value_is_sent};
 pub use decide::{decide_cancel, decide_new, decide_replace};
 pub use desk::Desk;
+pub use dropping::only_its_own_rows_drop_screens;
 pub use effect::Effect;
 pub use halt_laws::{decisions_keep_halt, reports_keep_halt, tripping_keeps_cover};
 pub use laws::{

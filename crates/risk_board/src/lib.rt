@@ -14,6 +14,3 @@ mod tree;
 pub use board::{PlainBoard, components};
 pub use hand::{Call, Hand, Line, Seen};
 pub use plain_hand::PlainHand;
-
-#[cfg(test)]
-mod tests;

@@ -21,10 +21,3 @@ pub use journal_law::{one_reading_stands, written_is_read};
 pub use placed::set_places;
 pub use reading::{JournalFault, read_journal};
 pub use totals::{SessionTotal, Totals, TreeKind, TreeTotal, write_totals};
-
-#[cfg(test)]
-mod reading_tests;
-#[cfg(test)]
-mod tests;
-#[cfg(test)]
-mod totals_tests;

@@ -1,8 +1,9 @@
 -- A session that decided, told and gave has taken its frame.
-use Rattle.std.proofs.Common.{◌≡◌, ℕ, List, [], ◌∷◌, ◌++◌, map, refl, sym, ap, ◌∙◌, subst, codes, arith}
+use Rattle.std.proofs.Common.{◌≡◌, ℕ, ◌+◌, List, [], ◌∷◌, ◌++◌, map, refl, sym, ap, ◌∙◌, subst, codes, arith}
 use Rattle.std.specs.Prelude.{Option, Some, None}
 use Rattle.std.specs.Io.KnownBytes.{Appends}
 use Rattle.exposure_book.specs.Books.{BookValue}
+use Rattle.gate_ports.specs.Faults.{HasCause, Rose}
 use Rattle.fix_fields.specs.Fields.{FieldValue}
 use Rattle.fix_fields.specs.Places.{HasFieldsIn}
 use Rattle.screen_kit.specs.Screens.{ScreenValue}
@@ -15,10 +16,11 @@ use Rattle.order_desk.specs.Desks.{DeskValue, IsLater}
 use Rattle.order_desk.specs.Reported.{Settled}
 use Rattle.session_engine.specs.declared.counts.Counts.{Counts}
 use Rattle.session_engine.specs.Later.{continues_then, same_sink, later_sink}
-use Rattle.session_engine.specs.Running.{Running, Continues, kept_of, TellsAnswer, frame_acts}
+use Rattle.session_engine.specs.Running.{Running, Continues, kept_of, TellsAnswer, GivesNext, frame_acts}
 use Rattle.fix_orders.specs.declared.message.Stamp.{Stamp}
 use Rattle.session_engine.specs.Answers.{Wording, forward_text}
 use Rattle.session_engine.specs.Taken.{Kept, TakesSound, ReadsAs, answer_act, answer_stamp, note_acts, note_by, counted_client}
+use Rattle.session_engine.specs.Taken.{counts_answered, counts_decided, GivesFront}
 use Rattle.session_engine.specs.Trips.{acts_tripped}
 use Rattle.session_engine.proofs.MessageFacts.{RequestFacts, ReportFacts}
 use Rattle.session_engine.proofs.ReportFrames.{Told, takes_report}
@@ -197,6 +199,85 @@ module _ {H M K : Type 0} (meaning : K → ScreenValue) where
                 (forward_text now.client_id now.counts.client fields))
                 (ap (λ (r : Running H M K). r.client.held) others) (passed_now fields has);
           })
+
+-- a request that is sent has the next message to the venue
+number_sent : (refusal : Option Refusal) (counts : Counts) → refusal ≡ None
+    → (counts_answered refusal (counts_decided refusal counts)).venue ≡ counts.venue + 1
+number_sent None counts is = refl
+number_sent (Some why) counts is = absurd cc
+
+-- one that is refused has the next message to the client
+number_refused : (refusal : Option Refusal) (why : Refusal) (counts : Counts) → refusal ≡ Some why
+    → (counts_answered refusal (counts_decided refusal counts)).client ≡ counts.client + 1
+number_refused None why counts is = absurd cc
+number_refused (Some other) why counts is = refl
+
+module _ {H M K : Type 0} (given failed : Type 0) (own before : Running H M K)
+    (decided : DeskValue H M K) where
+  -- the answer to a request went to the venue, or a front of it
+  pub gives_venue : (refusal : Option Refusal) (sender : List ℕ) (now told : Running H M K)
+      (after : SinkValue) (whole : Option (List ℕ)) → before ≡ own → told ≡ now → refusal ≡ None
+      → TellsAnswer refusal sender (record before { desk = decided }) now
+      → GivesFront given told.venue.held after.held whole
+      → HasCause told.venue.faults after.faults failed
+      → GivesNext given failed own.venue after own.counts.venue told.counts.venue whole
+  gives_venue refusal sender now told after whole before_is told_is is tells front cause =
+      let same : told.venue ≡ own.venue = ap (λ (r : Running H M K). r.venue) told_is
+      ∙ ap (λ (r : Running H M K). r.venue) tells.others
+      ∙ ap (λ (r : Running H M K). r.venue) before_is in
+      let R : SinkValue → Type 0 = λ s. Rose s.faults after.faults in
+      record {
+        front = subst (λ (s : SinkValue). GivesFront given s.held after.held whole) same front;
+        rose = λ has. subst R same (cause.rose has);
+        next = λ has. ap (λ (r : Running H M K). r.counts.venue) told_is
+            ∙ ap (λ (c : Counts). c.venue) tells.counts ∙ number_sent refusal before.counts is
+            ∙ ap (λ (r : Running H M K). r.counts.venue + 1) before_is;
+      }
+
+  -- or to the client
+  pub gives_client : (refusal : Option Refusal) (why : Refusal) (sender : List ℕ)
+      (now told : Running H M K) (after : SinkValue) (whole : Option (List ℕ)) → before ≡ own
+      → told ≡ now → refusal ≡ Some why
+      → TellsAnswer refusal sender (record before { desk = decided }) now
+      → GivesFront given told.client.held after.held whole
+      → HasCause told.client.faults after.faults failed
+      → GivesNext given failed own.client after own.counts.client told.counts.client whole
+  gives_client refusal why sender now told after whole before_is told_is is tells front cause =
+      let same : told.client ≡ own.client = ap (λ (r : Running H M K). r.client) told_is
+      ∙ ap (λ (r : Running H M K). r.client) tells.others
+      ∙ ap (λ (r : Running H M K). r.client) before_is in
+      let R : SinkValue → Type 0 = λ s. Rose s.faults after.faults in
+      record {
+        front = subst (λ (s : SinkValue). GivesFront given s.held after.held whole) same front;
+        rose = λ has. subst R same (cause.rose has);
+        next = λ has. ap (λ (r : Running H M K). r.counts.client) told_is
+            ∙ ap (λ (c : Counts). c.client) tells.counts
+            ∙ number_refused refusal why before.counts is
+            ∙ ap (λ (r : Running H M K). r.counts.client + 1) before_is;
+      }
+
+  -- a report went on to the client, or a front of it
+  pub gives_report : (now told : Running H M K) (after : SinkValue) (whole : Option (List ℕ))
+      → before ≡ own → told ≡ now
+      → now ≡ record before {
+        desk = record decided { hands = now.desk.hands };
+        counts = counted_client before.counts;
+      }
+      → GivesFront given told.client.held after.held whole
+      → HasCause told.client.faults after.faults failed
+      → GivesNext given failed own.client after own.counts.client told.counts.client whole
+  gives_report now told after whole before_is told_is others front cause =
+      let same : told.client ≡ own.client = ap (λ (r : Running H M K). r.client) told_is
+      ∙ ap (λ (r : Running H M K). r.client) others
+      ∙ ap (λ (r : Running H M K). r.client) before_is in
+      let R : SinkValue → Type 0 = λ s. Rose s.faults after.faults in
+      record {
+        front = subst (λ (s : SinkValue). GivesFront given s.held after.held whole) same front;
+        rose = λ has. subst R same (cause.rose has);
+        next = λ has. ap (λ (r : Running H M K). r.counts.client) told_is
+            ∙ ap (λ (r : Running H M K). r.counts.client) others
+            ∙ ap (λ (r : Running H M K). r.counts.client + 1) before_is;
+      }
 
 -- a session that decided, told and answered the client goes on
 pub continues_answered : {H M K : Type 0} (SameSum : H → H → Type 0) (SameHalt : M → M → Type 0)

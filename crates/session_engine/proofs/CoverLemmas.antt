@@ -122,7 +122,7 @@ covers_content : (limits : LimitsValue) (fields : Option (List FieldValue))
 covers_content limits None session own = covers_note limits note.NotSound session own
 covers_content limits (Some fields) session own =
     covers_result limits (asks fields) fields (read_of fields)
-    (named (asks fields) fields (taken_up fields session)) own
+    (named (asks fields) fields (taken_up limits fields session)) own
 
 -- a frame keeps the orders of the book covered
 pub covers_frame : (limits : LimitsValue) (fields : Option (List FieldValue))

@@ -8,17 +8,18 @@ use Rattle.frame_run.specs.Frames.{FrameIn, IsFrameOf}
 use Rattle.fix_orders.specs.declared.message.Message.TheVariants as message
 use Rattle.fix_orders.specs.Reading.{read_of}
 use Rattle.risk_journal.specs.declared.acts.Act.{Act}
+use Rattle.screen_kit.specs.Screens.{ScreenValue}
 use Rattle.session_engine.specs.declared.counts.Counts.{Counts}
 use Rattle.session_engine.specs.declared.note.Note.{Note}
 use Rattle.session_engine.specs.declared.note.Note.TheVariants as note
 use Rattle.session_engine.specs.Session.{LimitsValue, SessionValue, asks, after_frame, after_sound}
-use Rattle.session_engine.specs.Session.{orders_with, with_frame}
+use Rattle.session_engine.specs.Session.{orders_with, screens_with, with_frame}
 use Rattle.session_engine.specs.Reaches.{with_reads, Steps}
 use Rattle.session_engine.specs.Taken.{Kept, StandsAs, Takes, TakesFrom, TakesSound}
 use Rattle.session_engine.specs.Taken.{counted, noted_act}
 use Rattle.session_engine.proofs.QuietActs.{reads_of-quiet}
 use Rattle.session_engine.proofs.TakenLemmas.{frame_by, steps_quiet, next_by, takes_next}
-use Rattle.session_engine.proofs.TakenLemmas.{appends_nothing, takes_up, with_orders}
+use Rattle.session_engine.proofs.TakenLemmas.{appends_nothing, takes_up, with_taken}
 
 -- what is kept after such a frame
 pub record Passes (before after : Kept) : Type 0 where
@@ -102,17 +103,20 @@ takes_admin limits fields session before after asks_are read own passes acts =
 
 -- a sound frame is taken up and taken, whatever its fields are
 pub sound_takes : (limits : LimitsValue) (sound : FrameIn) (before after : Kept)
-    (orders : ℕ) (fields : Option (List FieldValue))
+    (orders : ℕ) (screens : List ScreenValue) (fields : Option (List FieldValue))
     → ((listed : List FieldValue) → HasFieldsIn sound.bytes sound.frame listed
     → orders ≡ orders_with listed before.counts.orders)
-    → TakesSound limits sound (with_orders orders before) after
+    → ((listed : List FieldValue) → HasFieldsIn sound.bytes sound.frame listed
+    → screens ≡ screens_with limits listed before.counts.orders before.screens)
+    → TakesSound limits sound (with_taken orders screens before) after
     → sound.frame.sound ≡ true → IsFrameOf sound.bytes sound.frame fields
     → TakesFrom (after_frame limits fields) 1 before after
-sound_takes limits sound before after orders None is takes is_sound (from, stands, has) =
+sound_takes limits sound before after orders screens None is left takes is_sound (from, stands, has) =
     absurd (false≢true (sym has ∙ is_sound))
-sound_takes limits sound before after orders (Some listed) is takes is_sound (from, stands, has) =
-    takes_up limits listed before after orders (is listed (from, stands))
-    (takes listed (from, stands))
+sound_takes limits sound before after orders screens (Some listed) is left takes is_sound
+    (from, stands, has) =
+    takes_up limits listed before after orders screens (is listed (from, stands))
+    (left listed (from, stands)) (takes listed (from, stands))
 
 -- a frame that isn't sound is noted
 pub unsound_takes : (limits : LimitsValue) (whole : FrameIn) (before after : Kept)

@@ -8,8 +8,6 @@ use Rattle.exposure_book.specs.Books.{BookValue}
 use Rattle.fix_fields.specs.Fields.{FieldValue}
 use Rattle.fix_orders.specs.declared.message.FieldFault.{FieldFault}
 use Rattle.fix_orders.specs.declared.message.Message.{Message}
-use Rattle.fix_orders.specs.Faults.{value_of}
-use Rattle.fix_orders.specs.Kinds.{kind_of}
 use Rattle.fix_orders.specs.Reading.{read_of}
 use Rattle.order_desk.specs.declared.refusal.Refusal.{Refusal}
 use Rattle.screen_kit.specs.Screens.{ScreenValue}
@@ -18,7 +16,8 @@ use Rattle.risk_journal.specs.ActLists.{SeenAt, reads_of}
 use Rattle.session_engine.specs.declared.counts.Counts.{Counts}
 use Rattle.session_engine.specs.Session.{LimitsValue, SessionValue}
 use Rattle.session_engine.specs.Session.{after_frame, after_sound, after_result, asks, named}
-use Rattle.session_engine.specs.Session.{is_order, orders_after, orders_with, taken_up, with_frame}
+use Rattle.session_engine.specs.Session.{asks_more, orders_after, orders_with, screens_with}
+use Rattle.session_engine.specs.Session.{taken_up, with_frame}
 use Rattle.session_engine.specs.Reaches.{with_reads, Steps}
 use Rattle.session_engine.specs.Taken.{Takes, TakesFrom, Kept, StandsAs, with_message, text_in}
 use Rattle.session_engine.specs.Trips.{firms_after}
@@ -145,18 +144,21 @@ orders_most : (order : Bool) (orders : ℕ) → orders_after order orders ≤ or
 orders_most true orders = omega arith
 orders_most false orders = omega arith
 
--- what is kept with so many orders taken up
-abbrev pub with_orders : ℕ → Kept → Kept
-with_orders orders kept = record kept { counts = record (kept.counts) { orders = orders } }
+-- what is kept with so many orders taken up, and these screens left
+abbrev pub with_taken : ℕ → List ScreenValue → Kept → Kept
+with_taken orders screens kept = record kept {
+  counts = record (kept.counts) { orders = orders };
+  screens = screens;
+}
 
 -- a sound frame was taken up, and then taken
 pub takes_up : (limits : LimitsValue) (fields : List FieldValue) (before after : Kept) (orders : ℕ)
-    → orders ≡ orders_with fields before.counts.orders
-    → TakesFrom (with_frame (after_sound limits fields)) 0 (with_orders orders before) after
+    (screens : List ScreenValue) → orders ≡ orders_with fields before.counts.orders
+    → screens ≡ screens_with limits fields before.counts.orders before.screens
+    → TakesFrom (with_frame (after_sound limits fields)) 0 (with_taken orders screens before) after
     → TakesFrom (after_frame limits (Some fields)) 1 before after
-takes_up limits fields before after orders is takes session own =
-    let order = is_order (kind_of (value_of 35 fields)) in
-    let took = takes (taken_up fields session) (record {
+takes_up limits fields before after orders screens is left takes session own =
+    let took = takes (taken_up limits fields session) (record {
       stands = record {
         acts_are = own.stands.acts_are;
         book_is = own.stands.book_is;
@@ -167,7 +169,8 @@ takes_up limits fields before after orders is takes session own =
         firms = own.stands.firms;
       };
       client_is = own.client_is;
-      screens_are = own.screens_are;
+      screens_are = ap (λ n. screens_with limits fields n session.screens) (sym own.stands.orders)
+          ∙ ap (screens_with limits fields before.counts.orders) own.screens_are ∙ sym left;
     }) in
     let one = took.1 in (
       took.0,
@@ -184,7 +187,7 @@ takes_up limits fields before after orders is takes session own =
         client_is = one.client_is;
         venue_grows = one.venue_grows;
         client_grows = one.client_grows;
-        orders_most = omega (arith, one.orders_most, orders_most order session.orders);
+        orders_most = omega (arith, one.orders_most, orders_most (asks_more fields) session.orders);
         firms_most = one.firms_most;
       },
     )

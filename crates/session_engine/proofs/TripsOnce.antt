@@ -127,7 +127,7 @@ trips_content : (limits : LimitsValue) (fields : Option (List FieldValue))
 trips_content limits None session covers own = trips_note limits note.NotSound session own
 trips_content limits (Some fields) session covers own =
     trips_result limits (asks fields) fields (read_of fields)
-    (named (asks fields) fields (taken_up fields session)) covers own
+    (named (asks fields) fields (taken_up limits fields session)) covers own
 
 trips_frames : (limits : LimitsValue) (frames : List FrameValue) (session : SessionValue)
     → CoversOrders limits session → TripsOnce limits session

@@ -1,9 +1,9 @@
 -- A session stays the same one over what it does, and a fault stays one.
 use Rattle.std.specs.Prelude.{ℕ, ◌+◌, ◌*◌, ◌≤◌}
-use Rattle.std.proofs.Common.{arith, refl, ◌∙◌, inl, inr}
+use Rattle.std.proofs.Common.{arith, refl, ◌∙◌}
 use Rattle.gate_ports.specs.Faults.{Rose}
 use Rattle.frame_run.specs.Sinks.{SinkValue, IsLaterSink}
-use Rattle.session_engine.specs.Running.{Running, Continues, SinkFailed, frame_acts}
+use Rattle.session_engine.specs.Running.{Running, Continues, frame_acts}
 
 pub same_sink : (sink : SinkValue) → IsLaterSink sink sink
 same_sink sink = record { name_is = refl; faults_are = omega arith }
@@ -72,13 +72,3 @@ module _ {H M K : Type 0} (SameSum : H → H → Type 0) (SameHalt : M → M →
   continues_next next_sum next_halt a b c one two first second =
       continues_then next_sum next_halt a b c (frame_acts * one) (frame_acts * two)
       (frame_acts * (one + two)) first second (omega arith)
-
-  -- what failed later failed
-  pub fails_later : (a b c : Running H M K) (acts : ℕ) → Continues SameSum SameHalt a b acts
-      → SinkFailed b c → SinkFailed a c
-  fails_later a b c acts continues (inl venue) =
-      inl (rose_later a.venue.faults b.venue.faults c.venue.faults continues.venue_is.faults_are venue)
-  fails_later a b c acts continues (inr client) =
-      inr
-      (rose_later a.client.faults b.client.faults c.client.faults continues.client_is.faults_are
-      client)

@@ -1,9 +1,11 @@
 -- A session as it runs, as contracts see it, and how it stands before and after what it does.
-use Rattle.std.specs.Prelude.{◌≡◌, ◌⊎◌, ℕ, ◌≤◌, List, [], ◌∷◌, ◌++◌, length, map, Option}
+use Rattle.std.specs.Prelude.{◌≡◌, ◌⊎◌, ℕ, ◌+◌, ◌≤◌, List, [], ◌∷◌, ◌++◌, length, map, Option}
 use Rattle.std.specs.List.{concat}
 use Rattle.std.specs.Io.KnownBytes.{Appends}
 use Rattle.fix_fields.specs.Frames.{FrameValue}
 use Rattle.gate_ports.specs.Faults.{Rose}
+use Rattle.gate_ports.specs.declared.ports.PortFault.{PortFault}
+use Rattle.gate_ports.specs.declared.ports.PortFault.TheVariants as fault
 use Rattle.risk_journal.specs.ActLists.{SeenAt, reads_of}
 use Rattle.screen_kit.specs.Screens.{ScreenValue}
 use Rattle.frame_run.specs.Frames.{FrameIn}
@@ -13,10 +15,11 @@ use Rattle.order_desk.specs.Desks.{DeskValue, HasRoom, IsLater}
 use Rattle.order_desk.specs.Values.{first_book}
 use Rattle.session_engine.specs.declared.counts.Counts.{Counts}
 use Rattle.session_engine.specs.Counted.{no_counts}
+use Rattle.session_engine.specs.Follows.{session_with, HasGiven, FailsLast}
 use Rattle.session_engine.specs.Reaches.{with_reads}
 use Rattle.session_engine.specs.Session.{SessionValue, opening, after_frames, unnamed_client}
 use Rattle.session_engine.specs.Taken.{Kept, StandsAs, TakesSound, HasSmallCounts, CountsTrips, answer_act}
-use Rattle.session_engine.specs.Taken.{counts_answered, counts_decided}
+use Rattle.session_engine.specs.Taken.{counts_answered, counts_decided, GivesFront}
 use Rattle.session_engine.specs.Trips.{acts_tripped}
 
 -- what decides, the counts, the client that requests name, and the sinks
@@ -52,10 +55,26 @@ abbrev pub HasTaken : {H M K : Type 0} → (K → ScreenValue) → FrameIn → R
 HasTaken meaning sound before now =
     TakesSound before.desk.limits sound (kept_of meaning before) (kept_of meaning now)
 
--- the count of faults of a sink rose
-abbrev pub SinkFailed : {H M K : Type 0} → Running H M K → Running H M K → Type 0
-SinkFailed before now =
-    Rose before.venue.faults now.venue.faults ⊎ Rose before.client.faults now.client.faults
+-- A message, or a front of it, was given to a sink. Where that failed, the sink's count of faults rose,
+-- and the message is the next one of its stream.
+pub record GivesNext (given failed : Type 0) (before now : SinkValue) (number number_after : ℕ)
+    (whole : Option (List ℕ)) : Type 0 where
+  pub front : GivesFront given before.held now.held whole
+  pub rose : failed → Rose before.faults now.faults
+  pub next : failed → number_after ≡ number + 1
+
+-- The sound frame, which was taken up, was taken: with all of its message the sinks would hold so
+-- much. One of them may have got just a front of that, and does where it failed.
+pub record TakesFront {H M K : Type 0} (meaning : K → ScreenValue) (sound : FrameIn)
+    (given failed : Type 0) (before now : Running H M K) : Type 0 where
+  pub venue : Option (List ℕ)
+  pub client : Option (List ℕ)
+  pub taken : TakesSound before.desk.limits sound (kept_of meaning before)
+      (record (kept_of meaning now) { venue = venue; client = client })
+  pub gives : (GivesNext given failed before.venue now.venue before.counts.venue now.counts.venue
+      venue × (now.client.held ≡ client))
+      ⊎ (GivesNext given failed before.client now.client before.counts.client now.counts.client
+      client × (now.venue.held ≡ venue))
 
 -- the most acts of a frame: those of an admission, a trip and the answer
 abbrev pub frame_acts : ℕ
@@ -112,3 +131,23 @@ pub record TookFrames {H M K : Type 0} (meaning : K → ScreenValue) (start : Ru
   pub counts : CountsFit (length frames) session
   pub venue_grows : Appends start.venue.held now.venue.held (concat session.venue)
   pub client_grows : Appends start.client.held now.client.held (concat session.client)
+  pub venue_later : start.venue.faults ≤ now.venue.faults
+  pub client_later : start.client.faults ≤ now.client.faults
+
+-- The frames lead to where a session stopped: they were taken, but of the last one's message the end
+-- may not have been given. Where a sink failed, it failed at that message.
+pub record StoppedFrames {H M K : Type 0} (meaning : K → ScreenValue) (why : PortFault)
+    (start : Running H M K) (frames : List FrameValue) (now : Running H M K) : Type 0 where
+  pub given : ℕ
+  pub to_venue : List ℕ
+  pub to_client : List ℕ
+  pub acts_are : now.desk.hands.acts
+      ≡ (session_with start.desk.limits (map meaning start.desk.screens)
+      (reads_of now.desk.hands.acts) frames).acts
+  pub venue_got : Appends start.venue.held now.venue.held to_venue
+  pub client_got : Appends start.client.held now.client.held to_client
+  pub messages : HasGiven start.desk.limits (map meaning start.desk.screens)
+      (reads_of now.desk.hands.acts) frames given to_venue to_client
+  pub failed : why ≡ fault.Failed → FailsLast start.desk.limits
+      (map meaning start.desk.screens) (reads_of now.desk.hands.acts) frames given
+      (Rose start.venue.faults now.venue.faults) (Rose start.client.faults now.client.faults)

@@ -27,6 +27,7 @@ use Rattle.order_desk.specs.declared.refusal.Refusal.{Refusal}
 use Rattle.order_desk.specs.declared.offer.Offer.{Offer}
 use Rattle.order_desk.specs.Decisions.{Decision, cancel_decided, new_screened, replace_screened}
 use Rattle.order_desk.specs.Decisions.{screens_after}
+use Rattle.order_desk.specs.Dropping.{screens_left}
 use Rattle.order_desk.specs.Offers.{new_offer, replace_offer}
 use Rattle.order_desk.specs.Reported.{Settled, report_settled, reject_settled}
 use Rattle.order_desk.specs.Values.{first_book}
@@ -241,13 +242,35 @@ is_order _ = false
 abbrev pub orders_after : Bool → ℕ → ℕ
 orders_after order orders = if order then orders + 1 else orders
 
--- how many orders were taken up, with a sound frame of these fields: its type alone counts
-abbrev pub orders_with : List FieldValue → ℕ → ℕ
-orders_with fields orders = orders_after (is_order (kind_of (value_of 35 fields))) orders
+-- whether a sound frame of these fields is an order: its type alone says so
+abbrev pub asks_more : List FieldValue → Bool
+asks_more fields = is_order (kind_of (value_of 35 fields))
 
--- a sound frame is taken up: an order is counted
-abbrev pub taken_up : List FieldValue → SessionValue → SessionValue
-taken_up fields session = record session { orders = orders_with fields session.orders }
+-- the number of a sound frame of these fields, where it is an order and so many were before it
+abbrev pub number_with : List FieldValue → ℕ → Option ℕ
+number_with fields orders = if asks_more fields then Some orders else None
+
+-- how many orders were taken up, with a sound frame of these fields
+abbrev pub orders_with : List FieldValue → ℕ → ℕ
+orders_with fields orders = orders_after (asks_more fields) orders
+
+-- the screens that are left, with a message that is an order or isn't one: as an order is taken up,
+-- its number is how many were before it
+abbrev pub screens_without : Bool → LimitsValue → ℕ → List ScreenValue → List ScreenValue
+screens_without order limits orders screens =
+    if order then screens_left limits orders screens else screens
+
+-- the same with a sound frame of these fields
+abbrev pub screens_with : LimitsValue → List FieldValue → ℕ → List ScreenValue → List ScreenValue
+screens_with limits fields orders screens =
+    screens_without (asks_more fields) limits orders screens
+
+-- a sound frame is taken up: an order is counted, and the screens that the limits drop as it are gone
+abbrev pub taken_up : LimitsValue → List FieldValue → SessionValue → SessionValue
+taken_up limits fields session = record session {
+  orders = orders_with fields session.orders;
+  screens = screens_with limits fields session.orders session.screens;
+}
 
 -- a sound frame that was taken up
 abbrev pub after_sound : LimitsValue → List FieldValue → SessionValue → SessionValue
@@ -261,7 +284,8 @@ with_frame step session = record (step session) { frames = session.frames + 1 }
 -- a frame, before it is counted
 abbrev pub after_content : LimitsValue → Option (List FieldValue) → SessionValue → SessionValue
 after_content limits None session = after_noting note.NotSound session
-after_content limits (Some fields) session = after_sound limits fields (taken_up fields session)
+after_content limits (Some fields) session =
+    after_sound limits fields (taken_up limits fields session)
 
 -- a frame
 abbrev pub after_frame : LimitsValue → Option (List FieldValue) → SessionValue → SessionValue

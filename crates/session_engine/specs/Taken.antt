@@ -1,5 +1,5 @@
 -- Frames as a session takes them.
-use Rattle.std.specs.Prelude.{◌≡◌, ℕ, ◌+◌, ◌≤◌, ◌<◌, List, [], ◌∷◌, ◌++◌, Option, Some, None}
+use Rattle.std.specs.Prelude.{◌≡◌, ℕ, ◌+◌, ◌≤◌, ◌<◌, List, [], ◌∷◌, ◌++◌, take, Option, Some, None}
 use Rattle.std.specs.Prelude.{codes, Ok, Err, Bool}
 use Rattle.std.specs.Io.KnownBytes.{Appends}
 use Rattle.fix_fields.specs.Fields.{FieldValue}
@@ -69,6 +69,22 @@ abbrev pub Forwards : FrameIn → Stamp → Option (List ℕ) → Option (List �
 Forwards sound stamp held held_after =
     (fields : List FieldValue) → HasFieldsIn sound.bytes sound.frame fields
     → Appends held held_after (forward_text stamp.target stamp.seq fields)
+
+-- A piece, or a front of it, was given to a sink. With all of the piece the sink would hold the whole,
+-- and it does so where all was given.
+pub record GivesFront (given : Type 0) (held held_after whole : Option (List ℕ)) : Type 0 where
+  pub piece : List ℕ
+  pub count : ℕ
+  pub would : Appends held whole piece
+  pub got : Appends held held_after (take count piece)
+  pub all : given → held_after ≡ whole
+
+-- a message was given so, of which this is said by what the sink would hold
+pub record Gives (given : Type 0) (held held_after : Option (List ℕ))
+    (Says : Option (List ℕ) → Type 0) : Type 0 where
+  pub whole : Option (List ℕ)
+  pub front : GivesFront given held held_after whole
+  pub says : Says whole
 
 -- one frame more is counted, and one more message has a number of at most eight digits in either
 -- stream

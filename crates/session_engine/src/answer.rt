@@ -5,7 +5,7 @@ ghost use Rattle.fix_fields.specs.Fields.{FieldValue};
 ghost use Rattle.fix_fields.specs.Messages.{message_text};
 ghost use Rattle.fix_orders.specs.Put.{HasPut, IsSeq, IsPassedOn};
 ghost use Rattle.gate_ports.specs.Faults.{HasCause};
-ghost use Rattle.session_engine.specs.Taken.{HasItsTime, Forwards};
+ghost use Rattle.session_engine.specs.Taken.{HasItsTime, Forwards, Gives};
 
 use fix_fields::{Id, Writer};
 use fix_orders::{Stamp, write_forward};
@@ -22,11 +22,12 @@ pub(crate) fn venue_id() -> Id
     }
 }
 
-/// Gives the message that was written.
+/// Gives the message that was written. Refused, it gave a front of it.
 pub(crate) fn give_written<S: Sink>(sink: &mut S, writer: &mut Writer) -> Result<(), PortFault>
     requires written { IsSome writer.old }
-    ensures given { IsOk result → (fields : List FieldValue) → HasPut fields writer.old
-        → Appends (S.held sink.old) (S.held sink.new) (message_text fields) }
+    ensures given { Gives (IsOk result) (S.held sink.old) (S.held sink.new)
+        (λ whole. (fields : List FieldValue) → HasPut fields writer.old
+        → Appends (S.held sink.old) whole (message_text fields)) }
     ensures cause { HasCause (S.faults sink.old) (S.faults sink.new)
         (IsErrOf result PortFault.Failed) }
     ensures name { S.name sink.new ≡ S.name sink.old }
@@ -34,7 +35,7 @@ pub(crate) fn give_written<S: Sink>(sink: &mut S, writer: &mut Writer) -> Result
     give_all(sink, writer.finish())
 }
 
-/// Passes a message on, with the time that it has.
+/// Passes a message on, with the time that it has. Refused, it gave a front of it.
 pub(crate) fn forward<S: Sink>(
     sink: &mut S,
     writer: &mut Writer,
@@ -44,8 +45,8 @@ pub(crate) fn forward<S: Sink>(
     requires passed { IsPassedOn sound.now.bytes sound.now.frame }
     requires number { IsSeq stamp.now.seq }
     requires time { HasItsTime sound.now stamp.now }
-    ensures given { IsOk result
-        → Forwards sound.now stamp.now (S.held sink.old) (S.held sink.new) }
+    ensures given { Gives (IsOk result) (S.held sink.old) (S.held sink.new)
+        (Forwards sound.now stamp.now (S.held sink.old)) }
     ensures cause { HasCause (S.faults sink.old) (S.faults sink.new)
         (IsErrOf result PortFault.Failed) }
     ensures name { S.name sink.new ≡ S.name sink.old }

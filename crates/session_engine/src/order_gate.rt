@@ -35,27 +35,29 @@ impl<'a, H: Hand, M: Hand, K: Screen, V: Sink, C: Sink, G: Gate> Model
 
 impl<'a, H: Hand, M: Hand, K: Screen, V: Sink, C: Sink, G: Gate> TakesFrames
     for AtGate<'a, H, M, K, V, C, G> {
-    ghost use Rattle.session_engine.specs.Running.{Continues, SinkFailed, TookFrames, frame_acts};
-    ghost use Rattle.session_engine.specs.Later.{continues_same, continues_next, fails_later};
+    ghost use Rattle.session_engine.specs.Running.{Continues, TookFrames, StoppedFrames, frame_acts};
+    ghost use Rattle.session_engine.specs.Later.{continues_same, continues_next};
+    ghost use Rattle.session_engine.specs.Stopped.{stopped_whole};
 
-    ghost Took = { TookFrames K.meaning };
+    ghost Took = { λ input. TookFrames K.meaning };
+
+    ghost Stopped = { λ why input. StoppedFrames K.meaning why };
 
     ghost IsAfter = { λ before now frames.
         Continues H.SameOrigin M.SameOrigin before now (frame_acts * frames) };
 
-    ghost Failed = { SinkFailed };
-
-    /// Before an order, a sound frame of type D or G, the gate is called with the session's number and
-    /// the order's, both from 0. None of its fields was read yet but its type.
+    /// Before an order is taken up, the gate is called with the session's number and the order's, both
+    /// from 0. None of its fields was read yet but its type.
     fn take_frame(&mut self, bytes: &[u8], frame: &Frame) -> Result<(), PortFault> {
         self.session.reserve()?;
         let Some(sound) = SoundFrame::of(bytes, frame) else {
             self.session.note_frame(Note::NotSound);
             return Ok(());
         };
-        if let Some(order) = self.session.count_order(&sound) {
+        if let Some(order) = self.session.number_of(&sound) {
             self.gate.gate.before(self.gate.number, order);
         }
+        self.session.take_up(&sound);
         self.session.take_sound(&sound)
     }
 
@@ -65,6 +67,5 @@ impl<'a, H: Hand, M: Hand, K: Screen, V: Sink, C: Sink, G: Gate> TakesFrames
     ghost after_next = { λ a b c one two.
         continues_next H.SameOrigin M.SameOrigin H.origin_next M.origin_next a b c one two };
 
-    ghost failed_later = { λ a b c count.
-        fails_later H.SameOrigin M.SameOrigin a b c (frame_acts * count) };
+    ghost stopped_whole = { λ input. stopped_whole K.meaning };
 }

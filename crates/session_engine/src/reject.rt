@@ -1,11 +1,11 @@
 //! The answers to messages with a field fault.
-ghost use Rattle.std.specs.Prelude.{◌≡◌, true, false, Err, IsOk, List};
+ghost use Rattle.std.specs.Prelude.{◌≡◌, true, false, Err, IsOk, IsErrOf, List};
 ghost use Rattle.std.specs.Option.{unwrap_or};
 ghost use Rattle.fix_fields.specs.Fields.{FieldValue};
 ghost use Rattle.fix_fields.specs.Places.{HasFieldsIn};
 ghost use Rattle.fix_orders.specs.Reading.{read_of};
 ghost use Rattle.session_engine.specs.Answers.{no_time};
-ghost use Rattle.session_engine.specs.Running.{Continues, HasTaken, SinkFailed, IsReady, frame_acts};
+ghost use Rattle.session_engine.specs.Running.{Continues, TakesFront, IsReady, frame_acts};
 ghost use Rattle.session_engine.specs.Session.{is_request};
 ghost use Rattle.session_engine.specs.Taken.{FailsAs};
 
@@ -61,8 +61,8 @@ impl<'a, H: Hand, M: Hand, K: Screen, V: Sink, C: Sink> Session<'a, H, M, K, V, 
         requires fails { FailsAs sound.now fault.now true }
         requires ready { IsReady self.old }
         ensures continues { Continues H.SameOrigin M.SameOrigin self.old self.new frame_acts }
-        ensures taken { IsOk result → HasTaken K.meaning sound.now self.old self.new }
-        ensures failed { result ≡ Err PortFault.Failed → SinkFailed self.old self.new }
+        ensures taken { TakesFront K.meaning sound.now (IsOk result)
+            (IsErrOf result PortFault.Failed) self.old self.new }
     {
         let envelope = read_envelope(sound.bytes(), sound.frame());
         self.client_id = envelope.sender.unwrap_or(self.client_id);
@@ -90,8 +90,8 @@ impl<'a, H: Hand, M: Hand, K: Screen, V: Sink, C: Sink> Session<'a, H, M, K, V, 
         requires fails { FailsAs sound.now fault.now false }
         requires ready { IsReady self.old }
         ensures continues { Continues H.SameOrigin M.SameOrigin self.old self.new frame_acts }
-        ensures taken { IsOk result → HasTaken K.meaning sound.now self.old self.new }
-        ensures failed { result ≡ Err PortFault.Failed → SinkFailed self.old self.new }
+        ensures taken { TakesFront K.meaning sound.now (IsOk result)
+            (IsErrOf result PortFault.Failed) self.old self.new }
     {
         let envelope = read_envelope(sound.bytes(), sound.frame());
         self.desk.tell(Act::Noted {
@@ -123,8 +123,8 @@ impl<'a, H: Hand, M: Hand, K: Screen, V: Sink, C: Sink> Session<'a, H, M, K, V, 
             → HasFieldsIn sound.now.bytes sound.now.frame fields → read_of fields ≡ Err fault.now }
         requires ready { IsReady self.old }
         ensures continues { Continues H.SameOrigin M.SameOrigin self.old self.new frame_acts }
-        ensures taken { IsOk result → HasTaken K.meaning sound.now self.old self.new }
-        ensures failed { result ≡ Err PortFault.Failed → SinkFailed self.old self.new }
+        ensures taken { TakesFront K.meaning sound.now (IsOk result)
+            (IsErrOf result PortFault.Failed) self.old self.new }
     {
         if is_request(kind_of(type_text(sound.bytes(), sound.frame()))) {
             self.refuse_faulty(sound, fault)

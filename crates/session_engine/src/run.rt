@@ -1,5 +1,5 @@
 //! A session from its first frame to its end.
-ghost use Rattle.std.specs.Prelude.{◌≡◌, ◌≢◌, ◌^◌, ◌≤◌, ◌<◌, [], ◌∷◌, ◌++◌, ◌⊎◌, IsTrue};
+ghost use Rattle.std.specs.Prelude.{◌≡◌, ◌^◌, ◌≤◌, ◌<◌, [], ◌∷◌, ◌++◌, ◌⊎◌, IsTrue};
 ghost use Rattle.std.specs.Prelude.{length, map, vec_capacity};
 ghost use Rattle.frame_run.specs.Sinks.{sink_of};
 ghost use Rattle.gate_ports.specs.Faults.{Rose};
@@ -10,8 +10,7 @@ ghost use Rattle.order_desk.specs.Values.{first_book};
 ghost use Rattle.session_engine.specs.Counted.{no_counts};
 ghost use Rattle.session_engine.specs.Done.{IsBeginning, IsHandDone, IsSourceDone, AreSinksDone};
 ghost use Rattle.session_engine.specs.Done.{EndsInFew};
-ghost use Rattle.session_engine.specs.Follows.{IsByInput, FollowsSource, FetchesInput, EndsAs};
-ghost use Rattle.session_engine.specs.Follows.{EndsWith};
+ghost use Rattle.session_engine.specs.Follows.{Follows, FetchesInput, EndsAs};
 ghost use Rattle.session_engine.specs.Session.{armed_for, unnamed_client};
 
 use crate::counts::Counts;
@@ -139,10 +138,13 @@ fn run_start<'a, H: Hand, M: Hand, K: Screen, S: Source, V: Sink, C: Sink, G: Ga
         (calls_below (halt_tree start.entry.limits.now) result.acts.items) }
     ensures halt { IsHandDone M.SameOrigin M.meaning start.entry.hands.halt result.hands.halt
         (calls_at (halt_tree start.entry.limits.now) result.acts.items) }
-    ensures follows { IsByInput result.end → FollowsSource start.entry.limits.now
+    ensures follows { Follows start.entry.limits.now
         (armed_for start.entry.limits.now (map K.meaning screens.items)) (S.left source)
-        result.acts.items result.end (V.held start.entry.venue) (V.held result.venue)
-        (C.held start.entry.client) (C.held result.client) }
+        (S.left result.source) result.acts.items result.end
+        (sink_of V.held V.faults V.name start.entry.venue)
+        (sink_of V.held V.faults V.name result.venue)
+        (sink_of C.held C.faults C.name start.entry.client)
+        (sink_of C.held C.faults C.name result.client) }
     ensures source { IsSourceDone S.left S.faults S.name S.is_ended source result.source result.end }
     ensures sinks { AreSinksDone V.faults V.name C.faults C.name start.entry.venue result.venue
         start.entry.client result.client result.end }
@@ -217,10 +219,11 @@ pub fn run_session<H: Hand, M: Hand, S: Source, V: Sink, C: Sink, G: Gate>(
         ≡ calls_below (halt_tree limits.now) result.acts.items }
     ensures halt_calls { (M.meaning result.hands.halt).calls
         ≡ calls_at (halt_tree limits.now) result.acts.items }
-    ensures follows { IsByInput result.end → FollowsSource limits.now
+    ensures follows { Follows limits.now
         (armed_for limits.now (map (λ b. (Screen-box b).meaning b.value) screens.items))
-        (S.left source) result.acts.items result.end (V.held venue) (V.held result.venue)
-        (C.held client) (C.held result.client) }
+        (S.left source) (S.left result.source) result.acts.items result.end
+        (sink_of V.held V.faults V.name venue) (sink_of V.held V.faults V.name result.venue)
+        (sink_of C.held C.faults C.name client) (sink_of C.held C.faults C.name result.client) }
     ensures fetched { FetchesInput (S.left source) (S.left result.source) result.end }
     ensures read_fault { result.end ≡ End.ReadFault
         → Rose (S.faults source) (S.faults result.source) }
@@ -235,7 +238,6 @@ pub fn run_session<H: Hand, M: Hand, S: Source, V: Sink, C: Sink, G: Gate>(
     ensures client_name { C.name result.client ≡ C.name client }
     ensures whole { result.end ≡ End.Whole → IsTrue (S.is_ended result.source) }
     ensures ends { EndsAs result.acts.items result.end }
-    ensures told { result.end ≢ End.Memory → EndsWith result.acts.items result.end }
     ensures no_room { result.acts.items ≡ [] → vec_capacity result.acts ≡ 0 }
     ensures few { length result.acts.items < 2 ^ 32 }
 {

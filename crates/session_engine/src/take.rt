@@ -1,7 +1,7 @@
 //! Taking a sound frame: it is read, and what it says is decided on, applied or noted.
-ghost use Rattle.std.specs.Prelude.{◌≡◌, Err, IsOk};
+ghost use Rattle.std.specs.Prelude.{IsOk, IsErrOf};
 ghost use Rattle.fix_orders.specs.declared.message.Message.TheVariants as Message;
-ghost use Rattle.session_engine.specs.Running.{Continues, HasTaken, SinkFailed, IsReady, frame_acts};
+ghost use Rattle.session_engine.specs.Running.{Continues, TakesFront, IsReady, frame_acts};
 ghost use Rattle.session_engine.specs.Taken.{ReadsAs};
 
 use crate::answer::{forward, give_written};
@@ -30,8 +30,8 @@ impl<'a, H: Hand, M: Hand, K: Screen, V: Sink, C: Sink> Session<'a, H, M, K, V, 
         requires read { ReadsAs sound.now (Message.New order.now) }
         requires ready { IsReady self.old }
         ensures continues { Continues H.SameOrigin M.SameOrigin self.old self.new frame_acts }
-        ensures taken { IsOk result → HasTaken K.meaning sound.now self.old self.new }
-        ensures failed { result ≡ Err PortFault.Failed → SinkFailed self.old self.new }
+        ensures taken { TakesFront K.meaning sound.now (IsOk result)
+            (IsErrOf result PortFault.Failed) self.old self.new }
     {
         self.desk.is_covered();
         let refusal = decide_new(&mut self.desk, order);
@@ -59,8 +59,8 @@ impl<'a, H: Hand, M: Hand, K: Screen, V: Sink, C: Sink> Session<'a, H, M, K, V, 
         requires read { ReadsAs sound.now (Message.Cancel cancel.now) }
         requires ready { IsReady self.old }
         ensures continues { Continues H.SameOrigin M.SameOrigin self.old self.new frame_acts }
-        ensures taken { IsOk result → HasTaken K.meaning sound.now self.old self.new }
-        ensures failed { result ≡ Err PortFault.Failed → SinkFailed self.old self.new }
+        ensures taken { TakesFront K.meaning sound.now (IsOk result)
+            (IsErrOf result PortFault.Failed) self.old self.new }
     {
         let refusal = decide_cancel(&mut self.desk, cancel);
         let stamp = self.tell_answer(&cancel.head, refusal);
@@ -91,8 +91,8 @@ impl<'a, H: Hand, M: Hand, K: Screen, V: Sink, C: Sink> Session<'a, H, M, K, V, 
         requires read { ReadsAs sound.now (Message.Replace replace.now) }
         requires ready { IsReady self.old }
         ensures continues { Continues H.SameOrigin M.SameOrigin self.old self.new frame_acts }
-        ensures taken { IsOk result → HasTaken K.meaning sound.now self.old self.new }
-        ensures failed { result ≡ Err PortFault.Failed → SinkFailed self.old self.new }
+        ensures taken { TakesFront K.meaning sound.now (IsOk result)
+            (IsErrOf result PortFault.Failed) self.old self.new }
     {
         self.desk.is_covered();
         let refusal = decide_replace(&mut self.desk, replace);
@@ -120,8 +120,8 @@ impl<'a, H: Hand, M: Hand, K: Screen, V: Sink, C: Sink> Session<'a, H, M, K, V, 
         requires read { ReadsAs sound.now (Message.Report report.now) }
         requires ready { IsReady self.old }
         ensures continues { Continues H.SameOrigin M.SameOrigin self.old self.new frame_acts }
-        ensures taken { IsOk result → HasTaken K.meaning sound.now self.old self.new }
-        ensures failed { result ≡ Err PortFault.Failed → SinkFailed self.old self.new }
+        ensures taken { TakesFront K.meaning sound.now (IsOk result)
+            (IsErrOf result PortFault.Failed) self.old self.new }
     {
         let effect = settle_report(&mut self.desk, report);
         let stamp = self.tell_effect(&report.head, effect);
@@ -137,8 +137,8 @@ impl<'a, H: Hand, M: Hand, K: Screen, V: Sink, C: Sink> Session<'a, H, M, K, V, 
         requires read { ReadsAs sound.now (Message.CancelReject reject.now) }
         requires ready { IsReady self.old }
         ensures continues { Continues H.SameOrigin M.SameOrigin self.old self.new frame_acts }
-        ensures taken { IsOk result → HasTaken K.meaning sound.now self.old self.new }
-        ensures failed { result ≡ Err PortFault.Failed → SinkFailed self.old self.new }
+        ensures taken { TakesFront K.meaning sound.now (IsOk result)
+            (IsErrOf result PortFault.Failed) self.old self.new }
     {
         let effect = settle_reject(&mut self.desk, reject);
         let stamp = self.tell_effect(&reject.head, effect);
@@ -149,8 +149,8 @@ impl<'a, H: Hand, M: Hand, K: Screen, V: Sink, C: Sink> Session<'a, H, M, K, V, 
     pub(crate) fn take_sound(&mut self, sound: &SoundFrame<'_>) -> Result<(), PortFault>
         requires ready { IsReady self.old }
         ensures continues { Continues H.SameOrigin M.SameOrigin self.old self.new frame_acts }
-        ensures taken { IsOk result → HasTaken K.meaning sound.now self.old self.new }
-        ensures failed { result ≡ Err PortFault.Failed → SinkFailed self.old self.new }
+        ensures taken { TakesFront K.meaning sound.now (IsOk result)
+            (IsErrOf result PortFault.Failed) self.old self.new }
     {
         match read_message(sound.bytes(), sound.frame()) {
             Err(fault) => self.take_faulty(sound, &fault),

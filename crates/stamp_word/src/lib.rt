@@ -21,6 +21,3 @@ pub use shape::Shape;
 pub use step::{exchange_if, load, store};
 pub use steps::{Steps, count_steps};
 pub use word::{each_word_is_one_pair, pack, stamp_of, value_of};
-
-#[cfg(test)]
-mod tests;

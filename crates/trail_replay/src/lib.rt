@@ -31,6 +31,3 @@ pub use laws::{
 };
 pub use prepared::{Prepared, replay, replay_of};
 pub use walk::Walk;
-
-#[cfg(test)]
-mod tests;

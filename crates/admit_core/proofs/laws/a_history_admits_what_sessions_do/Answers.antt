@@ -1,5 +1,5 @@
 -- In a legal history what is admitted is what the sessions' own events admit.
-use Rattle.admit_core.proofs.OwnStandings.{admits_own}
+use Rattle.admit_core.proofs.OwnAdmits.{admits_own}
 use Rattle.admit_core.proofs.laws.a_history_admits_what_sessions_do.Goals as goal
 
 pub returns : goal.returns

@@ -1,7 +1,7 @@
-use Rattle.std.proofs.Common.{◌≡◌, ◌+◌, ◌∙◌, arith, ap, length, true, subst, sym, List, ℕ}
+use Rattle.std.proofs.Common.{◌≡◌, ◌+◌, ◌∙◌, arith, ap, length, true, subst, sym, refl, List, ℕ}
 use Rattle.fix_fields.specs.Found.{Finds}
 use Rattle.frame_run.specs.Ends.{input_most}
-use Rattle.frame_run.proofs.Fetches.{more_next, more_fetched, looks_within, looks_past}
+use Rattle.frame_run.proofs.Fetches.{more_next, more_fetched, looks_within, looks_past, fails_ahead}
 use Rattle.frame_run.proofs.Fetches.{held_same}
 use Rattle.frame_run.proofs.ahead.look_ahead.Goals as goal
 
@@ -64,3 +64,19 @@ loop-next-preserved g c =
       later = omega (arith, c.loop-next.invariant.later, c.in_ok-fetch_into.ensures.cause.later);
       name = c.in_ok-fetch_into.ensures.name ∙ c.loop-next.invariant.name;
     }
+
+-- a read failed
+pub returns-in_err-goes_on-clause-fails : goal.returns-in_err-goes_on-clause-fails
+returns-in_err-goes_on-clause-fails g c = λ err.
+    let m = more_next _ _ _ _ _ _ c.loop-next.invariant.more c.next-next.ensures in
+    fails_ahead _ _ _ _ _ c.next-next.new.self c.next-next.result m
+    (c.in_err-goes_on.ensures.none refl) c.next-next.ensures.finds
+    (c.may_change.ensures.0 c.if-not-may_change.false) refl refl
+
+pub returns-in_err-fetch_into-clause-fails : goal.returns-in_err-fetch_into-clause-fails
+returns-in_err-fetch_into-clause-fails g c = λ err.
+    let m = more_next _ _ _ _ _ _ c.loop-next.invariant.more c.next-next.ensures in
+    let same = c.in_err-fetch_into.ensures.held refl in
+    fails_ahead _ _ _ _ _ c.fetch_into.new.buffer c.next-next.result m
+    (c.in_err-fetch_into.ensures.none refl) c.next-next.ensures.finds
+    (c.may_change.ensures.0 c.if-not-may_change.false) same.0 same.1

@@ -2,10 +2,11 @@
 use Rattle.std.proofs.Common.{◌≡◌, ◌+◌, ◌∙◌, arith, ap, subst, refl}
 use Rattle.std.specs.Result.{is_ok}
 use Rattle.frame_run.specs.Ends.{EndsBy}
-use Rattle.frame_run.proofs.Endings.{no_read_fault, no_write_fault, whole_is_open}
+use Rattle.frame_run.proofs.Endings.{no_read_fault, said_by_input, whole_is_open}
 use Rattle.frame_run.proofs.Endings.{broken_is_behind, refused_not_broken}
 use Rattle.frame_run.proofs.Streaming.{streams_none, streams_on, comes_to, takes_come}
-use Rattle.frame_run.proofs.Streaming.{fetches_come, fetches_few, under_way, frame_ends_within}
+use Rattle.frame_run.proofs.Streaming.{fetches_come, fetches_short, under_way, frame_ends_within}
+use Rattle.frame_run.proofs.Streaming.{stops_at, stops_reading, stops_by_input}
 use Rattle.fix_fields.specs.FrameBuffers.{BufferValue}
 use Rattle.fix_fields.specs.Windows.{moved}
 use Rattle.frame_run.proofs.taking.take_frames.Goals as goal
@@ -30,7 +31,12 @@ take_frame-requires-clause-ready g c =
 -- a fetch failed
 pub returns-in_default-clause-fetched : goal.returns-in_default-clause-fetched
 returns-in_default-clause-fetched g c =
-    fetches_few _ _ _ _ _ _ _ c.loop-ahead.invariant.streams (c.in_default.ensures.none refl)
+    fetches_short _ _ _ _ _
+    (stops_reading _ _ _ _ _ _ _ _ c.loop-ahead.invariant.streams (c.in_default.ensures.fails refl))
+
+pub returns-in_default-clause-stopped : goal.returns-in_default-clause-stopped
+returns-in_default-clause-stopped g c =
+    stops_reading _ _ _ _ _ _ _ _ c.loop-ahead.invariant.streams (c.in_default.ensures.fails refl)
 
 -- what stands next is no frame
 pub returns-in_default-next : goal.returns-in_default-next
@@ -46,11 +52,12 @@ returns-in_default-next g c =
     record {
       follows = λ by_input.
           takes_come _ _ _ _ _ _ _ _ _ ahead c.end_after.result look come end_is;
+      stopped = stops_by_input _ g.T.TakesFrames.Stopped _ _ _ _ c.end_after.result
+          (said_by_input ahead.goes_on _ c.end_after.result end_is);
       after = (own.count, omega (arith, own.few, own.streams.few), own.after);
       fetched = fetches_come _ _ _ _ _ _ _ _ _ ahead own.streams look c.end_after.result
           (λ place is. broken_is_behind ahead.goes_on _ ahead.next _ place end_is is);
       read_fault = λ is. absurd (no_read_fault _ _ _ end_is is);
-      write_fault = λ is. absurd (no_write_fault _ _ _ end_is is);
       whole = λ is.
           let w = whole_is_open ahead.goes_on _ ahead.next _ end_is is in
           (look.whole w.0 w.1).0;
@@ -86,6 +93,12 @@ returns-in-Err-clause-fetched g c =
     c.end_by.result
     (λ place is.
     absurd (refused_not_broken c.in-Err.fault c.end_by.result place c.end_by.ensures is))
+
+pub returns-in-Err-clause-stopped : goal.returns-in-Err-clause-stopped
+returns-in-Err-clause-stopped g c = rw c.end_by.ensures
+    (stops_at _ _ _ _ _ _ _ _ _ c.in-Ok.ahead c.loop-ahead.invariant.streams c.in-Ok.ensures.ok
+    g.T.TakesFrames.Stopped c.in-Err.fault c.in-Frame.frame c.bytes.result.now _ c.in-Frame.is
+    c.bytes.ensures.held c.in-Err.ensures.stopped)
 
 pub returns-in-Err-clause-after : goal.returns-in-Err-clause-after
 returns-in-Err-clause-after g c =

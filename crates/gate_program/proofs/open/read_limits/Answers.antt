@@ -1,8 +1,8 @@
 -- What was read of the limit file decides about all of it.
 use Rattle.std.proofs.Common.{List, ℕ, subst, arith}
+use Rattle.limit_table.specs.Files.{IsLimitFile}
 use Rattle.limit_table.specs.declared.limits.Limits.{Limits}
 use Rattle.gate_program.specs.declared.status.Status.{Status}
-use Rattle.gate_program.specs.Limits.{AreLimits}
 use Rattle.gate_program.specs.Run.{PortsValue}
 use Rattle.gate_program.specs.Stages.{folder_of, GivesNoLimits, HasLimitsFault}
 use Rattle.gate_program.specs.Gate.{HasLimits}
@@ -13,11 +13,11 @@ pub returns-clause-ok : goal.returns-clause-ok
 returns-clause-ok g c =
     let text = c.deref.result.now in
     let told = g.D.Folder.texts c.args.folder.now in
-    if_ok (λ (l : Limits). AreLimits text l)
+    if_ok (λ (l : Limits). IsLimitFile text l)
     (λ (l : Limits). HasLimits told c.args.name.now l) c.limits_from.result
     (λ l are. has_limits c.args.name.now _ (omega arith) told c.in-Ok.bytes.items l
     c.in-Ok.ensures.ok
-    (subst (λ (t : List ℕ). AreLimits t l) c.deref.ensures.value are))
+    (subst (λ (t : List ℕ). IsLimitFile t l) c.deref.ensures.value are))
     c.limits_from.ensures.ok
 
 pub returns-clause-err : goal.returns-clause-err

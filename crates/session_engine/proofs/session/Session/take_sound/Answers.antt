@@ -8,6 +8,7 @@ use Rattle.session_engine.specs.Running.{kept_of}
 use Rattle.session_engine.specs.Taken.{Kept}
 use Rattle.session_engine.proofs.MessageFacts.{admin_is_no_request, other_is_no_request}
 use Rattle.session_engine.proofs.PassedFrames.{takes_admin, takes_other}
+use Rattle.session_engine.proofs.Giving.{takes_all}
 use Rattle.session_engine.proofs.session.Session.take_sound.Goals as goal
 
 pub take_faulty-requires-clause-read : goal.take_faulty-requires-clause-read
@@ -57,7 +58,7 @@ take_cancel_reject-requires-clause-read g c = record {
 
 pub returns-in-Ok-Admin-clause-taken : goal.returns-in-Ok-Admin-clause-taken
 returns-in-Ok-Admin-clause-taken g c =
-    rw (← c.self.view_is) (λ taken fields has session own.
+    rw (← c.self.view_is) (takes_all g.K.Screen.meaning _ _ _ _ _ (λ fields has session own.
     let read : read_of fields ≡ Ok message.Admin = sym (c.read_message.ensures fields
     (rw (c.bytes.ensures.bytes, c.frame.ensures.frame) has)) ∙ c.in-Ok-Admin.is
     ∙ ap (λ (m : Message). Ok m) c.in-Ok-Admin.field-0-is in
@@ -69,10 +70,10 @@ returns-in-Ok-Admin-clause-taken g c =
       client_id = refl;
       venue = refl;
       client = refl;
-    }) refl)
+    }) refl) refl (λ failed. cc))
 
 pub returns-in-Ok-Other-clause-taken : goal.returns-in-Ok-Other-clause-taken
-returns-in-Ok-Other-clause-taken g c = λ taken fields has session own.
+returns-in-Ok-Other-clause-taken g c = takes_all g.K.Screen.meaning _ _ _ _ _ (λ fields has session own.
     let read : read_of fields ≡ Ok message.Other = sym (c.read_message.ensures fields
     (rw (c.bytes.ensures.bytes, c.frame.ensures.frame) has)) ∙ c.in-Ok-Other.is
     ∙ ap (λ (m : Message). Ok m) c.in-Ok-Other.field-0-is in
@@ -86,4 +87,5 @@ returns-in-Ok-Other-clause-taken g c = λ taken fields has session own.
       client_id = ap (λ (k : Kept). k.client_id) noted;
       venue = ap (λ (k : Kept). k.venue) noted;
       client = ap (λ (k : Kept). k.client) noted;
-    }) (ap (λ (k : Kept). k.acts) noted)
+    }) (ap (λ (k : Kept). k.acts) noted)) (ap (λ (k : Kept). k.venue) c.note_frame.ensures.noted)
+    (λ failed. cc)

@@ -1,0 +1,4 @@
+pub mod LevelBounds
+pub mod Apart
+pub mod Clearing
+pub mod OwnAdmits

@@ -1,5 +1,0 @@
-use Rattle.f_array.specs.Passes.{IsSamePass}
-use Rattle.f_array.proofs.fold_tests.post_often.Given as goal
-
-abbrev pub invariant-loop-round : goal.invariant-loop-round
-invariant-loop-round l = IsSamePass l.fn.pass l.pass

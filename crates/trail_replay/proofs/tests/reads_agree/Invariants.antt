@@ -1,8 +1,0 @@
-use Rattle.std.proofs.Common.{◌≡◌}
-use Rattle.trail_replay.proofs.tests.reads_agree.Given as goal
-
-abbrev pub invariant-loop-call : goal.invariant-loop-call
-invariant-loop-call l = record {
-  lines : l.walk.lines ≡ l.history.lines.items;
-  place : l.walk.place ≡ l.last;
-}

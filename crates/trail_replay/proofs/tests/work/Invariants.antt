@@ -1,4 +1,0 @@
-use Rattle.trail_replay.proofs.tests.work.Given as goal
-
-abbrev pub ghosts-work_counted : goal.ghosts-work_counted
-ghosts-work_counted a = record { name = a.blank.name; parts = a.blank.parts }

@@ -1,0 +1,36 @@
+//! What no clause says: each call once at worked numbers, and that the law's call returns.
+use stamp_word::{Shape, each_word_is_one_pair, pack, stamp_of, value_of};
+use std::test::*;
+
+#[test]
+fn words_have_worked_numbers(rt: HostRuntime) -> Result<(), Fail> {
+    const WORDS: [(&str, u32, u64, u64); 3] = [
+        ("nothing", 0, 0, 0),
+        ("the first stamp", 1, 1000, 1_099_511_628_776),
+        (
+            "both at their ends",
+            16_777_215,
+            1_099_511_627_775,
+            u64::MAX,
+        ),
+    ];
+    for (name, stamp, value, word) in WORDS {
+        assert_eq!(rt; pack(stamp, value), word, "{name}");
+        assert_eq!(rt; stamp_of(word), stamp, "{name}");
+        assert_eq!(rt; value_of(word), value, "{name}");
+        each_word_is_one_pair(word);
+    }
+    Ok(())
+}
+
+#[test]
+fn shapes_have_worked_places(rt: HostRuntime) -> Result<(), Fail> {
+    let shape = Shape::of(3, 2);
+    assert_eq!(rt; shape.levels, 2, "levels for three sessions");
+    assert_eq!(rt; shape.root(1), 9, "the root of the second tree");
+    assert_eq!(rt; shape.leaf(2), 6, "the leaf of the third session");
+    assert_eq!(rt; shape.path(1, 6), 14, "that leaf's word in the second tree");
+    assert_eq!(rt; shape.left(3), 6, "the left child");
+    assert_eq!(rt; shape.right(3), 7, "the right child");
+    Ok(())
+}
