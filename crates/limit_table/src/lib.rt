@@ -35,3 +35,5 @@ pub use reading::read_limits;
 mod print_tests;
 #[cfg(test)]
 mod tests;
+#[cfg(test)]
+mod version_tests;
