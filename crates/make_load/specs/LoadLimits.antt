@@ -1,5 +1,5 @@
 -- The limits of every load.
-use Rattle.std.specs.Prelude.{ℕ, List, [], ◌∷◌, codes, map, None}
+use Rattle.std.specs.Prelude.{ℕ, List, [], ◌∷◌, codes, map, None, false}
 use Rattle.limit_table.specs.declared.limits.Limits.{Limits}
 use Rattle.limit_table.specs.declared.kind.AccountRow.{AccountRow}
 use Rattle.limit_table.specs.declared.kind.SymbolRow.{SymbolRow}
