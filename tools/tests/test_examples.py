@@ -16,7 +16,7 @@ from tests.places import TOP, InFolder, soh
 from tests.test_reasons import ENDS, FAULTS
 
 EXAMPLES = os.path.join(TOP, "examples")
-ONE_SESSION = ("first", "desk", "day")
+ONE_SESSION = ("first", "desk", "day", "net")
 MESSAGE = re.compile(rb"8=FIX\.4\.4\x01.*?\x0110=[0-9]{3}\x01")
 
 
@@ -79,7 +79,7 @@ class Readmes(InFolder):
                 self.assertIn(read(name, "limits.csv").decode(), blocks(name))
 
     def test_the_messages_of_the_sessions_are_those_of_the_readme(self):
-        for name in ("first", "desk"):
+        for name in ("first", "desk", "net"):
             with self.subTest(name):
                 self.assertIn(
                     "".join(line + "\n" for line in shown(read(name, "session.fix"))), blocks(name)

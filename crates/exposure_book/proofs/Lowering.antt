@@ -17,7 +17,13 @@ use Rattle.exposure_book.specs.Reports.{order_after}
 use Rattle.std.proofs.lemmas.Bool.{and_parts}
 
 pub lowers_itself : (o : Order) → Lowers o o
-lowers_itself o = record { account = refl; symbol = refl; exposure = omega arith }
+lowers_itself o = record {
+  account = refl;
+  symbol = refl;
+  side = refl;
+  filled = omega arith;
+  exposure = omega arith;
+}
 
 -- leaves by a total, a quantity filled and whether the order has ended
 abbrev leaves_by : Bool → ℕ → ℕ → ℕ
@@ -38,6 +44,8 @@ pub lowers_ended : (o : Order) → Lowers o (ended_order o)
 lowers_ended o = record {
   account = refl;
   symbol = refl;
+  side = refl;
+  filled = omega arith;
   exposure = counts_less o.notional 0 (leaves_of o) (max o.price 0) (reserve_of o) (omega arith)
       (omega arith);
 }
@@ -46,6 +54,8 @@ pub lowers_without_pending : (o : Order) → Lowers o (without_pending o)
 lowers_without_pending o = record {
   account = refl;
   symbol = refl;
+  side = refl;
+  filled = omega arith;
   exposure = counts_less o.notional (leaves_by o.ended (max o.total 0) o.filled) (leaves_of o)
       (max o.price 0) (reserve_of o)
       (leaves_by-le o.ended (max o.total 0) (open_total o) o.filled (omega arith)) (omega arith);
@@ -68,6 +78,8 @@ replaced_if : (o : Order) (own : List ℕ) (total price : ℕ) → pending_total
 replaced_if o own total price of_total of_price true = record {
   account = refl;
   symbol = refl;
+  side = refl;
+  filled = omega arith;
   exposure = replaced_counts_less o total price of_total of_price;
 }
 replaced_if o own total price of_total of_price false = lowers_itself o
@@ -117,6 +129,8 @@ lowers_traded : (o : Order) (quantity price : ℕ) → quantity ≤ leaves_of o 
 lowers_traded o quantity price few cheap = record {
   account = refl;
   symbol = refl;
+  side = refl;
+  filled = omega arith;
   exposure = fill_counts_less o.notional quantity price
       (leaves_by o.ended (open_total o) (o.filled + quantity)) (leaves_of o) (reserve_of o)
       (leaves_by-fill o.ended (open_total o) o.filled quantity few) cheap;
@@ -148,6 +162,8 @@ pub lowers_with_cancel : (o : Order) (id : List ℕ)
 lowers_with_cancel o id = record {
   account = refl;
   symbol = refl;
+  side = refl;
+  filled = omega arith;
   exposure = counts_less o.notional (leaves_by o.ended (max o.total 0) o.filled) (leaves_of o)
       (max o.price 0) (reserve_of o)
       (leaves_by-le o.ended (max o.total 0) (open_total o) o.filled (omega arith)) (omega arith);

@@ -1,5 +1,8 @@
 pub mod Pendings
 pub mod Orders
+pub mod Pairs
+pub mod Sums
+pub mod PairTables
 pub mod Books
 pub mod Proposals
 pub mod Commits

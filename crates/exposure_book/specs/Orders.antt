@@ -28,12 +28,23 @@ leaves_of order = if order.ended then 0 else open_total order - order.filled
 abbrev pub is_closed : Order → Bool
 is_closed order = leaves_of order == 0
 
--- exposure in ten-thousandths, exact: what was filled, and the leaves at the reserve price
-abbrev pub exposure_of : Order → ℕ
-exposure_of order = order.notional + leaves_of order * reserve_of order
+-- the reserve in ten-thousandths, exact: the leaves at the reserve price
+abbrev pub left_of : Order → ℕ
+left_of order = leaves_of order * reserve_of order
 
--- the order keeps its account and symbol, and counts for no more than before
+-- exposure in ten-thousandths, exact: what was filled, and the reserve
+abbrev pub exposure_of : Order → ℕ
+exposure_of order = order.notional + left_of order
+
+-- the order is a buy: every other side is a sell
+abbrev pub is_buy : Order → Bool
+is_buy order = order.side == BUY
+
+-- the order keeps its account, symbol and side, nothing of what was filled is taken back, and it
+-- counts for no more than before
 pub record Lowers (old new : Order) : Type 0 where
   pub account : new.account ≡ old.account
   pub symbol : new.symbol ≡ old.symbol
+  pub side : new.side ≡ old.side
+  pub filled : old.notional ≤ new.notional
   pub exposure : exposure_of new ≤ exposure_of old

@@ -18,7 +18,7 @@ use Rattle.exposure_book.specs.declared.order.Order.{Order}
 use Rattle.exposure_book.specs.declared.pending.Pending.TheVariants as pending
 use Rattle.exposure_book.specs.Pendings.{is_same_id, is_pending}
 use Rattle.exposure_book.specs.Orders.{reserve_price, is_closed}
-use Rattle.exposure_book.specs.Books.{BookValue, place_of, proposal_of}
+use Rattle.exposure_book.specs.Books.{BookValue, place_of, proposal_of, with_orders}
 
 -- each value is at most what a leaf may hold
 abbrev pub is_within_cap : Proposal → Bool
@@ -52,8 +52,8 @@ is_known book id = is_some (place_of id book.ids)
 abbrev pub proposal_of_new : BookValue → NewOrder → ℕ → ℕ → ℕ → Result Proposal BookFault
 proposal_of_new book asked account symbol high =
     if is_known book asked.id then Err fault.Duplicate
-    else capped
-    (proposal_of (book.orders ++ new_order asked account symbol high ∷ []) account symbol)
+    else capped (proposal_of
+    (with_orders (book.orders ++ new_order asked account symbol high ∷ []) book) account symbol)
 
 -- what stands against a request on this order: Closed, Pending, or Unknown where the id isn't its
 -- current one; else the order's place
@@ -125,7 +125,8 @@ replace_of book request limits place None = Err fault.Unknown
 replace_of book request limits place (Some order) =
     if not (is_of_order request limits order) then Err fault.Mismatch
     else (if nat_le request.quantity order.filled then Err fault.Quantity
-    else capped (proposal_of (slice_set book.orders place (with_replace request limits order))
+    else capped (proposal_of
+    (with_orders (slice_set book.orders place (with_replace request limits order)) book)
     order.account order.symbol))
 
 -- the faults that a replace shares with a cancel come first

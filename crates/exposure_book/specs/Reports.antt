@@ -15,7 +15,7 @@ use Rattle.exposure_book.specs.declared.pending.Pending.TheVariants as pending
 use Rattle.exposure_book.specs.Pendings.{is_same_id, has_id_pending}
 use Rattle.exposure_book.specs.Orders.{leaves_of, reserve_of}
 use Rattle.exposure_book.specs.Books.{BookValue, place_of, order_with, terms_of, units_up, firm_sum}
-use Rattle.exposure_book.specs.Books.{account_sum, symbol_sum}
+use Rattle.exposure_book.specs.Books.{account_sum, symbol_sum, with_orders}
 
 -- the order has ended: nothing of it is left, and no request is pending
 abbrev pub ended_order : Order → Order
@@ -81,7 +81,7 @@ abbrev pub outcome_with : BookValue → ℕ → Option Order → Outcome
 outcome_with book place None = unchanged applied.Over book
 outcome_with book place (Some order) =
     let orders = slice_set book.orders place order in
-    record { answer = applied.Applied (terms_of orders order); orders = orders }
+    record { answer = applied.Applied (terms_of (with_orders orders book) order); orders = orders }
 
 -- the outcome of a report with this id on the order at its place
 abbrev pub outcome_at : BookValue → List ℕ → Exec → ℕ → Option Order → Outcome
@@ -120,11 +120,13 @@ abbrev pub outcome_of_reject : BookValue → CancelReject → Outcome
 outcome_of_reject book reject =
     outcome_of_reject_by book reject.id (place_of reject.id book.ids)
 
--- the value of no tree is larger
-pub record RaisesNothing (old new : List Order) : Type 0 where
-  pub firm : units_up (firm_sum new) ≤ units_up (firm_sum old)
-  pub accounts : (a : ℕ) → units_up (account_sum a new) ≤ units_up (account_sum a old)
-  pub symbols : (s : ℕ) → units_up (symbol_sum s new) ≤ units_up (symbol_sum s old)
+-- the value of no tree of the book is larger with these orders
+pub record RaisesNothing (book : BookValue) (orders : List Order) : Type 0 where
+  pub firm : units_up (firm_sum (with_orders orders book)) ≤ units_up (firm_sum book)
+  pub accounts : (a : ℕ)
+      → units_up (account_sum a (with_orders orders book)) ≤ units_up (account_sum a book)
+  pub symbols : (s : ℕ)
+      → units_up (symbol_sum s (with_orders orders book)) ≤ units_up (symbol_sum s book)
 
 -- the order that has the id of a report
 abbrev pub reported_order : BookValue → Option (List ℕ) → Option Order

@@ -1,48 +1,55 @@
 -- Running totals beside the orders: each is the sum from scratch.
-use Rattle.std.specs.Prelude.{◌≡◌, ℕ, ◌*◌, ◌≤◌, ◌<◌, List, length, All, Some}
+use Rattle.std.specs.Prelude.{◌≡◌, ℕ, ◌+◌, ◌*◌, ◌≤◌, ◌<◌, ◌^◌, List, length, All, Some, sum_by}
 use Rattle.std.specs.Prelude.{slice_get}
-use Rattle.std.specs.Prelude.{slice_index}
 use Rattle.fold_law.specs.declared.limits.TheConstants.{LEAF}
 use Rattle.exposure_book.specs.declared.order.Order.{Order}
 use Rattle.exposure_book.specs.declared.price.TheConstants.{UNIT}
 use Rattle.exposure_book.specs.Orders.{exposure_of}
-use Rattle.exposure_book.specs.Books.{BookValue, firm_sum, account_sum, symbol_sum}
+use Rattle.exposure_book.specs.Pairs.{pair_of}
+use Rattle.exposure_book.specs.PairTables.{TableValue, pair_at, in_firm, most_exposure}
+use Rattle.exposure_book.specs.Books.{BookValue, firm_sum}
 
--- the most exposure of a session, in ten-thousandths: what a leaf may hold
-abbrev pub most_exposure : ℕ
-most_exposure = LEAF * UNIT
+-- the largest reserve of an order whose values a leaf can hold: what was sold in its pair is at most a
+-- leaf's more than what was bought, and the other way round
+abbrev pub most_left : ℕ
+most_left = 2 * most_exposure
 
 -- the account and the symbol of an order are among so many
 pub record IsPlaced (accounts symbols : ℕ) (order : Order) : Type 0 where
   pub account : order.account < accounts
   pub symbol : order.symbol < symbols
 
--- the totals of the firm, of each account and of each symbol are the sums over the orders, which a
--- leaf can hold; each order has its account and its symbol, and each id its order
-pub record AreKept (orders : List Order) (ids : List (List ℕ × ℕ)) (total : ℕ)
-    (by_account by_symbol : List ℕ) : Type 0 where
-  pub firm : total ≡ firm_sum orders
-  pub accounts : (a : ℕ) → a < length by_account → slice_index by_account a ≡ account_sum a orders
-  pub symbols : (s : ℕ) → s < length by_symbol → slice_index by_symbol s ≡ symbol_sum s orders
-  pub capped : firm_sum orders ≤ most_exposure
-  pub placed : All (IsPlaced (length by_account) (length by_symbol)) orders
+-- each of so many ids added at most the largest reserve to what all orders count for
+abbrev pub IsHeld : List Order → ℕ → Type 0
+IsHeld orders ids = sum_by exposure_of orders ≤ most_left * ids
+
+-- the table is of whole rows and has the sums of each pair, and each order has its account and symbol
+pub record HasPairs (orders : List Order) (table : TableValue) : Type 0 where
+  pub shape : length table.pairs ≡ length table.nets * table.symbols
+  pub pairs : (account symbol : ℕ) → account < length table.nets → symbol < table.symbols
+      → pair_at table account symbol ≡ pair_of account symbol orders
+  pub placed : All (IsPlaced (length table.nets) table.symbols) orders
+
+-- the table has the sums of each pair, a leaf can hold the exposure of all, and each id has its order;
+-- each id that was committed added at most the largest reserve to what all orders count for
+pub record AreKept (orders : List Order) (ids : List (List ℕ × ℕ)) (table : TableValue)
+    : Type 0 where
+  pub has : HasPairs orders table
+  pub capped : in_firm table ≤ most_exposure
+  pub held : IsHeld orders (length ids)
+  pub few : length ids < 2 ^ 63
   pub named : All (λ entry. entry.1 < length orders) ids
 
 -- this is the order of the book at this place
 pub record IsOrderAt (book : BookValue) (place : ℕ) (order : Order) : Type 0 where
   pub found : slice_get book.orders place ≡ Some order
   pub placed : IsPlaced book.accounts book.symbols order
-  pub capped : exposure_of order ≤ most_exposure
-  pub whole : firm_sum book.orders ≤ most_exposure
+  pub fits : exposure_of order < 2 ^ 120
+  pub whole : firm_sum book ≤ most_exposure
 
--- the order can take the place of the one that stands there: it is of its account and symbol
-pub record Replaces (orders : List Order) (place : ℕ) (next : Order) : Type 0 where
-  pub before : Order
-  pub found : slice_get orders place ≡ Some before
-  pub account : next.account ≡ before.account
-  pub symbol : next.symbol ≡ before.symbol
-
--- an amount is part of a total that a leaf can hold
-pub record IsPartOf (total part : ℕ) : Type 0 where
-  pub within : part ≤ total
-  pub capped : total ≤ most_exposure
+-- the order has other terms: it keeps its account, symbol and side, and what was filled
+pub record Asks (old next : Order) : Type 0 where
+  pub account : next.account ≡ old.account
+  pub symbol : next.symbol ≡ old.symbol
+  pub side : next.side ≡ old.side
+  pub filled : next.notional ≡ old.notional

@@ -1,38 +1,45 @@
-//! The book: the orders, their ids, and running totals beside them.
-ghost use Rattle.std.specs.Prelude.{◌≡◌, ◌+◌, ◌-◌, ◌≤◌, ◌<◌, ◌^◌, ◌++◌, [], ◌∷◌, length, IfOk};
-ghost use Rattle.std.specs.Prelude.{OnOk, IfSome, slice_set, true};
-ghost use Rattle.std.specs.Prelude.{None, replicate};
-ghost use Rattle.exposure_book.specs.Books.{empty_book, place_of, order_with, pair_of_order};
-ghost use Rattle.exposure_book.specs.Books.{terms_of, proposal_of, units_up, firm_sum};
+//! The book: the orders, their ids, and the sums of their pairs beside them.
+ghost use Rattle.std.specs.Prelude.{◌≡◌, ◌+◌, ◌≤◌, ◌<◌, ◌^◌, ◌++◌, [], ◌∷◌, length, IfOk};
+ghost use Rattle.std.specs.Prelude.{OnOk, IfSome, slice_set, true, None};
+ghost use Rattle.exposure_book.specs.Orders.{Lowers};
+ghost use Rattle.exposure_book.specs.Books.{empty_book, nets_of, place_of, order_with};
+ghost use Rattle.exposure_book.specs.Books.{pair_of_order, terms_of, proposal_of, units_up};
+ghost use Rattle.exposure_book.specs.Books.{firm_sum, with_orders};
 ghost use Rattle.exposure_book.specs.Proposals.{capped, is_within_cap};
 ghost use Rattle.exposure_book.specs.Commits.{added, named};
-ghost use Rattle.exposure_book.specs.Totals.{IsOrderAt, IsPlaced, Replaces, IsPartOf};
-ghost use Rattle.exposure_book.specs.Totals.{most_exposure};
+ghost use Rattle.exposure_book.specs.PairTables.{most_exposure};
+ghost use Rattle.exposure_book.specs.Totals.{IsOrderAt, IsPlaced, Asks};
 
 use crate::answer::{BookFault, Proposal, Terms3};
 use crate::id_key::IdKey;
 use crate::order::Order;
+use crate::pair_table::{PairTable, TreeSums};
 use crate::price::{UNIT, units};
 use fix_orders::{Id, IdText};
 use fold_law::{LEAF, Memory};
 use indexmap::IndexMap;
+use limit_table::Limits;
 use std::alloc::Global;
 use std::marker::Model;
 
+/// The most exposure of a session, in ten-thousandths: what a leaf may hold.
+const MOST_EXPOSURE: u128 = LEAF as u128 * UNIT;
+
+/// The largest reserve of an order whose values a leaf can hold: what was sold in its pair is at
+/// most a leaf's more than what was bought, and the other way round.
+const MOST_LEFT: u128 = 2 * MOST_EXPOSURE;
+
 /// The orders of one session, oldest first, and every id that was committed. Contracts see them as
-/// lists beside the numbers of accounts and symbols, and apart from that the room for more.
+/// lists beside the numbers of accounts and symbols and which accounts are net, and apart from that
+/// the room for more.
 #[derive(Drop)]
 pub struct Book {
     /// The orders, oldest first.
     orders: Vec<Order>,
     /// The ids, oldest first, each with the place of its order.
     ids: IndexMap<IdKey, usize>,
-    /// The exposure of all orders, in ten-thousandths.
-    firm: u128,
-    /// The exposure of each account.
-    accounts: Vec<u128>,
-    /// The exposure of each symbol.
-    symbols: Vec<u128>,
+    /// The sums of each pair, and the exposure of each tree.
+    table: PairTable,
 }
 
 impl Model for Book {
@@ -46,52 +53,42 @@ impl Model for Book {
 
     ghost view = { λ b. record {
       value = record {
-        accounts = length b.accounts.items;
-        symbols = length b.symbols.items;
+        accounts = length b.table.nets;
+        symbols = b.table.symbols;
+        nets = b.table.nets;
         orders = b.orders.items;
         ids = b.ids.entries;
       };
       room = min (vec_capacity b.orders - vec_len b.orders) (spare b.ids);
     } };
 
-    ghost invariant = { λ b.
-        AreKept b.orders.items b.ids.entries b.firm b.accounts.items b.symbols.items };
+    ghost invariant = { λ b. AreKept b.orders.items b.ids.entries b.table };
 }
 
-/// So many zeros.
-fn zeros(alloc: Global, count: u32) -> Result<Vec<u128>, Memory>
-    ensures { IfOk result (λ totals. totals.items ≡ replicate count 0) }
+/// Of each account, whether it is net.
+fn list_nets(alloc: Global, limits: &Limits) -> Result<Vec<bool>, Memory>
+    ensures { IfOk result (λ nets. nets.items ≡ nets_of limits.now) }
 {
-    match vec![in alloc; 0u128; count as usize] {
-        Ok(totals) => Ok(totals),
+    match limits.accounts().iter().map(|row| row.net).collect(alloc) {
+        Ok(nets) => Ok(nets),
         Err(_) => Err(Memory),
     }
 }
 
-/// The total with one part of it replaced.
-fn moved(total: u128, old: u128, new: u128) -> u128
-    requires part { IsPartOf total old }
-    requires fits { new + 2 ^ 64 < 2 ^ 128 }
-    ensures value { result ≡ total - old + new }
-    ensures fits { result + UNIT < 2 ^ 128 }
-{
-    total - old + new
-}
-
 /// The values of these exposures, unless a leaf can't hold one of them.
-fn capped(firm: u128, account: u128, symbol: u128) -> Result<Proposal, BookFault>
-    requires firm { firm + UNIT < 2 ^ 128 }
-    requires account { account + UNIT < 2 ^ 128 }
-    requires symbol { symbol + UNIT < 2 ^ 128 }
+fn capped(sums: &TreeSums) -> Result<Proposal, BookFault>
+    requires firm { sums.now.firm < 2 ^ 127 }
+    requires account { sums.now.account < 2 ^ 127 }
+    requires symbol { sums.now.symbol < 2 ^ 127 }
     ensures value { result ≡ capped (record {
-      firm = units_up firm;
-      account = units_up account;
-      symbol = units_up symbol;
+      firm = units_up sums.now.firm;
+      account = units_up sums.now.account;
+      symbol = units_up sums.now.symbol;
     }) }
     ensures within { IfOk result (λ values. is_within_cap values ≡ true) }
 {
     let most = u128::from(LEAF);
-    let (firm, account, symbol) = (units(firm), units(account), units(symbol));
+    let (firm, account, symbol) = (units(sums.firm), units(sums.account), units(sums.symbol));
     if firm <= most && account <= most && symbol <= most {
         return Ok(Proposal {
             firm: firm as u64,
@@ -103,18 +100,17 @@ fn capped(firm: u128, account: u128, symbol: u128) -> Result<Proposal, BookFault
 }
 
 impl Book {
-    /// A book with no order, for so many accounts and symbols.
-    pub fn new(alloc: Global, accounts: u32, symbols: u32) -> Result<Book, Memory>
-        ensures { IfOk result (λ book. book.value ≡ empty_book accounts symbols) }
+    /// A book for these limits with no order.
+    pub fn new(alloc: Global, limits: &Limits) -> Result<Book, Memory>
+        ensures { IfOk result (λ book. book.value ≡ empty_book limits.now) }
     {
-        let accounts = zeros(alloc, accounts)?;
-        let symbols = zeros(alloc, symbols)?;
+        limits.stand_in_a_file();
+        let nets = list_nets(alloc, limits)?;
+        let table = PairTable::new(alloc, nets, limits.symbols().len())?;
         Ok(Book {
             orders: Vec::new(alloc),
             ids: IndexMap::new(alloc),
-            firm: 0,
-            accounts,
-            symbols,
+            table,
         })
     }
 
@@ -158,100 +154,108 @@ impl Book {
         self.orders[place]
     }
 
-    /// The values of this order's three trees, were it at this place.
-    pub(crate) fn values_with(&self, place: usize, next: &Order) -> Result<Proposal, BookFault>
-        requires place { Replaces self.now.value.orders place next.now }
-        requires notional { next.now.notional < 2 ^ 63 }
-        ensures value { result ≡ capped (proposal_of
-            (slice_set self.now.value.orders place next.now) next.now.account next.now.symbol) }
+    /// The values of this order's three trees, were it at this place with other terms.
+    pub(crate) fn values_with(
+        &self,
+        place: usize,
+        old: &Order,
+        next: &Order,
+    ) -> Result<Proposal, BookFault>
+        requires order { IsOrderAt self.now.value place old.now }
+        requires asks { Asks old.now next.now }
+        ensures value { result ≡ capped (proposal_of (with_orders
+            (slice_set self.now.value.orders place next.now) self.now.value)
+            next.now.account next.now.symbol) }
         ensures within { IfOk result (λ values. is_within_cap values ≡ true) }
     {
-        let old = self.order(place).exposure();
-        let new = next.exposure();
-        capped(
-            moved(self.firm, old, new),
-            moved(self.accounts[next.account as usize], old, new),
-            moved(self.symbols[next.symbol as usize], old, new),
-        )
+        if next.left() > MOST_LEFT {
+            return Err(BookFault::Cap);
+        }
+        let pair = self.table.changed(old, next);
+        capped(&self.table.sums_with(next.account, next.symbol, &pair))
     }
 
     /// The values of this order's three trees, were it one more.
     pub(crate) fn values_with_one(&self, next: &Order) -> Result<Proposal, BookFault>
         requires placed { IsPlaced self.now.value.accounts self.now.value.symbols next.now }
-        requires notional { next.now.notional < 2 ^ 63 }
-        ensures value { result ≡ capped (proposal_of (self.now.value.orders ++ next.now ∷ [])
+        requires unfilled { next.now.notional ≡ 0 }
+        ensures value { result ≡ capped (proposal_of (with_orders
+            (self.now.value.orders ++ next.now ∷ []) self.now.value)
             next.now.account next.now.symbol) }
         ensures within { IfOk result (λ values. is_within_cap values ≡ true) }
     {
-        let new = next.exposure();
-        capped(
-            moved(self.firm, 0, new),
-            moved(self.accounts[next.account as usize], 0, new),
-            moved(self.symbols[next.symbol as usize], 0, new),
-        )
+        let rest = self.table.pair(next.account, next.symbol);
+        if next.left() > MOST_LEFT {
+            return Err(BookFault::Cap);
+        }
+        let pair = rest.with(next);
+        capped(&self.table.sums_with(next.account, next.symbol, &pair))
     }
 
     /// The values of this order's three trees.
     pub(crate) fn terms(&self, order: &Order) -> Terms3
         requires { IsPlaced self.now.value.accounts self.now.value.symbols order.now }
-        ensures { result ≡ terms_of self.now.value.orders order.now }
+        ensures { result ≡ terms_of self.now.value order.now }
     {
+        let sums = self.table.sums(order.account, order.symbol);
         Terms3 {
             account: order.account,
             symbol: order.symbol,
-            firm_value: units(self.firm) as u64,
-            account_value: units(self.accounts[order.account as usize]) as u64,
-            symbol_value: units(self.symbols[order.symbol as usize]) as u64,
+            firm_value: units(sums.firm) as u64,
+            account_value: units(sums.account) as u64,
+            symbol_value: units(sums.symbol) as u64,
         }
     }
 
-    /// Puts this order in the place of the one that stands there.
-    pub(crate) fn put(&mut self, place: usize, next: &Order)
-        requires place { Replaces self.old.value.orders place next.now }
-        requires capped { firm_sum (slice_set self.old.value.orders place next.now) ≤ most_exposure }
+    /// Puts an order that counts for no more in the place of the one that stands there.
+    pub(crate) fn put(&mut self, place: usize, old: &Order, next: &Order)
+        requires order { IsOrderAt self.old.value place old.now }
+        requires lowers { Lowers old.now next.now }
         ensures orders { self.new.value
-            ≡ record self.old.value { orders = slice_set self.old.value.orders place next.now } }
+            ≡ with_orders (slice_set self.old.value.orders place next.now) self.old.value }
         ensures room { self.new.room ≡ self.old.room }
     {
-        let old = self.order(place).exposure();
-        let new = next.exposure();
-        let account = next.account as usize;
-        let symbol = next.symbol as usize;
-        self.firm = moved(self.firm, old, new);
-        self.accounts[account] = moved(self.accounts[account], old, new);
-        self.symbols[symbol] = moved(self.symbols[symbol], old, new);
+        self.table.change(old, next);
         self.orders[place] = *next;
+    }
+
+    /// Puts this order with other terms in the place of the one that stands there, and adds this id
+    /// as one of its own.
+    pub(crate) fn change(&mut self, place: usize, old: &Order, next: &Order, id: &Id)
+        requires order { IsOrderAt self.old.value place old.now }
+        requires asks { Asks old.now next.now }
+        requires new { place_of id.now self.old.value.ids ≡ None }
+        requires capped { firm_sum (with_orders
+            (slice_set self.old.value.orders place next.now) self.old.value) ≤ most_exposure }
+        requires room { 1 ≤ self.old.room }
+        ensures book { self.new.value ≡ named id.now place
+            (with_orders (slice_set self.old.value.orders place next.now) self.old.value) }
+        ensures room { self.old.room ≤ self.new.room + 1 }
+    {
+        self.table.change(old, next);
+        self.orders[place] = *next;
+        let _known = self.ids.insert(IdKey::new(id), place);
+        let _count = self.ids.len();
     }
 
     /// Adds this order after the others, with its id.
     pub(crate) fn add(&mut self, next: &Order)
         requires new { place_of next.now.current self.old.value.ids ≡ None }
         requires placed { IsPlaced self.old.value.accounts self.old.value.symbols next.now }
-        requires capped { firm_sum (self.old.value.orders ++ next.now ∷ []) ≤ most_exposure }
+        requires capped { firm_sum (with_orders
+            (self.old.value.orders ++ next.now ∷ []) self.old.value) ≤ most_exposure }
+        requires unfilled { next.now.notional ≡ 0 }
         requires room { 1 ≤ self.old.room }
         ensures book { self.new.value ≡ added next.now self.old.value }
         ensures room { self.old.room ≤ self.new.room + 1 }
     {
-        let new = next.exposure();
-        let account = next.account as usize;
-        let symbol = next.symbol as usize;
-        self.firm = moved(self.firm, 0, new);
-        self.accounts[account] = moved(self.accounts[account], 0, new);
-        self.symbols[symbol] = moved(self.symbols[symbol], 0, new);
+        let rest = self.table.pair(next.account, next.symbol);
+        let pair = rest.with(next);
+        self.table.put(next.account, next.symbol, &pair);
         let _known = self
             .ids
             .insert(IdKey::new(&next.current), self.orders.len());
+        let _count = self.ids.len();
         self.orders.push_reserved(*next);
-    }
-
-    /// Adds this id as one of the order at this place.
-    pub(crate) fn name(&mut self, id: &Id, place: usize)
-        requires new { place_of id.now self.old.value.ids ≡ None }
-        requires within { place < length self.old.value.orders }
-        requires room { 1 ≤ self.old.room }
-        ensures book { self.new.value ≡ named id.now place self.old.value }
-        ensures room { self.old.room ≤ self.new.room + 1 }
-    {
-        let _known = self.ids.insert(IdKey::new(id), place);
     }
 }

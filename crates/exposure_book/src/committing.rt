@@ -43,8 +43,7 @@ impl Book {
             },
             ..order
         };
-        self.put(place, &next);
-        self.name(&request.id.owned(), place);
+        self.change(place, &order, &next, &request.id.owned());
     }
 
     /// Makes the replace that was proposed pending on its order.
@@ -61,7 +60,6 @@ impl Book {
         };
         let order = self.order(place);
         let next = with_replace(request, limits, &order);
-        self.put(place, &next);
-        self.name(&request.id.owned(), place);
+        self.change(place, &order, &next, &request.id.owned());
     }
 }

@@ -7,7 +7,7 @@ ghost use Rattle.fix_orders.specs.declared.message.CancelReject.{CancelReject};
 /// No report and no cancel reject raises the value of a tree, whatever the book and the report.
 pub fn no_report_raises_a_value()
     ensures report { (book : BookValue) (report : Report)
-        → RaisesNothing book.orders (outcome_of_report book report).orders }
+        → RaisesNothing book (outcome_of_report book report).orders }
     ensures reject { (book : BookValue) (reject : CancelReject)
-        → RaisesNothing book.orders (outcome_of_reject book reject).orders }
+        → RaisesNothing book (outcome_of_reject book reject).orders }
 {}

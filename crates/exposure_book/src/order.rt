@@ -1,10 +1,12 @@
 //! One order of a book, and what a report makes of it.
 ghost use Rattle.std.specs.Prelude.{◌≡◌, ◌+◌, ◌^◌, ◌<◌, [], IfSome};
-ghost use Rattle.exposure_book.specs.Orders.{leaves_of, reserve_of, exposure_of, is_closed, Lowers};
+ghost use Rattle.exposure_book.specs.Orders.{leaves_of, reserve_of, left_of, exposure_of, is_closed};
+ghost use Rattle.exposure_book.specs.Orders.{is_buy, Lowers};
 ghost use Rattle.exposure_book.specs.Reports.{ended_order, without_request, rejected_order};
 ghost use Rattle.exposure_book.specs.Reports.{replaced_by, order_after, is_covered, traded_order};
 
 use crate::pending::Pending;
+use crate::price::BUY;
 use fix_orders::{Exec, Id};
 
 /// An order of a book. Quantities are whole units, prices ten-thousandths of a currency unit, and
@@ -60,18 +62,23 @@ impl Order {
         self.leaves() == 0
     }
 
-    /// Exposure in ten-thousandths, rounded nowhere.
-    pub(crate) fn exposure(&self) -> u128
-        requires { self.now.notional < 2 ^ 63 }
-        ensures value { result ≡ exposure_of self.now }
-        ensures fits { result + 2 ^ 64 < 2 ^ 128 }
+    /// The reserve in ten-thousandths, rounded nowhere.
+    pub(crate) fn left(&self) -> u128
+        ensures { result ≡ left_of self.now }
     {
-        self.notional + u128::from(self.leaves()) * u128::from(self.reserve())
+        u128::from(self.leaves()) * u128::from(self.reserve())
+    }
+
+    /// Whether it is a buy. Every other side is a sell.
+    pub(crate) fn is_buy(&self) -> bool
+        ensures { result ≡ is_buy self.now }
+    {
+        self.side == BUY
     }
 
     /// The order after a report with this id. None where it trades beyond the reserve.
     pub(crate) fn after(&self, id: &Id, exec: Exec) -> Option<Order>
-        requires { self.now.notional < 2 ^ 63 }
+        requires { exposure_of self.now < 2 ^ 120 }
         ensures value { result ≡ order_after id.now exec self.now }
         ensures lowers { IfSome result (Lowers self.now) }
     {
@@ -153,7 +160,7 @@ impl Order {
 
     /// So much was filled at this price, unless that is beyond the reserve.
     fn traded(&self, quantity: u64, price: u64) -> Option<Order>
-        requires { self.now.notional < 2 ^ 63 }
+        requires { exposure_of self.now < 2 ^ 120 }
         ensures { result ≡ order_after [] (Exec.Trade quantity price) self.now }
     {
         if quantity > self.leaves() || price > self.reserve() {

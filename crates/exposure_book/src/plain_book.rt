@@ -4,11 +4,13 @@ use crate::pending::Pending;
 use fix_orders::{Exec, Id};
 use std::alloc::{AllocError, Global};
 
-/// Orders and ids as plain lists, with no total.
+/// Orders and ids as plain lists, with no total: of two accounts and two symbols.
 #[derive(Drop)]
 pub(crate) struct PlainBook {
     orders: Vec<Order>,
     ids: Vec<(Id, usize)>,
+    /// The account that is net, if one is.
+    net: Option<u32>,
 }
 
 /// What an order counts for, in ten-thousandths.
@@ -95,11 +97,12 @@ fn reported(order: &Order, id: &Id, exec: Exec) -> Order {
 }
 
 impl PlainBook {
-    /// A book with no order.
-    pub fn new(alloc: Global) -> PlainBook {
+    /// A book with no order, in which this account is net.
+    pub fn new(alloc: Global, net: Option<u32>) -> PlainBook {
         PlainBook {
             orders: Vec::new(alloc),
             ids: Vec::new(alloc),
+            net,
         }
     }
 
@@ -156,17 +159,36 @@ impl PlainBook {
     /// The values of the firm, of this account and of this symbol.
     pub fn values(&self, account: u32, symbol: u32) -> [u128; 3] {
         let mut sums = [0u128; 3];
-        for order in &self.orders {
-            let part = exposure(order);
+        for pair in [(0, 0), (0, 1), (1, 0), (1, 1)] {
+            let part = self.pair(pair.0, pair.1);
             sums[0] = sums[0].saturating_add(part);
-            if order.account == account {
+            if pair.0 == account {
                 sums[1] = sums[1].saturating_add(part);
             }
-            if order.symbol == symbol {
+            if pair.1 == symbol {
                 sums[2] = sums[2].saturating_add(part);
             }
         }
         [up(sums[0]), up(sums[1]), up(sums[2])]
+    }
+
+    /// What the orders of this account in this symbol count for.
+    fn pair(&self, account: u32, symbol: u32) -> u128 {
+        let (mut bought, mut sold, mut buys, mut sells) = (0u128, 0u128, 0u128, 0u128);
+        for order in &self.orders {
+            let own = order.account == account && order.symbol == symbol;
+            if own && order.side == b'1' {
+                bought = bought.saturating_add(order.notional);
+                buys = buys.saturating_add(exposure(order));
+            } else if own {
+                sold = sold.saturating_add(order.notional);
+                sells = sells.saturating_add(exposure(order));
+            }
+        }
+        if self.net == Some(account) {
+            return buys.saturating_sub(sold).max(sells.saturating_sub(bought));
+        }
+        buys.saturating_add(sells)
     }
 
     /// The place of the order with this id, by looking through all ids.

@@ -6,7 +6,7 @@ ghost use Rattle.exposure_book.specs.Books.{units_up};
 use fix_orders::OrderKind;
 
 /// The byte of Side (54) of a buy.
-const BUY: u8 = b'1';
+pub(crate) const BUY: u8 = b'1';
 
 /// Ten-thousandths in a currency unit.
 pub(crate) const UNIT: u128 = 10_000;

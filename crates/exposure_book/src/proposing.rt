@@ -1,6 +1,6 @@
 //! What a book answers to an order or a request that is proposed.
 ghost use Rattle.std.specs.Prelude.{◌≡◌, ◌<◌, ◌^◌, length, IfOk, slice_get, Some, true};
-ghost use Rattle.exposure_book.specs.Totals.{IsPlaced, Replaces};
+ghost use Rattle.exposure_book.specs.Totals.{IsPlaced};
 ghost use Rattle.exposure_book.specs.Proposals.{new_order, requested, is_of_order, with_replace};
 ghost use Rattle.exposure_book.specs.Proposals.{proposal_of_new, proposal_of_cancel};
 ghost use Rattle.exposure_book.specs.Proposals.{proposal_of_replace, is_within_cap};
@@ -113,7 +113,7 @@ impl Book {
         if request.quantity <= order.filled {
             return Err(BookFault::Quantity);
         }
-        self.values_with(place, &with_replace(request, limits, &order))
+        self.values_with(place, &order, &with_replace(request, limits, &order))
     }
 
     /// The place of the order that a request with these ids may change, or what stands against it.

@@ -1,7 +1,7 @@
 //! What the venue's reports make of a book.
 ghost use Rattle.std.specs.Prelude.{◌≡◌, ◌≢◌, ◌↔◌, None, Some, IsSomeAnd, slice_get, slice_set};
 ghost use Rattle.exposure_book.specs.Orders.{Lowers};
-ghost use Rattle.exposure_book.specs.Books.{order_with, terms_of};
+ghost use Rattle.exposure_book.specs.Books.{order_with, terms_of, with_orders};
 ghost use Rattle.exposure_book.specs.Totals.{IsOrderAt};
 ghost use Rattle.exposure_book.specs.Reports.{outcome_of_report, outcome_of_reject};
 ghost use Rattle.exposure_book.specs.Reports.{reported_order, IsBeyond, IsPlacedAnswer};
@@ -65,14 +65,14 @@ impl Book {
     fn settle(&mut self, place: usize, order: &Order, next: &Order) -> Applied
         requires order { IsOrderAt self.old.value place order.now }
         requires lowers { Lowers order.now next.now }
-        ensures answer { result
-            ≡ Applied.Applied (terms_of (slice_set self.old.value.orders place next.now) next.now) }
+        ensures answer { result ≡ Applied.Applied (terms_of (with_orders
+            (slice_set self.old.value.orders place next.now) self.old.value) next.now) }
         ensures orders { self.new.value
-            ≡ record self.old.value { orders = slice_set self.old.value.orders place next.now } }
+            ≡ with_orders (slice_set self.old.value.orders place next.now) self.old.value }
         ensures room { self.new.room ≡ self.old.room }
         ensures placed { IsPlacedAnswer self.old.value.accounts self.old.value.symbols result }
     {
-        self.put(place, next);
+        self.put(place, order, next);
         Applied::Applied(self.terms(next))
     }
 }

@@ -41,9 +41,9 @@ pub(crate) enum Want {
     Over,
 }
 
-const BUY: u8 = b'1';
+pub(crate) const BUY: u8 = b'1';
 
-const SELL: u8 = b'2';
+pub(crate) const SELL: u8 = b'2';
 
 const SHORT: u8 = b'5';
 

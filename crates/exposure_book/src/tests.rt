@@ -2,6 +2,7 @@
 //! of messages, worked by hand, and summed from scratch by a plain book.
 ghost use Rattle.std.specs.Prelude.{◌≡◌, ◌<◌, length};
 
+use crate::net_sequences::NET_SEQUENCES;
 use crate::plain_book::PlainBook;
 use crate::proposing::{new_order, with_replace};
 use crate::sequences::{SEQUENCES, Step, Want};
@@ -18,6 +19,15 @@ account,ACC,1000000,,,
 account,OTHER,1000000,,,
 symbol,XYZ,1000000,1,12,100000
 symbol,ABC,1000000,1,20,100000
+";
+
+/// The same, where the first account is net.
+const NET_LIMITS: &[u8] = b"version,2,,,,,
+firm,,1000000,,,,
+account,ACC,1000000,,,,net
+account,OTHER,1000000,,,,
+symbol,XYZ,1000000,1,12,100000,
+symbol,ABC,1000000,1,20,100000,
 ";
 
 /// The id of this text.
@@ -324,8 +334,9 @@ fn follow(
     requires account_rows { length limits.now.accounts ≡ 2 }
     requires symbol_rows { length limits.now.symbols ≡ 2 }
 {
-    let mut book = Book::new(alloc, 2, 2)?;
-    let mut plain = PlainBook::new(alloc);
+    let mut book = Book::new(alloc, limits)?;
+    let net = limits.accounts()[0].net;
+    let mut plain = PlainBook::new(alloc, if net { Some(0) } else { None });
     for (step, want) in steps {
         let got = take(rt, &mut book, &mut plain, limits, *step)?;
         assert_eq!(rt; got, *want, "{name}: {step:?}");
@@ -334,17 +345,32 @@ fn follow(
     Ok(())
 }
 
-#[test]
-fn values_follow_each_message(rt: HostRuntime) -> Result<(), Fail> {
-    let Ok(limits) = read_limits(rt.alloc(), LIMITS) else {
+/// Follows each of these sequences under these limits.
+fn follow_all(
+    rt: &impl Abort,
+    alloc: Global,
+    text: &[u8],
+    sequences: &[(&str, &[(Step, Want)])],
+) -> Result<(), Fail> {
+    let Ok(limits) = read_limits(alloc, text) else {
         return Err("limits")?;
     };
-    assert!(&rt;
+    assert!(rt;
         limits.accounts().len() == 2 && limits.symbols().len() == 2,
         "two of each"
     );
-    for (name, steps) in SEQUENCES {
-        follow(&rt, rt.alloc(), &limits, name, steps)?;
+    for (name, steps) in sequences {
+        follow(rt, alloc, &limits, name, steps)?;
     }
     Ok(())
+}
+
+#[test]
+fn values_follow_each_message(rt: HostRuntime) -> Result<(), Fail> {
+    follow_all(&rt, rt.alloc(), LIMITS, &SEQUENCES)
+}
+
+#[test]
+fn fills_of_a_net_account_offset_each_other(rt: HostRuntime) -> Result<(), Fail> {
+    follow_all(&rt, rt.alloc(), NET_LIMITS, &NET_SEQUENCES)
 }

@@ -22,6 +22,8 @@ mod make;
 #[cfg(test)]
 mod make_tests;
 mod names;
+#[cfg(test)]
+mod net_rows;
 mod open;
 #[cfg(test)]
 mod order_rows;

@@ -3,6 +3,7 @@
 ghost use Rattle.std.specs.Prelude.{◌<◌};
 
 use crate::command::gate;
+use crate::net_rows::NET;
 use crate::order_rows::{ORDERS, REFUSALS};
 use crate::request_rows::{FAULTS, FRAMES, REQUESTS};
 use crate::rows::{Row, compare, no_screens, stage_of};
@@ -98,6 +99,7 @@ fn compare_tables<R: Threads + Sync + Abort>(rt: &R, alloc: Global, most: usize)
     compare_requests(rt, alloc, most)?;
     compare_frames(rt, alloc, most)?;
     compare_faults(rt, alloc, most)?;
+    compare_all(rt, alloc, &NET, most)?;
     compare_turns(rt, alloc, most)
 }
 

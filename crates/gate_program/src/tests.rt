@@ -96,7 +96,7 @@ const USAGE: &[u8] = b"usage: gate run LIMITS OUT SESSION... | gate make NUMBER 
 
 /// A limit file's text, the status and what is told. No session is there, so with limits a run ends as
 /// a read fault.
-const LIMIT_FILES: [(&str, &[u8], u8, &[u8]); 15] = [
+const LIMIT_FILES: [(&str, &[u8], u8, &[u8]); 18] = [
     (
         "five columns",
         b"firm,,1000,,\n",
@@ -163,6 +163,25 @@ const LIMIT_FILES: [(&str, &[u8], u8, &[u8]); 15] = [
         b"repeat,,64,,,\nfirm,,1,,,\n",
         5,
         b"read fault\n",
+    ),
+    (
+        "a net account",
+        b"version,2,,,,,\nfirm,,1,,,,\naccount,A,1,,,,net\n",
+        5,
+        b"read fault\n",
+    ),
+    (
+        "another mode",
+        b"version,2,,,,,\nfirm,,5000,,,,\naccount,ACC,100000,,,,net\n\
+            symbol,XYZ,100000,1,12,100000,\naccount,A2,1,,,,both\n",
+        3,
+        b"limits fault 2 row 5\n",
+    ),
+    (
+        "a mode in version 1",
+        b"firm,,1,,,\naccount,A,1,,,,net\n",
+        3,
+        b"limits fault 1 row 2\n",
     ),
 ];
 

@@ -3,6 +3,7 @@ use Rattle.std.proofs.Common.{◌≡◌, ℕ, ◌≤◌, List, length, Option, S
 use Rattle.std.specs.Prelude.{option_map, unwrap_or, filter_map}
 use Rattle.limit_table.specs.Tables.{IsFew, limits_with, firm_of, account_in, symbol_in, off_in}
 use Rattle.limit_table.specs.Files.{HoldsEntries, IsHeldByFile}
+use Rattle.limit_table.specs.Versions.{version_of, body_of}
 use Rattle.limit_table.specs.declared.kind.Entry.{Entry}
 use Rattle.limit_table.specs.declared.limits.Limits.{Limits}
 use Rattle.limit_table.proofs.Few.{few_accounts, few_symbols, few_off}
@@ -10,7 +11,9 @@ use Rattle.limit_table.proofs.Sound.{sound_is_few}
 
 -- sound rows are few of each kind
 pub holds_few : (bytes : List ℕ) (entries : List Entry) → HoldsEntries bytes entries → IsFew entries
-holds_few bytes entries h = subst IsFew (sym h.set) (sound_is_few h.rows h.sound)
+holds_few bytes entries h =
+    subst IsFew (sym h.sets.set)
+    (sound_is_few (version_of h.rows) (body_of h.rows) h.sets.sound)
 
 accounts_set : (entries : List Entry) (o : Option ℕ) (limits : Limits)
     → option_map (limits_with entries) o ≡ Some limits

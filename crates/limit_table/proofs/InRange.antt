@@ -1,5 +1,5 @@
 -- What a row sets is in range, and what is in range is set by the row that is written for it.
-use Rattle.std.proofs.Common.{◌≡◌, ℕ, ◌≤◌, List, length, refl, ap, ◌∙◌, subst, arith, Bool}
+use Rattle.std.proofs.Common.{◌≡◌, ℕ, ◌≤◌, List, length, refl, ap, sym, ◌∙◌, subst, arith, Bool}
 use Rattle.std.proofs.Common.{true, false, Ok, Err, Result, Option, Some, None, decimal}
 use Rattle.std.specs.Prelude.{◌==◌, ◌&&◌, ◌||◌, not, if◌then◌else◌, nat_le, nat_lt}
 use Rattle.std.specs.List.{list_all}
@@ -12,14 +12,18 @@ use Rattle.fix_fields.specs.Numbers.{is_printable}
 use Rattle.fix_fields.specs.IdText.{IsId}
 use Rattle.fix_fields.specs.declared.number.Spelling.TheVariants.{Form, Range}
 use Rattle.limit_table.specs.Columns.{Texts, columns_of, are_blank, is_number, number_in, price_in}
-use Rattle.limit_table.specs.Columns.{name_in}
+use Rattle.limit_table.specs.Columns.{name_in, is_net, is_mode, is_mode_of}
 use Rattle.limit_table.specs.Columns.{or_fault}
 use Rattle.limit_table.specs.Kinds.{kind_named, is_crossed}
 use Rattle.limit_table.specs.Entries.{◌>>=◌, amount_most, account_in, symbol_in, off_in, count_in}
 use Rattle.limit_table.specs.Entries.{entry_by}
 use Rattle.limit_table.specs.Entries.{entry_named, entry_of}
-use Rattle.limit_table.specs.Printing.{row_of, price_text}
+use Rattle.limit_table.specs.Printing.{row_of, price_text, mode_text}
 use Rattle.limit_table.specs.Ranges.{IsFromTo, IsPrice, IsInRange}
+use Rattle.limit_table.specs.Versions.{column_count}
+use Rattle.limit_table.specs.declared.version.Version.{Version}
+use Rattle.limit_table.specs.declared.version.Version.TheVariants as version
+use Rattle.limit_table.specs.declared.kind.AccountRow.{AccountRow}
 use Rattle.limit_table.specs.declared.kind.Kind.{Kind}
 use Rattle.limit_table.specs.declared.kind.Kind.TheVariants as kind
 use Rattle.limit_table.specs.declared.kind.Entry.{Entry}
@@ -113,7 +117,8 @@ count_range least most make row e h fits =
 account_range : (row : Texts) (e : Entry) → account_in row ≡ Ok e → IsInRange e
 account_range row e h =
     let set : ℕ → List ℕ → Entry =
-    λ limit name. entry.Account (record { name = name; limit = limit }) in
+    λ limit name.
+    entry.Account (record { name = name; limit = limit; net = is_net row.mode }) in
     let a = bind_ok (number_in 0 amount_most row.limit)
     (λ limit. name_in row.name >>= λ name. Ok (set limit name)) e h in
     let b = bind_ok (name_in row.name) (λ name. Ok (set a.0 name)) e a.2 in
@@ -179,14 +184,17 @@ by_name : (o : Option Kind) (row : Texts) (e : Entry) → entry_named o row ≡ 
     → is_crossed e ≡ false → IsInRange e
 by_name None row e h u = absurd (err_is_not_ok cause.Kind e h)
 by_name (Some k) row e h u =
-    by_kind k row e (past_test (not (are_blank k row)) cause.RowShape (entry_by k row) e h) u
+    let shaped : Result Entry Cause =
+    if not (are_blank k row) then Err cause.RowShape else entry_by k row in
+    by_kind k row e (past_test (not (are_blank k row)) cause.RowShape (entry_by k row) e
+    (past_test (not (is_mode_of k row)) cause.Kind shaped e h)) u
 
 -- what a row sets, with no lowest price above the highest, is in range
-pub read_in_range : (row : List (List ℕ)) (e : Entry) → entry_of row ≡ Ok e → is_crossed e ≡ false
-    → IsInRange e
-read_in_range row e h u =
+pub read_in_range : (v : Version) (row : List (List ℕ)) (e : Entry) → entry_of v row ≡ Ok e
+    → is_crossed e ≡ false → IsInRange e
+read_in_range v row e h u =
     let named = kind_named (columns_of row).kind in
-    by_name named (columns_of row) e (past_test (not (length row == 6)) cause.RowShape
+    by_name named (columns_of row) e (past_test (not (length row == column_count v)) cause.RowShape
     (entry_named named (columns_of row)) e h) u
 
 count_back : (least most n : ℕ) (make : ℕ → Entry) → IsFromTo least most n → most ≤ amount_most
@@ -223,18 +231,59 @@ symbol_back limit low high size name in_limit in_low in_high in_size is =
     ∙ ap (λ (r : Result (List ℕ) Cause). r >>= λ t. Ok (symbol_set limit low high size t))
     (name_back name is)
 
--- the row that is written for what is in range sets that
-pub written_sets : (e : Entry) → IsInRange e → entry_of (row_of e) ≡ Ok e
+-- a row of this version can tell all of it: version 1 has no mode for a net account
+abbrev pub FitsIn : Version → Entry → Type 0
+FitsIn version.One (entry.Account row) = row.net ≡ false
+FitsIn _ _ = Unit {0}
+
+-- the modes that are written are read as what they were written for
+mode_back : (net : Bool) → (is_mode (mode_text net) ≡ true) × (is_net (mode_text net) ≡ net)
+mode_back true = (refl, refl)
+mode_back false = (refl, refl)
+
+-- an account, whether it is net told by a mode
+abbrev account_set : Bool → ℕ → List ℕ → Entry
+account_set net limit name = entry.Account (record { name = name; limit = limit; net = net })
+
+account_back : (row : AccountRow) → IsInRange (entry.Account row)
+    → entry_of version.Two (row_of version.Two (entry.Account row)) ≡ Ok (entry.Account row)
 unfolding field_at
-written_sets (entry.Firm n) r = count_back 0 amount_most n (λ m. entry.Firm m) r (omega arith)
-written_sets (entry.Account row) r =
-    named_back 0 amount_most row.limit row.name
-    (λ m t. entry.Account (record { name = t; limit = m })) r.0 (omega arith) r.1
-written_sets (entry.Symbol row) r =
+account_back row r =
+    let mode = mode_back row.net in
+    rw (mode.0, mode.1)
+    (named_back 0 amount_most row.limit row.name (account_set row.net) r.0 (omega arith) r.1)
+
+-- the row that is written for what is in range sets that
+pub written_sets : (v : Version) (e : Entry) → IsInRange e → FitsIn v e
+    → entry_of v (row_of v e) ≡ Ok e
+unfolding field_at
+written_sets version.One (entry.Firm n) r f =
+    count_back 0 amount_most n (λ m. entry.Firm m) r (omega arith)
+written_sets version.One (entry.Account row) r f =
+    named_back 0 amount_most row.limit row.name (account_set false) r.0 (omega arith) r.1
+    ∙ ap (λ b. Ok (account_set b row.limit row.name)) (sym f)
+written_sets version.One (entry.Symbol row) r f =
     symbol_back row.limit row.low row.high row.size row.name r.0 r.1 r.2 r.3 r.4
-written_sets (entry.Trip n) r = count_back 1 trip_most n (λ m. entry.Trip m) r (omega arith)
-written_sets (entry.Quota n) r = count_back 1 quota_most n (λ m. entry.Quota m) r (omega arith)
-written_sets (entry.Repeat n) r = count_back 0 64 n (λ m. entry.Repeat m) r (omega arith)
-written_sets (entry.Off row) r =
+written_sets version.One (entry.Trip n) r f =
+    count_back 1 trip_most n (λ m. entry.Trip m) r (omega arith)
+written_sets version.One (entry.Quota n) r f =
+    count_back 1 quota_most n (λ m. entry.Quota m) r (omega arith)
+written_sets version.One (entry.Repeat n) r f =
+    count_back 0 64 n (λ m. entry.Repeat m) r (omega arith)
+written_sets version.One (entry.Off row) r f =
+    named_back 0 off_most row.from row.name
+    (λ m t. entry.Off (record { name = t; from = m })) r.0 (omega arith) r.1
+written_sets version.Two (entry.Firm n) r f =
+    count_back 0 amount_most n (λ m. entry.Firm m) r (omega arith)
+written_sets version.Two (entry.Account row) r f = account_back row r
+written_sets version.Two (entry.Symbol row) r f =
+    symbol_back row.limit row.low row.high row.size row.name r.0 r.1 r.2 r.3 r.4
+written_sets version.Two (entry.Trip n) r f =
+    count_back 1 trip_most n (λ m. entry.Trip m) r (omega arith)
+written_sets version.Two (entry.Quota n) r f =
+    count_back 1 quota_most n (λ m. entry.Quota m) r (omega arith)
+written_sets version.Two (entry.Repeat n) r f =
+    count_back 0 64 n (λ m. entry.Repeat m) r (omega arith)
+written_sets version.Two (entry.Off row) r f =
     named_back 0 off_most row.from row.name
     (λ m t. entry.Off (record { name = t; from = m })) r.0 (omega arith) r.1

@@ -1,6 +1,7 @@
 -- A text has one list of rows, so it has one answer.
 use Rattle.std.proofs.Common.{◌≡◌, ℕ, ◌+◌, ◌-◌, ◌<◌, ◌≤◌, List, [], ◌∷◌, ◌++◌, length, take, get_or, refl, sym}
-use Rattle.std.proofs.Common.{ap, subst, ◌∙◌, arith, true, false, Err, Option, Some, None, Result}
+use Rattle.std.proofs.Common.{ap, subst, ◌∙◌, arith, Bool, true, false, Err, Option, Some, None}
+use Rattle.std.proofs.Common.{Result}
 use Rattle.std.proofs.Common.{◌⊎◌, inl, inr, take_all, length-append, append_assoc}
 use Rattle.std.proofs.lemmas.List.{take-append-le, get_or-append_right, append-nil}
 use Rattle.std.specs.Prelude.{IsOk, unwrap_or, option_map}
@@ -12,7 +13,9 @@ use Rattle.csv.specs.declared.parser.State.TheVariants as state
 use Rattle.limit_table.specs.Faults.{entries_of, row_at, row_after}
 use Rattle.limit_table.specs.Tables.{limits_of, firm_of, limits_with}
 use Rattle.limit_table.specs.Files.{HoldsEntries, IsLimitFile, IsRowFault, IsFirstFault}
-use Rattle.limit_table.specs.Files.{bytes_most, fault_at, AreRows}
+use Rattle.limit_table.specs.Files.{bytes_most, fault_at, AreRows, IsLastFault}
+use Rattle.limit_table.specs.Versions.{version_of, body_of, is_version_row}
+use Rattle.limit_table.specs.declared.version.Version.{Version}
 use Rattle.limit_table.specs.declared.kind.Entry.{Entry}
 use Rattle.limit_table.specs.declared.kind.Cause.{Cause}
 use Rattle.limit_table.specs.declared.fault.LimitFault.{LimitFault}
@@ -91,35 +94,16 @@ one_list bytes a b h g =
 -- so its rows set one list of things
 one_set : (bytes : List ℕ) (a b : List Entry) → HoldsEntries bytes a → HoldsEntries bytes b → a ≡ b
 one_set bytes a b h g =
-    h.set ∙ ap entries_of (one_list bytes h.rows g.rows h.all g.all) ∙ sym g.set
+    h.sets.set
+    ∙ ap (λ (rows : List Row). entries_of (version_of rows) (body_of rows))
+    (one_list bytes h.rows g.rows h.all g.all)
+    ∙ sym g.sets.set
 
 minus_self : (n : ℕ) → n - n ≡ 0
 minus_self n = omega arith
 
--- the row in the middle, after the rows before it
-pub here_is : (earlier : List Row) (row : Row) (rest : List Row)
-    → row_at (earlier ++ row ∷ rest) (length earlier) ≡ row_after (entries_of earlier) row
-here_is earlier row rest =
-    let before : take (length earlier) (earlier ++ row ∷ rest) ≡ earlier =
-    take-append-le (length earlier) earlier (row ∷ rest) (omega arith)
-    ∙ take_all (length earlier) earlier (omega arith) in
-    let here : get_or (earlier ++ row ∷ rest) (length earlier) [] ≡ row =
-    get_or-append_right earlier (row ∷ rest) (length earlier) (length earlier) [] refl (omega arith)
-    ∙ ap (λ n. get_or (row ∷ rest) n []) (minus_self (length earlier)) in
-    ap (λ (xs : List Row).
-    row_after (entries_of xs) (get_or (earlier ++ row ∷ rest) (length earlier) [])) before
-    ∙ ap (λ (r : Row). row_after (entries_of earlier) r) here
-
 not_ok : (r : Result Entry Cause) (c : Cause) → r ≡ Err c → IsOk r → ⊥
 not_ok r c h good = false_is_not_true (sym (ap is_ok h) ∙ good)
-
--- where a fault stands, the row at that place has it
-fault_here : (rows earlier : List Row) (row : Row) (c : Cause) → Continues (earlier ++ row ∷ []) rows
-    → row_after (entries_of earlier) row ≡ Err c → row_at rows (length earlier) ≡ Err c
-fault_here rows earlier row c more h =
-    let split = more.1 ∙ append_assoc earlier (row ∷ []) more.0 in
-    ap (λ (xs : List Row). row_at xs (length earlier)) split
-    ∙ here_is earlier row more.0 ∙ h
 
 longer_than : (rows earlier : List Row) (row : Row) → Continues (earlier ++ row ∷ []) rows
     → length earlier < length rows
@@ -131,15 +115,87 @@ longer_than rows earlier row more =
       length-append earlier (row ∷ []),
     )
 
+-- in a file of this version
+module _ (v : Version) where
+  -- the row in the middle, after the rows before it
+  pub here_is : (earlier : List Row) (row : Row) (rest : List Row)
+      → row_at v (earlier ++ row ∷ rest) (length earlier) ≡ row_after v (entries_of v earlier) row
+  here_is earlier row rest =
+      let before : take (length earlier) (earlier ++ row ∷ rest) ≡ earlier =
+      take-append-le (length earlier) earlier (row ∷ rest) (omega arith)
+      ∙ take_all (length earlier) earlier (omega arith) in
+      let here : get_or (earlier ++ row ∷ rest) (length earlier) [] ≡ row =
+      get_or-append_right earlier (row ∷ rest) (length earlier) (length earlier) [] refl (omega arith)
+      ∙ ap (λ n. get_or (row ∷ rest) n []) (minus_self (length earlier)) in
+      ap (λ (xs : List Row).
+      row_after v (entries_of v xs) (get_or (earlier ++ row ∷ rest) (length earlier) [])) before
+      ∙ ap (λ (r : Row). row_after v (entries_of v earlier) r) here
+
+  -- where a fault stands, the row at that place has it
+  fault_here : (rows earlier : List Row) (row : Row) (c : Cause) → Continues (earlier ++ row ∷ []) rows
+      → row_after v (entries_of v earlier) row ≡ Err c → row_at v rows (length earlier) ≡ Err c
+  fault_here rows earlier row c more h =
+      let split = more.1 ∙ append_assoc earlier (row ∷ []) more.0 in
+      ap (λ (xs : List Row). row_at v xs (length earlier)) split
+      ∙ here_is earlier row more.0 ∙ h
+
+-- more rows keep the version, and stand behind those that set something
+record GrowsBy (rows all rest : List Row) : Type 0 where
+  pub version : version_of all ≡ version_of rows
+  pub body : body_of all ≡ body_of rows ++ rest
+
+first_grows : (row : Row) (rows rest : List Row) (tells : Bool) → is_version_row row ≡ tells
+    → GrowsBy (row ∷ rows) (row ∷ (rows ++ rest)) rest
+first_grows row rows rest true is = record { version = refl; body = rw is refl }
+first_grows row rows rest false is = record { version = refl; body = rw is refl }
+
+grows : (rows rest : List Row) (row : Row) (earlier : List Row)
+    → body_of rows ≡ earlier ++ row ∷ [] → GrowsBy rows (rows ++ rest) rest
+grows [] rest row earlier last =
+    absurd (omega (arith, ap length last, length-append earlier (row ∷ [])))
+grows (first ∷ rows) rest row earlier last =
+    first_grows first rows rest (is_version_row first) refl
+
+-- a row that has a fault among all rows
+record StandsAmong (all : List Row) (why : LimitFault) (rows : List Row)
+    (fault : IsLastFault rows why) : Type 0 where
+  pub rest : List Row
+  pub is : all ≡ rows ++ rest
+  pub same : version_of all ≡ version_of rows
+  pub more : body_of all ≡ (fault.earlier ++ fault.row ∷ []) ++ rest
+  pub wrong : row_at (version_of all) (body_of all) (length fault.earlier) ≡ Err fault.wrong
+  pub before : length fault.earlier < length (body_of all)
+
+stands_among : (all rows : List Row) (why : LimitFault) (fault : IsLastFault rows why)
+    → Continues rows all → StandsAmong all why rows fault
+stands_among all rows why fault more =
+    let rest = more.0 in
+    let grown = grows rows rest fault.row fault.earlier fault.last in
+    let same : version_of all ≡ version_of rows = ap version_of more.1 ∙ grown.version in
+    let body : body_of all ≡ (fault.earlier ++ fault.row ∷ []) ++ rest =
+    ap body_of more.1 ∙ grown.body ∙ ap (λ (xs : List Row). xs ++ rest) fault.last in
+    let cause : row_after (version_of all) (entries_of (version_of all) fault.earlier) fault.row
+    ≡ Err fault.wrong =
+    ap (λ (v : Version). row_after v (entries_of v fault.earlier) fault.row) same ∙ fault.cause in
+    record {
+      rest = rest;
+      is = more.1;
+      same = same;
+      more = body;
+      wrong = fault_here (version_of all) (body_of all) fault.earlier fault.row fault.wrong
+          (rest, body) cause;
+      before = longer_than (body_of all) fault.earlier fault.row (rest, body);
+    }
+
 -- sound rows have no fault
 sound_has_none : (bytes : List ℕ) (entries : List Entry) (why : LimitFault)
     → HoldsEntries bytes entries → IsRowFault bytes why → ⊥
 sound_has_none bytes entries why h f =
-    let more = front state.StartRecord (strip_bom bytes) (f.earlier ++ f.row ∷ []) h.rows
+    let more = front state.StartRecord (strip_bom bytes) f.rows h.rows
     f.begins.0 h.all.0 f.begins.1 h.all.1 f.begins.2 h.all.2 h.all.3 in
-    not_ok (row_at h.rows (length f.earlier)) f.wrong
-    (fault_here h.rows f.earlier f.row f.wrong more f.cause)
-    (h.sound (length f.earlier) (longer_than h.rows f.earlier f.row more))
+    let stands = stands_among h.rows f.rows why f.last more in
+    not_ok (row_at (version_of h.rows) (body_of h.rows) (length f.last.earlier)) f.last.wrong
+    stands.wrong (h.sets.sound (length f.last.earlier) stands.before)
 
 err_same : (a b : Cause) (r : Result Entry Cause) → r ≡ Err a → r ≡ Err b → a ≡ b
 err_same a b r h g = cc (sym h ∙ g)
@@ -148,33 +204,48 @@ below_or_at : (n m : ℕ) → n < m + 1 → (n < m) ⊎ (n ≡ m)
 below_or_at n m h = grind arith
 
 -- of two faults of rows, one of which continues the other, both are the same
-same_fault : (bytes : List ℕ) (a b : LimitFault) (f : IsRowFault bytes a) (g : IsRowFault bytes b)
-    → Continues (f.earlier ++ f.row ∷ []) (g.earlier ++ g.row ∷ []) → a ≡ b
-same_fault bytes a b f g more =
-    let rows = g.earlier ++ g.row ∷ [] in
+same_fault : (a b : LimitFault) (rows all : List Row) (f : IsLastFault rows a)
+    (g : IsLastFault all b) → Continues rows all → a ≡ b
+same_fault a b rows all f g continues =
+    let v = version_of all in
     let n = length f.earlier in
     let m = length g.earlier in
-    let wrong : row_at rows n ≡ Err f.wrong = fault_here rows f.earlier f.row f.wrong more f.cause in
+    let stands = stands_among all rows a f continues in
+    let body : body_of all ≡ g.earlier ++ g.row ∷ [] = g.last in
+    let wrong : row_at v (g.earlier ++ g.row ∷ []) n ≡ Err f.wrong =
+    subst (λ (xs : List Row). row_at v xs n ≡ Err f.wrong) body stands.wrong in
     let less : n < m + 1 =
-    subst (λ k. n < k) (length-append g.earlier (g.row ∷ []))
-    (longer_than rows f.earlier f.row more) in
+    omega (arith, stands.before, ap length body, length-append g.earlier (g.row ∷ [])) in
     elim (below_or_at n m less) [
-      | inl before ↦ absurd (not_ok (row_at g.earlier n) f.wrong
-          (sym (front_stays g.earlier g.row n before) ∙ wrong) (g.sound n before))
+      | inl before ↦ absurd (not_ok (row_at v g.earlier n) f.wrong
+          (sym (front_stays v g.earlier g.row n before) ∙ wrong) (g.sound n before))
       | inr there ↦
-          let last : row_at rows m ≡ Err g.wrong = last_is g.earlier g.row ∙ g.cause in
-          let same : f.wrong ≡ g.wrong = err_same f.wrong g.wrong (row_at rows m)
-          (subst (λ k. row_at rows k ≡ Err f.wrong) there wrong) last in
-          f.fault ∙ ap (λ k. fault_at (k + 1) f.wrong) there
-          ∙ ap (λ (c : Cause). fault_at (m + 1) c) same ∙ sym g.fault
+          let last : row_at v (g.earlier ++ g.row ∷ []) m ≡ Err g.wrong =
+          last_is v g.earlier g.row ∙ g.cause in
+          let same : f.wrong ≡ g.wrong =
+          err_same f.wrong g.wrong (row_at v (g.earlier ++ g.row ∷ []) m)
+          (subst (λ k. row_at v (g.earlier ++ g.row ∷ []) k ≡ Err f.wrong) there wrong) last in
+          let none : length stands.rest ≡ 0 = omega (
+            arith,
+            ap length body,
+            ap length stands.more,
+            there,
+            length-append g.earlier (g.row ∷ []),
+            length-append f.earlier (f.row ∷ []),
+            length-append (f.earlier ++ f.row ∷ []) stands.rest,
+          ) in
+          let many : length rows ≡ length all =
+          omega (arith, none, ap length stands.is, length-append rows stands.rest) in
+          f.fault ∙ ap (λ k. fault_at k f.wrong) many
+          ∙ ap (λ (c : Cause). fault_at (length all) c) same ∙ sym g.fault
     ]
 
 one_row_fault : (bytes : List ℕ) (a b : LimitFault) → IsRowFault bytes a → IsRowFault bytes b → a ≡ b
 one_row_fault bytes a b f g =
-    elim (compare state.StartRecord (strip_bom bytes) (f.earlier ++ f.row ∷ [])
-    (g.earlier ++ g.row ∷ []) f.begins.0 g.begins.0 f.begins.1 g.begins.1 f.begins.2 g.begins.2) [
-      | inl more ↦ same_fault bytes a b f g more
-      | inr less ↦ sym (same_fault bytes b a g f less)
+    elim (compare state.StartRecord (strip_bom bytes) f.rows g.rows f.begins.0 g.begins.0
+    f.begins.1 g.begins.1 f.begins.2 g.begins.2) [
+      | inl more ↦ same_fault a b f.rows g.rows f.last g.last more
+      | inr less ↦ sym (same_fault b a g.rows f.rows g.last f.last less)
     ]
 
 -- a text holds one set of limits

@@ -17,12 +17,13 @@ use Rattle.limit_table.specs.Files.{AreSound}
 use Rattle.limit_table.specs.Printing.{row_of}
 use Rattle.limit_table.specs.Ranges.{IsInRange}
 use Rattle.limit_table.specs.declared.kind.Kind.{Kind}
+use Rattle.limit_table.specs.declared.version.Version.{Version}
 use Rattle.limit_table.specs.declared.kind.Entry.{Entry}
 use Rattle.limit_table.specs.declared.kind.Cause.{Cause}
 use Rattle.limit_table.proofs.Few.{count_cons, same_kind_is}
 use Rattle.limit_table.proofs.Sound.{Row, some_entry, after_ok, entries_more, sound_more, no_fault}
 use Rattle.limit_table.proofs.OneAnswer.{here_is}
-use Rattle.limit_table.proofs.InRange.{read_in_range, written_sets}
+use Rattle.limit_table.proofs.InRange.{FitsIn, read_in_range, written_sets}
 use Rattle.limit_table.proofs.SoFar.{no_place}
 
 -- the rows of a kind
@@ -145,61 +146,66 @@ sound_by_kinds done (e ∷ rest) s =
       sound_by_kinds (done ++ e ∷ []) rest (one_less done rest e s),
     )
 
--- what the rows of a file set is sound and in range
-pub record AreRead (done rest : List Row) : Type 0 where
-  pub sound : SoundAfter (entries_of done) (entries_of rest)
-  pub in_range : All IsInRange (entries_of rest)
+-- in a file of this version
+module _ (v : Version) where
+  -- what the rows of a file set is sound and in range
+  pub record AreRead (done rest : List Row) : Type 0 where
+    pub sound : SoundAfter (entries_of v done) (entries_of v rest)
+    pub in_range : All IsInRange (entries_of v rest)
 
-pub read_rows : (done rest : List Row) → AreSound (done ++ rest) → AreRead done rest
-read_rows done [] s = record { sound = tt; in_range = All-nil IsInRange }
-read_rows done (r ∷ rs) s =
-    let fits : length done < length (done ++ r ∷ rs) =
-    omega (arith, length-append done (r ∷ rs)) in
-    let good = some_entry (row_at (done ++ r ∷ rs) (length done)) (s (length done) fits) in
-    let e = good.0 in
-    let after : row_after (entries_of done) r ≡ Ok e = sym (here_is done r rs) ∙ good.1 in
-    let parts = after_ok (entries_of done) r e after in
-    let more = read_rows (done ++ r ∷ []) rs
-    (subst AreSound (sym (append_assoc done (r ∷ []) rs)) s) in
-    let first : entries_of (r ∷ rs) ≡ e ∷ entries_of rs =
-    ap (λ (x : Result Entry Cause). cons_option (result_ok x) (entries_of rs)) parts.0 in
-    let rest : SoundAfter (entries_of done ++ e ∷ []) (entries_of rs) =
-    subst (λ (xs : List Entry). SoundAfter xs (entries_of rs)) (entries_more done r e parts.0)
-    more.sound in
-    let uncrossed = (no_fault (entries_of done) e parts.1).ordered in
-    record {
-      sound = subst (λ (xs : List Entry). SoundAfter (entries_of done) xs) (sym first)
-          (parts.1, rest);
-      in_range = subst (λ (xs : List Entry). All IsInRange xs) (sym first)
-          (All-cons IsInRange e (entries_of rs) (read_in_range r e parts.0 uncrossed)
-          more.in_range);
-    }
+  pub read_rows : (done rest : List Row) → AreSound v (done ++ rest) → AreRead done rest
+  read_rows done [] s = record { sound = tt; in_range = All-nil IsInRange }
+  read_rows done (r ∷ rs) s =
+      let fits : length done < length (done ++ r ∷ rs) =
+      omega (arith, length-append done (r ∷ rs)) in
+      let good = some_entry (row_at v (done ++ r ∷ rs) (length done)) (s (length done) fits) in
+      let e = good.0 in
+      let after : row_after v (entries_of v done) r ≡ Ok e = sym (here_is v done r rs) ∙ good.1 in
+      let parts = after_ok v (entries_of v done) r e after in
+      let more = read_rows (done ++ r ∷ []) rs
+      (subst (AreSound v) (sym (append_assoc done (r ∷ []) rs)) s) in
+      let first : entries_of v (r ∷ rs) ≡ e ∷ entries_of v rs =
+      ap (λ (x : Result Entry Cause). cons_option (result_ok x) (entries_of v rs)) parts.0 in
+      let rest : SoundAfter (entries_of v done ++ e ∷ []) (entries_of v rs) =
+      subst (λ (xs : List Entry). SoundAfter xs (entries_of v rs)) (entries_more v done r e parts.0)
+      more.sound in
+      let uncrossed = (no_fault (entries_of v done) e parts.1).ordered in
+      record {
+        sound = subst (λ (xs : List Entry). SoundAfter (entries_of v done) xs) (sym first)
+            (parts.1, rest);
+        in_range = subst (λ (xs : List Entry). All IsInRange xs) (sym first)
+            (All-cons IsInRange e (entries_of v rs) (read_in_range v r e parts.0 uncrossed)
+            more.in_range);
+      }
 
--- the rows that are written for these are sound, and set them
-pub record AreWritten (es : List Entry) : Type 0 where
-  pub sound : AreSound (map row_of es)
-  pub set : entries_of (map row_of es) ≡ es
+  -- the rows that are written for these are sound, and set them
+  pub record AreWritten (es : List Entry) : Type 0 where
+    pub sound : AreSound v (map (row_of v) es)
+    pub set : entries_of v (map (row_of v) es) ≡ es
 
-write_more : (done rest : List Entry) → AreWritten done → SoundAfter done rest → All IsInRange rest
-    → AreWritten (done ++ rest)
-write_more done [] w s r = subst AreWritten (sym (append-nil done)) w
-write_more done (e ∷ es) w s r =
-    let sets = written_sets e (All-head IsInRange e es r) in
-    let after : row_after (entries_of (map row_of done)) (row_of e) ≡ Ok e =
-    ap (λ (x : Result Entry Cause).
-    x >>= λ y. unless_fault y (entry_fault (entries_of (map row_of done)) y)) sets
-    ∙ ap (λ (xs : List Entry). unless_fault e (entry_fault xs e)) w.set
-    ∙ ap (unless_fault e) s.0 in
-    let split = map-append row_of done (e ∷ []) in
-    let more : AreWritten (done ++ e ∷ []) = record {
-      sound = subst AreSound (sym split) (sound_more (map row_of done) (row_of e) e w.sound after);
-      set = ap entries_of split ∙ entries_more (map row_of done) (row_of e) e sets
-          ∙ ap (λ (xs : List Entry). xs ++ e ∷ []) w.set;
-    } in
-    subst AreWritten (append_assoc done (e ∷ []) es)
-    (write_more (done ++ e ∷ []) es more s.1 (All-tail IsInRange e es r))
+  write_more : (done rest : List Entry) → AreWritten done → SoundAfter done rest → All IsInRange rest
+      → All (FitsIn v) rest → AreWritten (done ++ rest)
+  write_more done [] w s r f = subst AreWritten (sym (append-nil done)) w
+  write_more done (e ∷ es) w s r f =
+      let sets = written_sets v e (All-head IsInRange e es r) (All-head (FitsIn v) e es f) in
+      let after : row_after v (entries_of v (map (row_of v) done)) (row_of v e) ≡ Ok e =
+      ap (λ (x : Result Entry Cause).
+      x >>= λ y. unless_fault y (entry_fault (entries_of v (map (row_of v) done)) y)) sets
+      ∙ ap (λ (xs : List Entry). unless_fault e (entry_fault xs e)) w.set
+      ∙ ap (unless_fault e) s.0 in
+      let split = map-append (row_of v) done (e ∷ []) in
+      let more : AreWritten (done ++ e ∷ []) = record {
+        sound = subst (AreSound v) (sym split) (sound_more v (map (row_of v) done) (row_of v e) e w.sound
+            after);
+        set = ap (entries_of v) split ∙ entries_more v (map (row_of v) done) (row_of v e) e sets
+            ∙ ap (λ (xs : List Entry). xs ++ e ∷ []) w.set;
+      } in
+      subst AreWritten (append_assoc done (e ∷ []) es)
+      (write_more (done ++ e ∷ []) es more s.1 (All-tail IsInRange e es r)
+      (All-tail (FitsIn v) e es f))
 
-pub write_rows : (es : List Entry) → SoundAfter [] es → All IsInRange es → AreWritten es
-write_rows es s r =
-    let none : AreWritten [] = record { sound = λ k h. no_place k h; set = refl } in
-    write_more [] es none s r
+  pub write_rows : (es : List Entry) → SoundAfter [] es → All IsInRange es → All (FitsIn v) es
+      → AreWritten es
+  write_rows es s r f =
+      let none : AreWritten [] = record { sound = λ k h. no_place k h; set = refl } in
+      write_more [] es none s r f

@@ -1,5 +1,5 @@
 -- The columns of a row, and the numbers, prices and names in them.
-use Rattle.std.specs.Prelude.{ℕ, List, [], length, unwrap_or, Bool, true, false}
+use Rattle.std.specs.Prelude.{ℕ, List, [], length, unwrap_or, Bool, true, false, codes, not}
 use Rattle.std.specs.Prelude.{Result, Ok, Err, ◌==◌, ◌&&◌, ◌||◌, if◌then◌else◌, nat_le}
 use Rattle.std.specs.List.{list_all}
 use Rattle.std.specs.Char.{is_ascii_digit}
@@ -7,6 +7,7 @@ use Rattle.std.specs.Str.Parse.{digits_value}
 use Rattle.csv.specs.Records.{field_at}
 use Rattle.fix_fields.specs.Numbers.{price_of, id_of}
 use Rattle.fix_fields.specs.declared.number.Spelling.{Spelling}
+use Rattle.limit_table.specs.Kinds.{same_text}
 use Rattle.limit_table.specs.declared.columns.Columns.{Columns}
 use Rattle.limit_table.specs.declared.kind.Kind.{Kind}
 use Rattle.limit_table.specs.declared.kind.Kind.TheVariants as kind
@@ -17,7 +18,7 @@ use Rattle.limit_table.specs.declared.kind.Cause.TheVariants as cause
 abbrev pub column : List (List ℕ) → ℕ → List ℕ
 column fields place = unwrap_or (field_at fields place) []
 
--- the texts of a row's six columns
+-- the texts of a row's columns: six, and in version 2 the mode behind them
 pub record Texts : Type 0 where
   pub kind : List ℕ
   pub name : List ℕ
@@ -25,8 +26,9 @@ pub record Texts : Type 0 where
   pub low : List ℕ
   pub high : List ℕ
   pub size : List ℕ
+  pub mode : List ℕ
 
--- the first six columns of a row
+-- the columns of a row, by name: the mode is empty where there are only six
 abbrev pub columns_of : List (List ℕ) → Texts
 columns_of fields = record {
   kind = column fields 0;
@@ -35,6 +37,7 @@ columns_of fields = record {
   low = column fields 3;
   high = column fields 4;
   size = column fields 5;
+  mode = column fields 6;
 }
 
 -- the texts to which columns point
@@ -46,6 +49,7 @@ texts_in row = record {
   low = row.low.now;
   high = row.high.now;
   size = row.size.now;
+  mode = row.mode.now;
 }
 
 -- a row of this kind has a name
@@ -68,6 +72,16 @@ has_band kind.Quota = false
 has_band kind.Repeat = false
 has_band kind.Off = false
 
+-- a row of this kind has a mode
+abbrev pub has_mode : Kind → Bool
+has_mode kind.Firm = false
+has_mode kind.Account = true
+has_mode kind.Symbol = false
+has_mode kind.Trip = false
+has_mode kind.Quota = false
+has_mode kind.Repeat = false
+has_mode kind.Off = false
+
 -- nothing stands in the column
 abbrev pub is_empty : List ℕ → Bool
 is_empty text = length text == 0
@@ -77,6 +91,19 @@ abbrev pub are_blank : Kind → Texts → Bool
 are_blank k row =
     (has_name k || is_empty row.name)
     && (has_band k || (is_empty row.low && is_empty row.high && is_empty row.size))
+    && (has_mode k || is_empty row.mode)
+
+-- an account with this mode is net
+abbrev pub is_net : List ℕ → Bool
+is_net text = same_text text (codes "net")
+
+-- a mode: nothing, `gross` or `net`
+abbrev pub is_mode : List ℕ → Bool
+is_mode text = is_empty text || same_text text (codes "gross") || is_net text
+
+-- the mode that a row of this kind has is one
+abbrev pub is_mode_of : Kind → Texts → Bool
+is_mode_of k row = not (has_mode k) || is_mode row.mode
 
 -- 1 to 12 digits
 abbrev pub is_number : List ℕ → Bool

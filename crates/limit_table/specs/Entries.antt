@@ -2,7 +2,10 @@
 use Rattle.std.specs.Prelude.{ℕ, List, length, Option, Some, None, not, Result, Ok, Err}
 use Rattle.std.specs.Prelude.{◌==◌, if◌then◌else◌}
 use Rattle.limit_table.specs.Columns.{Texts, columns_of, are_blank, number_in, price_in, name_in}
+use Rattle.limit_table.specs.Columns.{is_net, is_mode_of}
 use Rattle.limit_table.specs.Kinds.{kind_named}
+use Rattle.limit_table.specs.Versions.{column_count}
+use Rattle.limit_table.specs.declared.version.Version.{Version}
 use Rattle.limit_table.specs.declared.kind.Kind.{Kind}
 use Rattle.limit_table.specs.declared.kind.Kind.TheVariants as kind
 use Rattle.limit_table.specs.declared.kind.Entry.{Entry}
@@ -45,7 +48,7 @@ abbrev pub account_in : Texts → Result Entry Cause
 account_in row = do
   limit ← number_in 0 amount_most row.limit
   name ← name_in row.name
-  Ok (entry.Account (record { name = name; limit = limit }))
+  Ok (entry.Account (record { name = name; limit = limit; net = is_net row.mode }))
 
 -- the columns of a symbol
 abbrev pub symbol_in : Texts → Result Entry Cause
@@ -80,13 +83,17 @@ entry_by kind.Quota row = count_in 1 quota_most (λ count. entry.Quota count) ro
 entry_by kind.Repeat row = count_in 0 repeat_most (λ count. entry.Repeat count) row
 entry_by kind.Off row = off_in row
 
--- the columns of a row whose first column names this kind
+-- the columns of a row whose first column names this kind: its mode, what is to be empty, and the
+-- rest, in this order
 abbrev pub entry_named : Option Kind → Texts → Result Entry Cause
 entry_named None row = Err cause.Kind
-entry_named (Some k) row = if not (are_blank k row) then Err cause.RowShape else entry_by k row
+entry_named (Some k) row =
+    if not (is_mode_of k row) then Err cause.Kind
+    else if not (are_blank k row) then Err cause.RowShape
+    else entry_by k row
 
--- what a row sets, or the first thing that is wrong with it by itself
-abbrev pub entry_of : List (List ℕ) → Result Entry Cause
-entry_of fields =
-    if not (length fields == 6) then Err cause.RowShape
+-- what a row of a file of this version sets, or the first thing that is wrong with it by itself
+abbrev pub entry_of : Version → List (List ℕ) → Result Entry Cause
+entry_of version fields =
+    if not (length fields == column_count version) then Err cause.RowShape
     else entry_named (kind_named (columns_of fields).kind) (columns_of fields)

@@ -5,6 +5,7 @@ use Rattle.std.specs.List.{list_any}
 use Rattle.std.specs.Result.{result_ok}
 use Rattle.limit_table.specs.Kinds.{kind_of, name_of, same_kind, same_name, is_crossed, rows_most}
 use Rattle.limit_table.specs.Entries.{entry_of, ◌>>=◌}
+use Rattle.limit_table.specs.declared.version.Version.{Version}
 use Rattle.limit_table.specs.declared.kind.Entry.{Entry}
 use Rattle.limit_table.specs.declared.kind.Cause.{Cause}
 use Rattle.limit_table.specs.declared.kind.Cause.TheVariants as cause
@@ -35,15 +36,16 @@ unless_fault entry None = Ok entry
 unless_fault entry (Some c) = Err c
 
 -- what a row sets after rows that set these, or the first thing that is wrong with it
-abbrev pub row_after : List Entry → List (List ℕ) → Result Entry Cause
-row_after earlier fields = do
-  entry ← entry_of fields
+abbrev pub row_after : Version → List Entry → List (List ℕ) → Result Entry Cause
+row_after version earlier fields = do
+  entry ← entry_of version fields
   unless_fault entry (entry_fault earlier entry)
 
 -- what the rows set that are sound by themselves
-abbrev pub entries_of : List (List (List ℕ)) → List Entry
-entries_of rows = filter_map (λ row. result_ok (entry_of row)) rows
+abbrev pub entries_of : Version → List (List (List ℕ)) → List Entry
+entries_of version rows = filter_map (λ row. result_ok (entry_of version row)) rows
 
 -- the row at a place from 0, after the rows before it
-abbrev pub row_at : List (List (List ℕ)) → ℕ → Result Entry Cause
-row_at rows place = row_after (entries_of (take place rows)) (get_or rows place [])
+abbrev pub row_at : Version → List (List (List ℕ)) → ℕ → Result Entry Cause
+row_at version rows place =
+    row_after version (entries_of version (take place rows)) (get_or rows place [])

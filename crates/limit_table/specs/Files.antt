@@ -6,6 +6,8 @@ use Rattle.csv.specs.declared.parser.State.{State}
 use Rattle.csv.specs.declared.parser.State.TheVariants as state
 use Rattle.limit_table.specs.Faults.{entries_of, row_at, row_after}
 use Rattle.limit_table.specs.Tables.{limits_of, firm_of}
+use Rattle.limit_table.specs.Versions.{version_of, body_of}
+use Rattle.limit_table.specs.declared.version.Version.{Version}
 use Rattle.limit_table.specs.declared.kind.Entry.{Entry}
 use Rattle.limit_table.specs.declared.kind.Cause.{Cause}
 use Rattle.limit_table.specs.declared.kind.Cause.TheVariants as cause
@@ -27,9 +29,9 @@ BeginsWithRows bytes rows =
 abbrev pub AreRows : List ℕ → List (List (List ℕ)) → Type 0
 AreRows bytes rows = AreRecords default_config state.StartRecord (strip_bom bytes) rows
 
--- nothing is wrong with any of the rows
-abbrev pub AreSound : List (List (List ℕ)) → Type 0
-AreSound rows = (place : ℕ) → place < length rows → IsOk (row_at rows place)
+-- nothing is wrong with any of the rows in a file of this version
+abbrev pub AreSound : Version → List (List (List ℕ)) → Type 0
+AreSound version rows = (place : ℕ) → place < length rows → IsOk (row_at version rows place)
 
 -- the fault with this cause in the row with this number, from 1
 abbrev pub fault_at : ℕ → Cause → LimitFault
@@ -41,12 +43,16 @@ fault_at row cause.Repeated = fault.Repeated row
 fault_at row cause.TooMany = fault.TooMany row
 fault_at row cause.Band = fault.Band row
 
+-- these rows of a file, but the one that tells its version, are sound and set these
+pub record SetEntries (rows : List (List (List ℕ))) (entries : List Entry) : Type 0 where
+  pub sound : AreSound (version_of rows) (body_of rows)
+  pub set : entries ≡ entries_of (version_of rows) (body_of rows)
+
 -- the text is sound rows, which set these
 pub record HoldsEntries (bytes : List ℕ) (entries : List Entry) : Type 0 where
   pub rows : List (List (List ℕ))
   pub all : AreRows bytes rows
-  pub sound : AreSound rows
-  pub set : entries ≡ entries_of rows
+  pub sets : SetEntries rows entries
 
 -- a limit file sets these
 abbrev pub AreOfFile : List Entry → Type 0
@@ -60,15 +66,21 @@ pub record IsLimitFile (bytes : List ℕ) (limits : Limits) : Type 0 where
   pub holds : HoldsEntries bytes entries
   pub set : limits_of entries ≡ Some limits
 
--- the fault is that of a row after sound rows
-pub record IsRowFault (bytes : List ℕ) (why : LimitFault) : Type 0 where
+-- the fault is that of the last of these rows, after sound ones
+pub record IsLastFault (rows : List (List (List ℕ))) (why : LimitFault) : Type 0 where
   pub earlier : List (List (List ℕ))
   pub row : List (List ℕ)
-  pub begins : BeginsWithRows bytes (earlier ++ row ∷ [])
-  pub sound : AreSound earlier
+  pub last : body_of rows ≡ earlier ++ row ∷ []
+  pub sound : AreSound (version_of rows) earlier
   pub wrong : Cause
-  pub cause : row_after (entries_of earlier) row ≡ Err wrong
-  pub fault : why ≡ fault_at (length earlier + 1) wrong
+  pub cause : row_after (version_of rows) (entries_of (version_of rows) earlier) row ≡ Err wrong
+  pub fault : why ≡ fault_at (length rows) wrong
+
+-- the text begins with rows, of which the last has this fault
+pub record IsRowFault (bytes : List ℕ) (why : LimitFault) : Type 0 where
+  pub rows : List (List (List ℕ))
+  pub begins : BeginsWithRows bytes rows
+  pub last : IsLastFault rows why
 
 -- the fault is that the text is longer than a limit file
 pub record IsTooLong (bytes : List ℕ) (why : LimitFault) : Type 0 where

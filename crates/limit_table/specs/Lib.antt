@@ -1,10 +1,12 @@
 pub mod Kinds
 pub mod Columns
+pub mod Versions
 pub mod Entries
 pub mod Faults
 pub mod Places
 pub mod Tables
 pub mod Files
+pub mod RowsSoFar
 pub mod Printing
 pub mod Ranges
 pub mod FileLimits

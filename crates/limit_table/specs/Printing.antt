@@ -1,21 +1,28 @@
 -- The rows that are written for limits, and their text.
 use Rattle.std.specs.Prelude.{◌≡◌, ℕ, ◌+◌, ◌/◌, ◌%◌, List, [], ◌∷◌, ◌++◌, map, codes, decimal}
-use Rattle.std.specs.Prelude.{Option, Some, None, false, Vec}
-use Rattle.std.specs.List.{flat_map}
+use Rattle.std.specs.Prelude.{Option, Some, None, false, Vec, Bool, take, if◌then◌else◌}
+use Rattle.std.specs.List.{flat_map, list_any}
 use Rattle.csv.specs.Writing.{row_text, default_writer, text_written, writer_setup, fields_written}
 use Rattle.csv.specs.Writing.{has_written}
 use Rattle.csv.specs.declared.writer.Writer.{Writer}
 use Rattle.limit_table.specs.declared.kind.Entry.{Entry}
 use Rattle.limit_table.specs.declared.kind.Entry.TheVariants as entry
+use Rattle.limit_table.specs.Versions.{column_count}
+use Rattle.limit_table.specs.declared.version.Version.{Version}
+use Rattle.limit_table.specs.declared.version.Version.TheVariants as version
 use Rattle.limit_table.specs.declared.limits.Limits.{Limits}
 
--- the columns of a row of one number
+-- the seven columns of a row of one number
 abbrev pub count_row : List ℕ → ℕ → List (List ℕ)
-count_row kind count = kind ∷ [] ∷ decimal count ∷ [] ∷ [] ∷ [] ∷ []
+count_row kind count = kind ∷ [] ∷ decimal count ∷ [] ∷ [] ∷ [] ∷ [] ∷ []
 
--- the columns of a row of a name and one number
-abbrev pub named_row : List ℕ → List ℕ → ℕ → List (List ℕ)
-named_row kind name count = kind ∷ name ∷ decimal count ∷ [] ∷ [] ∷ [] ∷ []
+-- the seven columns of a row of a name, one number and a mode
+abbrev pub named_row : List ℕ → List ℕ → ℕ → List ℕ → List (List ℕ)
+named_row kind name count mode = kind ∷ name ∷ decimal count ∷ [] ∷ [] ∷ [] ∷ mode ∷ []
+
+-- the mode of an account, which is empty where it is gross
+abbrev pub mode_text : Bool → List ℕ
+mode_text net = if net then codes "net" else []
 
 -- ten-thousandths in a currency unit
 abbrev pub price_unit : ℕ
@@ -30,17 +37,35 @@ four_digits n =
 abbrev pub price_text : ℕ → List ℕ
 price_text price = decimal (price / price_unit) ++ 46 ∷ four_digits (price % price_unit)
 
--- the six columns of a row that sets this
-abbrev pub row_of : Entry → List (List ℕ)
-row_of (entry.Firm limit) = count_row (codes "firm") limit
-row_of (entry.Account row) = named_row (codes "account") row.name row.limit
-row_of (entry.Symbol row) =
+-- the seven columns of a row that sets this
+abbrev pub seven_of : Entry → List (List ℕ)
+seven_of (entry.Firm limit) = count_row (codes "firm") limit
+seven_of (entry.Account row) = named_row (codes "account") row.name row.limit (mode_text row.net)
+seven_of (entry.Symbol row) =
     codes "symbol" ∷ row.name ∷ decimal row.limit ∷ price_text row.low ∷ price_text row.high
-    ∷ decimal row.size ∷ []
-row_of (entry.Trip count) = count_row (codes "trip") count
-row_of (entry.Quota count) = count_row (codes "quota") count
-row_of (entry.Repeat count) = count_row (codes "repeat") count
-row_of (entry.Off row) = named_row (codes "off") row.name row.from
+    ∷ decimal row.size ∷ [] ∷ []
+seven_of (entry.Trip count) = count_row (codes "trip") count
+seven_of (entry.Quota count) = count_row (codes "quota") count
+seven_of (entry.Repeat count) = count_row (codes "repeat") count
+seven_of (entry.Off row) = named_row (codes "off") row.name row.from []
+
+-- the columns of a row that sets this in a file of this version
+abbrev pub row_of : Version → Entry → List (List ℕ)
+row_of version set = take (column_count version) (seven_of set)
+
+-- the row that tells version 2
+abbrev pub version_row : List (List ℕ)
+version_row = codes "version" ∷ codes "2" ∷ [] ∷ [] ∷ [] ∷ [] ∷ [] ∷ []
+
+-- the rows that tell the version: version 1 has none
+abbrev pub version_rows : Version → List (List (List ℕ))
+version_rows version.One = []
+version_rows version.Two = version_row ∷ []
+
+-- the version in which limits are written: 2 exactly where an account is net
+abbrev pub written_version : Limits → Version
+written_version limits =
+    if list_any (λ row. row.net) limits.accounts then version.Two else version.One
 
 -- the row that trips the halt, if there is one
 abbrev pub trip_rows : Option ℕ → List Entry
@@ -58,12 +83,19 @@ entries_in limits =
     ∷ map (λ row. entry.Off row) limits.off))))
 
 -- the text of a row, as `csv` writes its columns: quoted where need be, and ended by a line feed
-abbrev pub text_of : Entry → List ℕ
-text_of set = row_text default_writer (row_of set)
+abbrev pub text_of : Version → Entry → List ℕ
+text_of version set = row_text default_writer (row_of version set)
+
+-- the text of the rows that tell the version
+abbrev pub version_text : Version → List ℕ
+version_text version.One = []
+version_text version.Two = row_text default_writer version_row
 
 -- the text of the rows, one after the other
 abbrev pub file_text : Limits → List ℕ
-file_text limits = flat_map text_of (entries_in limits)
+file_text limits =
+    let version = written_version limits in
+    version_text version ++ flat_map (text_of version) (entries_in limits)
 
 -- the writer has written this text, and stands at the start of a row
 pub record HasText {Z : Type 0} (writer : Writer (Vec ℕ Z)) (text : List ℕ) : Type 0 where

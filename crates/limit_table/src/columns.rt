@@ -6,12 +6,13 @@ ghost use Rattle.std.specs.Str.Parse.{digits_value};
 ghost use Rattle.csv.specs.Records.{fields_of};
 ghost use Rattle.limit_table.specs.Columns.{column, columns_of, texts_in, is_number, number_in};
 ghost use Rattle.limit_table.specs.Columns.{price_in, name_in, are_blank, has_name, has_band};
+ghost use Rattle.limit_table.specs.Columns.{has_mode, is_net, is_mode, is_mode_of};
 
 use crate::kind::{Cause, Kind};
 use csv::ByteRecord;
 use fix_fields::{Id, read_price};
 
-/// The texts of a row's six columns.
+/// The texts of a row's columns: six, and in version 2 the mode behind them.
 #[derive(Clone, Copy)]
 pub(crate) struct Columns<'a> {
     pub kind: &'a [u8],
@@ -20,10 +21,11 @@ pub(crate) struct Columns<'a> {
     pub low: &'a [u8],
     pub high: &'a [u8],
     pub size: &'a [u8],
+    pub mode: &'a [u8],
 }
 
 /// The text of the column at a place from 0, which is empty where there is none.
-fn column(fields: &ByteRecord, place: usize) -> &[u8]
+pub(crate) fn column(fields: &ByteRecord, place: usize) -> &[u8]
     ensures { result.now ≡ column (fields_of fields.now) place }
 {
     match fields.get(place) {
@@ -32,7 +34,7 @@ fn column(fields: &ByteRecord, place: usize) -> &[u8]
     }
 }
 
-/// The texts of a row's six columns.
+/// The texts of a row's columns.
 pub(crate) fn split_columns(fields: &ByteRecord) -> Columns<'_>
     ensures { texts_in result ≡ columns_of (fields_of fields.now) }
 {
@@ -43,6 +45,7 @@ pub(crate) fn split_columns(fields: &ByteRecord) -> Columns<'_>
         low: column(fields, 3),
         high: column(fields, 4),
         size: column(fields, 5),
+        mode: column(fields, 6),
     }
 }
 
@@ -60,12 +63,41 @@ fn has_band(kind: Kind) -> bool
     matches!(kind, Kind::Symbol)
 }
 
+/// Whether a row of this kind has a mode.
+fn has_mode(kind: Kind) -> bool
+    ensures { result ≡ has_mode kind }
+{
+    matches!(kind, Kind::Account)
+}
+
+/// Whether an account with this mode is net.
+pub(crate) fn is_net(mode: &[u8]) -> bool
+    ensures { result ≡ is_net mode.now }
+{
+    mode == b"net".as_slice()
+}
+
+/// Whether the text is a mode: nothing, `gross` or `net`.
+fn is_mode(text: &[u8]) -> bool
+    ensures { result ≡ is_mode text.now }
+{
+    text.is_empty() || text == b"gross".as_slice() || is_net(text)
+}
+
+/// Whether the mode that a row of this kind has is one.
+pub(crate) fn is_mode_of(kind: Kind, row: &Columns<'_>) -> bool
+    ensures { result ≡ is_mode_of kind (texts_in row.now) }
+{
+    !has_mode(kind) || is_mode(row.mode)
+}
+
 /// Whether the columns that a row of this kind leaves empty are empty.
 pub(crate) fn are_blank(kind: Kind, row: &Columns<'_>) -> bool
     ensures { result ≡ are_blank kind (texts_in row.now) }
 {
     (has_name(kind) || row.name.is_empty())
         && (has_band(kind) || row.low.is_empty() && row.high.is_empty() && row.size.is_empty())
+        && (has_mode(kind) || row.mode.is_empty())
 }
 
 /// Whether each byte is a decimal digit.

@@ -7,9 +7,11 @@ ghost use Rattle.limit_table.specs.Entries.{entry_of, entry_by, symbol_in, accou
 ghost use Rattle.limit_table.specs.Faults.{entry_fault, same_key, count_alike, row_after};
 
 use crate::columns::{
-    Columns, are_blank, read_band_price, read_count, read_name, read_number, split_columns,
+    Columns, are_blank, is_mode_of, is_net, read_band_price, read_count, read_name, read_number,
+    split_columns,
 };
 use crate::kind::{AccountRow, Cause, Entry, Kind, OffRow, SymbolRow, find_kind};
+use crate::version::Version;
 use csv::ByteRecord;
 
 /// The largest limit in currency units.
@@ -36,7 +38,8 @@ fn read_account(row: &Columns<'_>) -> Result<Entry, Cause>
 {
     let limit = read_number(row.limit, 0, AMOUNT_MOST)?;
     let name = read_name(row.name)?;
-    Ok(Entry::Account(AccountRow { name, limit }))
+    let net = is_net(row.mode);
+    Ok(Entry::Account(AccountRow { name, limit, net }))
 }
 
 /// The columns of a symbol.
@@ -81,17 +84,20 @@ fn read_by(kind: Kind, row: &Columns<'_>) -> Result<Entry, Cause>
     }
 }
 
-/// What a row sets, looked at by itself.
-fn read_entry(fields: &ByteRecord) -> Result<Entry, Cause>
-    ensures { result ≡ entry_of (fields_of fields.now) }
+/// What a row of a file of this version sets, looked at by itself.
+fn read_entry(version: Version, fields: &ByteRecord) -> Result<Entry, Cause>
+    ensures { result ≡ entry_of version (fields_of fields.now) }
 {
-    if fields.len() != 6 {
+    if fields.len() != version.column_count() {
         return Err(Cause::RowShape);
     }
     let columns = split_columns(fields);
     let Some(kind) = find_kind(columns.kind) else {
         return Err(Cause::Kind);
     };
+    if !is_mode_of(kind, &columns) {
+        return Err(Cause::Kind);
+    }
     if !are_blank(kind, &columns) {
         return Err(Cause::RowShape);
     }
@@ -128,10 +134,14 @@ fn find_fault(earlier: &[Entry], entry: &Entry) -> Option<Cause>
 }
 
 /// What a row sets after the rows before, or what is wrong with it.
-pub(crate) fn read_row(earlier: &[Entry], fields: &ByteRecord) -> Result<Entry, Cause>
-    ensures { result ≡ row_after earlier.now (fields_of fields.now) }
+pub(crate) fn read_row(
+    version: Version,
+    earlier: &[Entry],
+    fields: &ByteRecord,
+) -> Result<Entry, Cause>
+    ensures { result ≡ row_after version earlier.now (fields_of fields.now) }
 {
-    let entry = read_entry(fields)?;
+    let entry = read_entry(version, fields)?;
     match find_fault(earlier, &entry) {
         Some(cause) => Err(cause),
         None => Ok(entry),

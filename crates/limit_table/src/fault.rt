@@ -7,9 +7,10 @@ use crate::kind::Cause;
 /// Why a limit file is refused. Rows are counted from 1.
 #[derive(Clone, Copy, Debug, PartialEq, Eq)]
 pub enum LimitFault {
-    /// The row hasn't six columns, or a column is filled that its kind leaves empty.
+    /// The row hasn't as many columns as the file's version asks for, or a column is filled that its
+    /// kind leaves empty.
     RowShape(u32),
-    /// The row's first column names no kind.
+    /// The row's first column names no kind, or the mode of an account is none.
     Kind(u32),
     /// A number or a price in the row isn't spelled as one, or is out of its range.
     Number(u32),

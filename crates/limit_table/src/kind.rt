@@ -11,6 +11,8 @@ use fix_fields::Id;
 pub struct AccountRow {
     pub name: Id,
     pub limit: u64,
+    /// Whether what it bought and what it sold in a symbol offset each other.
+    pub net: bool,
 }
 
 /// A symbol with its limit in currency units, its lowest and highest price in ten-thousandths of a

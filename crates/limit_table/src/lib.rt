@@ -3,7 +3,8 @@
 //!
 //! A limit file is read as comma-separated values. Each row sets one limit: of the firm, of an
 //! account or of a symbol, or one of the settings of a run. A file is refused for the first fault
-//! of its first row with one.
+//! of its first row with one. A file of version 2 says so in its first row, and tells of each account
+//! whether it is net.
 #![tactic(auto)]
 
 mod columns;
@@ -19,6 +20,8 @@ mod places;
 mod price;
 mod printing;
 mod reading;
+mod so_far;
+mod version;
 
 pub use fault::LimitFault;
 pub use kind::{AccountRow, OffRow, SymbolRow};
@@ -32,3 +35,5 @@ pub use reading::read_limits;
 mod print_tests;
 #[cfg(test)]
 mod tests;
+#[cfg(test)]
+mod version_tests;

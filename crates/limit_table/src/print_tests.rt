@@ -6,7 +6,7 @@ use std::test::*;
 /// A text that is read, and what is printed for its limits.
 type Printed = (&'static str, &'static [u8], &'static [u8]);
 
-const PRINTED: [Printed; 11] = [
+const PRINTED: [Printed; 13] = [
     (
         "the firm alone",
         b"firm,,0007,,,",
@@ -65,6 +65,18 @@ const PRINTED: [Printed; 11] = [
         "blanks in names",
         b"firm,,1,,,\naccount, ,1,,,\naccount, A B ,1,,,\n",
         b"firm,,1,,,\naccount, ,1,,,\naccount, A B ,1,,,\nquota,,50000,,,\nrepeat,,0,,,\n",
+    ),
+    (
+        "an account that is net",
+        b"version,2,,,,,\nfirm,,5000,,,,\naccount,ACC,100000,,,,net\naccount,B,1,,,,gross\n\
+        symbol,XYZ,100000,1,12,100000,\n",
+        b"version,2,,,,,\nfirm,,5000,,,,\naccount,ACC,100000,,,,net\naccount,B,1,,,,\n\
+        symbol,XYZ,100000,1.0000,12.0000,100000,\nquota,,50000,,,,\nrepeat,,0,,,,\n",
+    ),
+    (
+        "version 2 with no account that is net",
+        b"version,2,,,,,\nfirm,,1,,,,\naccount,A,2,,,,gross\n",
+        b"firm,,1,,,\naccount,A,2,,,\nquota,,50000,,,\nrepeat,,0,,,\n",
     ),
     (
         "a number sign, and the name of a kind",

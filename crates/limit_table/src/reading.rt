@@ -3,11 +3,11 @@ ghost use Rattle.std.specs.Prelude.{◌≡◌, ◌≢◌, ◌≤◌, IfOk, IfErr
 ghost use Rattle.limit_table.specs.Files.{IsLimitFile, IsFirstFault, HoldsEntries, IsRowFault};
 ghost use Rattle.limit_table.specs.declared.fault.LimitFault.TheVariants as fault;
 
-use crate::entry::read_row;
-use crate::fault::{LimitFault, fault_in};
+use crate::fault::LimitFault;
 use crate::kind::Entry;
 use crate::limits::Limits;
 use crate::making::make_limits;
+use crate::so_far::SoFar;
 use csv::ReaderBuilder;
 use std::alloc::Global;
 
@@ -23,21 +23,17 @@ fn read_entries(alloc: Global, bytes: &[u8]) -> Result<Vec<Entry>, LimitFault>
         .has_headers(false)
         .flexible(true)
         .from_reader(alloc, bytes);
-    let mut entries = Vec::new(alloc);
+    let mut so_far = SoFar::new(alloc);
     for row in reader.into_byte_records() {
         let Ok(fields) = row else {
             return Err(LimitFault::Memory);
         };
-        match read_row(entries.as_slice(), &fields) {
-            Ok(entry) => {
-                if entries.push(entry).is_err() {
-                    return Err(LimitFault::Memory);
-                }
-            }
-            Err(cause) => return Err(fault_in(entries.len() as u32 + 1, cause)),
+        match so_far.take(&fields) {
+            Ok(()) => {}
+            Err(fault) => return Err(fault),
         }
     }
-    Ok(entries)
+    Ok(so_far.into_entries())
 }
 
 /// The limits of a file, or the first fault of a text that isn't one.

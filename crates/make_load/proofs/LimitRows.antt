@@ -8,6 +8,7 @@ use Rattle.csv.specs.Records.{field_at}
 use Rattle.csv.specs.declared.parser.State.TheVariants as state
 use Rattle.limit_table.specs.Faults.{row_at, entries_of}
 use Rattle.limit_table.specs.Files.{AreRows, AreSound, IsLimitFile}
+use Rattle.limit_table.specs.Versions.{version_of, body_of}
 use Rattle.make_load.specs.Loads.{limit_text}
 use Rattle.make_load.specs.LoadLimits.{load_limits}
 
@@ -36,7 +37,7 @@ are_rows = (state.StartRecord, [], (_, refl, refl, (_, refl, refl, (_, refl, ref
 -- each of the first so many rows is sound
 abbrev all_sound : ℕ → Bool
 all_sound zero = true
-all_sound (suc n) = is_ok (row_at rows n) && all_sound n
+all_sound (suc n) = is_ok (row_at (version_of rows) rows n) && all_sound n
 
 split_and : (a b : Bool) → (a && b) ≡ true → (a ≡ true) × (b ≡ true)
 split_and true true h = (refl, refl)
@@ -44,14 +45,14 @@ split_and true false h = absurd cc
 split_and false b h = absurd cc
 
 is_sound : (n : ℕ) → all_sound n ≡ true → (place : ℕ) → place < n
-    → is_ok (row_at rows place) ≡ true
+    → is_ok (row_at (version_of rows) rows place) ≡ true
 is_sound zero all place below = absurd (omega arith)
 is_sound (suc n) all place below =
-    let both = split_and (is_ok (row_at rows n)) (all_sound n) all in
-    below_more (λ k. is_ok (row_at rows k) ≡ true) n (is_sound n both.1) both.0 place
+    let both = split_and (is_ok (row_at (version_of rows) rows n)) (all_sound n) all in
+    below_more (λ k. is_ok (row_at (version_of rows) rows k) ≡ true) n (is_sound n both.1) both.0 place
     (omega (arith, below))
 
-are_sound : AreSound rows
+are_sound : AreSound (version_of rows) (body_of rows)
 unfolding field_at
 are_sound = λ place below. is_sound 14 refl place below
 
@@ -60,7 +61,11 @@ pub limits_are_set : IsLimitFile limit_text load_limits
 unfolding field_at
 limits_are_set = record {
   few = omega arith;
-  entries = entries_of rows;
-  holds = record { rows = rows; all = are_rows; sound = are_sound; set = refl };
+  entries = entries_of (version_of rows) (body_of rows);
+  holds = record {
+    rows = rows;
+    all = are_rows;
+    sets = record { sound = are_sound; set = refl };
+  };
   set = refl;
 }

@@ -1,12 +1,12 @@
 -- The limits of every load.
-use Rattle.std.specs.Prelude.{ℕ, List, [], ◌∷◌, codes, map, None}
+use Rattle.std.specs.Prelude.{ℕ, List, [], ◌∷◌, codes, map, None, false}
 use Rattle.limit_table.specs.declared.limits.Limits.{Limits}
 use Rattle.limit_table.specs.declared.kind.AccountRow.{AccountRow}
 use Rattle.limit_table.specs.declared.kind.SymbolRow.{SymbolRow}
 
 -- the limits of an account of a load
 abbrev pub load_account : List ℕ → AccountRow
-load_account name = record { name = name; limit = 800000 }
+load_account name = record { name = name; limit = 800000; net = false }
 
 -- the limits of a symbol of a load: prices from 1 to 100, and 1,000 shares an order
 abbrev pub load_symbol : List ℕ → SymbolRow

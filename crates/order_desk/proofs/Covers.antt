@@ -43,6 +43,7 @@ first_covers limits = record {
   backs = record {
     accounts = refl;
     symbols = refl;
+    nets = refl;
     placed = All-nil (IsPlaced (length limits.accounts) (length limits.symbols));
     trees = λ tree inside. record {
       within = omega (arith, value_in-none limits tree);
@@ -116,14 +117,16 @@ kept_backed limits acts after book changed tree was kept same = record {
 -- the acts keep what is posted in each tree of sums, and the orders are worth the same there
 pub covers_kept : (limits : LimitsValue) (acts after : List Act) (book next : BookValue)
     → Covers limits acts book → next.accounts ≡ book.accounts → next.symbols ≡ book.symbols
+    → next.nets ≡ book.nets
     → All (IsPlaced next.accounts next.symbols) next.orders
     → ((tree : ℕ) → tree < halt_tree limits → KeepsTree tree acts after)
     → ((tree : ℕ) → value_in limits tree next.orders ≡ value_in limits tree book.orders)
     → AdmitsLast limits after → Covers limits after next
-covers_kept limits acts after book next covers accounts symbols placed kept same admits = record {
+covers_kept limits acts after book next covers accounts symbols nets placed kept same admits = record {
   backs = record {
     accounts = accounts ∙ covers.backs.accounts;
     symbols = symbols ∙ covers.backs.symbols;
+    nets = nets ∙ covers.backs.nets;
     placed = placed;
     trees = λ tree inside.
         kept_backed limits acts after book next tree (covers.backs.trees tree inside)
@@ -136,7 +139,7 @@ covers_kept limits acts after book next covers accounts symbols placed kept same
 pub covers_noted : (limits : LimitsValue) (acts : List Act) (book : BookValue) (act : Act)
     → IsNoCall act → Covers limits acts book → Covers limits (acts ++ act ∷ []) book
 covers_noted limits acts book act none covers =
-    covers_kept limits acts (acts ++ act ∷ []) book book covers refl refl covers.backs.placed
+    covers_kept limits acts (acts ++ act ∷ []) book book covers refl refl refl covers.backs.placed
     (λ tree inside. noted_keeps tree acts act none) (λ tree. refl)
     (noted_admits limits acts act none covers.admitted)
 
@@ -144,7 +147,7 @@ covers_noted limits acts book act none covers =
 pub covers_tripped : (limits : LimitsValue) (value : ℕ) (acts : List Act) (book : BookValue)
     → Covers limits acts book → Covers limits (with_post (halt_tree limits) value acts) book
 covers_tripped limits value acts book covers =
-    covers_kept limits acts (with_post (halt_tree limits) value acts) book book covers refl refl
+    covers_kept limits acts (with_post (halt_tree limits) value acts) book book covers refl refl refl
     covers.backs.placed (λ tree below. tripped_keeps limits value tree acts below) (λ tree. refl)
     (tripped_admits limits value acts covers.admitted)
 
@@ -184,6 +187,7 @@ module _ (limits : LimitsValue) (legs : List Leg) (before : Tape) (P : Asked →
 module _ (limits : LimitsValue) (rows : OrderRows) (are : AreRowsOf limits rows) (values : List ℕ)
     (acts : List Act) (book next : BookValue) (covers : Covers limits acts book)
     (accounts : next.accounts ≡ book.accounts) (symbols : next.symbols ≡ book.symbols)
+    (nets : next.nets ≡ book.nets)
     (placed : All (IsPlaced next.accounts next.symbols) next.orders)
     (told : Tells limits rows values book.orders next.orders) where
   abbrev legs : List Leg
@@ -248,6 +252,7 @@ module _ (limits : LimitsValue) (rows : OrderRows) (are : AreRowsOf limits rows)
   backed_by after keeps posts = record {
     accounts = accounts ∙ covers.backs.accounts;
     symbols = symbols ∙ covers.backs.symbols;
+    nets = nets ∙ covers.backs.nets;
     placed = placed;
     trees = λ tree inside.
         by_leg after next keeps others_same posts tree inside (leg_in tree legs) refl;
@@ -347,6 +352,7 @@ module _ (limits : LimitsValue) (rows : OrderRows) (are : AreRowsOf limits rows)
       backs = record {
         accounts = covers.backs.accounts;
         symbols = covers.backs.symbols;
+        nets = covers.backs.nets;
         placed = covers.backs.placed;
         trees = λ tree inside.
             by_leg (fold post_old posted legs).acts book

@@ -16,7 +16,7 @@ use Rattle.exposure_book.specs.declared.order.Order.{Order}
 use Rattle.exposure_book.specs.declared.pending.Pending.{Pending}
 use Rattle.exposure_book.specs.declared.pending.Pending.TheVariants as pending
 use Rattle.exposure_book.specs.Books.{BookValue, place_of, proposal_of, order_at, order_with}
-use Rattle.exposure_book.specs.Books.{pair_of_order}
+use Rattle.exposure_book.specs.Books.{pair_of_order, with_orders}
 use Rattle.exposure_book.specs.Commits.{with_new, named, with_request, with_replace_in}
 use Rattle.exposure_book.specs.Commits.{replaced_at, with_replace_pending, with_cancel}
 use Rattle.exposure_book.specs.Commits.{cancel_at, with_cancel_pending}
@@ -35,7 +35,7 @@ use Rattle.admit_core.specs.declared.rows.OrderRows.{OrderRows}
 use Rattle.admit_core.specs.Legs.{Leg, AreRowsOf, legs_of}
 use Rattle.admit_core.specs.Tapes.{Tape, tape}
 use Rattle.limit_table.specs.Trees.{LimitsValue}
-use Rattle.order_desk.specs.Backing.{Covers}
+use Rattle.order_desk.specs.Backing.{Backs, Covers}
 use Rattle.order_desk.specs.Decisions.{Decision, cancel_by, cancel_decided, is_above_last, new_next}
 use Rattle.order_desk.specs.Decisions.{decided_on, new_screened, replace_screened, taken_up}
 use Rattle.order_desk.specs.Decisions.{tree_decided}
@@ -51,7 +51,8 @@ use Rattle.order_desk.proofs.Offered.{replace_offer_is}
 use Rattle.order_desk.proofs.Offered.{order_is_placed, rows_by}
 use Rattle.order_desk.proofs.TreeValues.{value_in-account, value_in-symbol, value_in-push_le}
 use Rattle.order_desk.proofs.TreeValues.{value_in-push_other, value_in-set_ge, value_in-set_le}
-use Rattle.order_desk.proofs.TreeValues.{value_in-set_other, IsOtherTree}
+use Rattle.order_desk.proofs.TreeValues.{value_in-set_other, IsOtherTree, firm_for, account_for}
+use Rattle.order_desk.proofs.TreeValues.{symbol_for}
 
 -- a decision leaves its book covered
 abbrev IsCovered : LimitsValue → Decision → Type 0
@@ -71,20 +72,25 @@ chosen true own given fault is = cc
 chosen false own given fault is = absurd cc
 
 -- the values of what is proposed, by the other orders
-proposal_tells : (limits : LimitsValue) (rows : OrderRows) (values : Proposal)
-    (orders next : List Order) → AreRowsOf limits rows
-    → proposal_of next rows.account rows.symbol ≡ values
-    → ((tree : ℕ) → IsOtherTree limits rows.account rows.symbol tree
-    → value_in limits tree next ≡ value_in limits tree orders)
-    → Tells limits rows (values_of values) orders next
-proposal_tells limits rows values orders next are is others = record {
-  firm = sym (ap (λ (v : Proposal). v.firm) is);
-  account = sym (ap (λ (v : Proposal). v.account) is)
-      ∙ sym (value_in-account limits rows.account next are.account);
-  symbol = sym (ap (λ (v : Proposal). v.symbol) is)
-      ∙ sym (value_in-symbol limits rows.symbol next);
-  others = others;
-}
+module _ (limits : LimitsValue) (acts : List Act) (book : BookValue)
+    (backs : Backs limits acts book) where
+  proposal_tells : (rows : OrderRows) (values : Proposal) (next : List Order)
+      → AreRowsOf limits rows
+      → proposal_of (with_orders next book) rows.account rows.symbol ≡ values
+      → ((tree : ℕ) → IsOtherTree limits rows.account rows.symbol tree
+      → value_in limits tree next ≡ value_in limits tree book.orders)
+      → Tells limits rows (values_of values) book.orders next
+  proposal_tells rows values next are is others = record {
+    firm = sym (ap (λ (v : Proposal). v.firm) is)
+        ∙ firm_for limits book next backs.accounts backs.symbols backs.nets;
+    account = sym (ap (λ (v : Proposal). v.account) is)
+        ∙ account_for limits book next backs.accounts backs.symbols backs.nets rows.account
+        ∙ sym (value_in-account limits rows.account next are.account);
+    symbol = sym (ap (λ (v : Proposal). v.symbol) is)
+        ∙ symbol_for limits book next backs.accounts backs.symbols backs.nets rows.symbol
+        ∙ sym (value_in-symbol limits rows.symbol next);
+    others = others;
+  }
 
 -- an order (D)
 module _ (limits : LimitsValue) (order : NewOrder) (book : BookValue) (before : Tape)
@@ -101,19 +107,19 @@ module _ (limits : LimitsValue) (order : NewOrder) (book : BookValue) (before : 
       (tree_decided limits (offer_of_new limits order rows values) book (more rows) before)
   new_taken rows values is =
       let are = known_rows limits order rows is.found in
-      let proposed = proposal_of (more rows).orders rows.account rows.symbol in
+      let proposed = proposal_of (with_orders (more rows).orders book) rows.account rows.symbol in
       let within = passes (is_known book order.id) fault.Duplicate (capped proposed) values
       is.proposed in
-      covers_asked limits rows are (values_of values) before.acts book (more rows) covers refl refl
+      covers_asked limits rows are (values_of values) before.acts book (more rows) covers refl refl refl
       (All-push (IsPlaced book.accounts book.symbols) book.orders (one rows) covers.backs.placed
       (record {
         account = subst (λ n. rows.account < n) (sym covers.backs.accounts) are.account;
         symbol = subst (λ n. rows.symbol < n) (sym covers.backs.symbols) are.symbol;
       }))
-      (proposal_tells limits rows values book.orders (more rows).orders are
+      (proposal_tells limits before.acts book covers.backs rows values (more rows).orders are
       (chosen (is_within_cap proposed) proposed values fault.Cap within.1)
       (λ tree other. value_in-push_other limits tree book.orders (one rows) other))
-      before.reads (λ tree. value_in-push_le limits tree book.orders (one rows))
+      before.reads (λ tree. value_in-push_le limits tree book.orders (one rows) refl)
 
 pub new_covers : (limits : LimitsValue) (order : NewOrder) (screens : List ScreenValue)
     (book : BookValue) (before : Tape) → Covers limits before.acts book
@@ -203,7 +209,7 @@ module _ (limits : LimitsValue) (book : BookValue) (before : Tape)
       → Covers limits before.acts (next_book request.id (pending.Cancel request.id))
   cancel_covers_on request =
       covers_kept limits before.acts before.acts book
-      (next_book request.id (pending.Cancel request.id)) covers refl refl
+      (next_book request.id (pending.Cancel request.id)) covers refl refl refl
       (next_placed (pending.Cancel request.id)) (λ tree inside. record { posts = refl; last = refl })
       (λ tree.
       let less = value_in-set_le limits tree book.orders place on.order
@@ -224,7 +230,8 @@ module _ (limits : LimitsValue) (book : BookValue) (before : Tape)
   }
 
   module _ (request : Replace) (values : Proposal)
-      (told : proposal_of (slice_set book.orders place (with_replace request limits on.order))
+      (told : proposal_of
+      (with_orders (slice_set book.orders place (with_replace request limits on.order)) book)
       on.order.account on.order.symbol ≡ values) where
     abbrev asks : Pending
     asks = (with_replace request limits on.order).pending
@@ -239,9 +246,10 @@ module _ (limits : LimitsValue) (book : BookValue) (before : Tape)
 
     tells : Tells limits own_rows (values_of values) book.orders replaced.orders
     tells =
-        proposal_tells limits own_rows values book.orders replaced.orders are_rows told
+        proposal_tells limits before.acts book covers.backs own_rows values replaced.orders are_rows
+        told
         (λ tree other. value_in-set_other limits tree book.orders place on.order (next_order asks)
-        on.found refl refl other)
+        on.found refl refl refl other)
 
     replace_taken : (above : Bool)
         → is_above_last (legs_of limits own_rows before.acts (values_of values)) ≡ above
@@ -249,11 +257,11 @@ module _ (limits : LimitsValue) (book : BookValue) (before : Tape)
         book replaced before)
     replace_taken true is =
         covers_asked limits own_rows are_rows (values_of values) before.acts book replaced covers refl
-        refl (next_placed asks) tells before.reads raised
+        refl refl (next_placed asks) tells before.reads raised
     replace_taken false is =
         let legs = legs_of limits own_rows before.acts (values_of values) in
         covers_at_once limits own_rows are_rows (values_of values) before.acts book replaced covers refl
-        refl (next_placed asks) tells
+        refl refl (next_placed asks) tells
         (All-weaker (λ leg. nat_lt leg.old leg.new ≡ false) (λ leg. leg.new ≤ leg.old)
         (λ leg none. not_less leg.old leg.new none) legs
         (none_passes (λ (leg : Leg). nat_lt leg.old leg.new) legs is)) raised
@@ -283,7 +291,7 @@ cancel_covers limits request book before covers =
 replace_told : (limits : LimitsValue) (request : Replace) (book : BookValue) (place : ℕ)
     (order : Order) (values : Proposal)
     → replace_of book request limits place (Some order) ≡ Ok values
-    → proposal_of (slice_set book.orders place (with_replace request limits order))
+    → proposal_of (with_orders (slice_set book.orders place (with_replace request limits order)) book)
     order.account order.symbol ≡ values
 replace_told limits request book place order values is =
     let other = passes (not (is_of_order request limits order)) fault.Mismatch _ values is in

@@ -1,5 +1,5 @@
 -- What keeps a desk one of its limits.
-use Rattle.std.proofs.Common.{◌≡◌, length}
+use Rattle.std.proofs.Common.{◌≡◌}
 use Rattle.limit_table.specs.Trees.{LimitsValue}
 use Rattle.exposure_book.specs.Books.{BookValue, empty_book}
 use Rattle.admit_core.specs.Hands.{HandsValue, IsFresh}
@@ -9,7 +9,7 @@ use Rattle.order_desk.proofs.Covers.{first_covers}
 -- fresh hands and a book with no order
 pub first_desk : {H M : Type 0} (limits : LimitsValue) (sum : H) (halt : M)
     (hands : HandsValue H M) (book : BookValue) → IsFresh limits sum halt hands
-    → book ≡ empty_book (length limits.accounts) (length limits.symbols)
+    → book ≡ empty_book limits
     → IsDesk limits hands book
 first_desk limits sum halt hands book fresh book_is = record {
   over = fresh.over;

@@ -24,7 +24,7 @@ use Rattle.order_desk.specs.Values.{values_told, rows_told}
 use Rattle.order_desk.proofs.Covers.{Tells, covers_lowered, lower_legs}
 use Rattle.order_desk.proofs.Offered.{order_is_placed}
 use Rattle.order_desk.proofs.TreeValues.{value_in-account, value_in-symbol, value_in-set_le}
-use Rattle.order_desk.proofs.TreeValues.{value_in-set_other}
+use Rattle.order_desk.proofs.TreeValues.{value_in-set_other, firm_for, account_for, symbol_for}
 
 -- a settled report leaves its book covered
 abbrev IsCovered : LimitsValue → Settled → Type 0
@@ -41,7 +41,7 @@ module _ (limits : LimitsValue) (acts : List Act) (book : BookValue)
   after = record book { orders = orders }
 
   abbrev pub terms : Terms3
-  terms = terms_of orders next
+  terms = terms_of after next
 
   own_placed : IsPlaced book.accounts book.symbols next
   own_placed =
@@ -59,11 +59,17 @@ module _ (limits : LimitsValue) (acts : List Act) (book : BookValue)
 
   told : Tells limits (rows_told terms) (values_told terms) book.orders orders
   told = record {
-    firm = refl;
-    account = sym (value_in-account limits next.account orders are_rows.account);
-    symbol = sym (value_in-symbol limits next.symbol orders);
+    firm = firm_for limits book orders covers.backs.accounts covers.backs.symbols covers.backs.nets;
+    account =
+        account_for limits book orders covers.backs.accounts covers.backs.symbols covers.backs.nets
+        next.account
+        ∙ sym (value_in-account limits next.account orders are_rows.account);
+    symbol =
+        symbol_for limits book orders covers.backs.accounts covers.backs.symbols covers.backs.nets
+        next.symbol
+        ∙ sym (value_in-symbol limits next.symbol orders);
     others = λ tree other. value_in-set_other limits tree book.orders place old next found
-        lowers.account lowers.symbol other;
+        lowers.account lowers.symbol lowers.side other;
   }
 
   placed : All (IsPlaced book.accounts book.symbols) orders
@@ -75,14 +81,14 @@ module _ (limits : LimitsValue) (acts : List Act) (book : BookValue)
       (legs_of limits (rows_told terms) acts (values_told terms))
   less =
       lower_legs limits (rows_told terms) are_rows (values_told terms) acts book after covers refl
-      refl placed told
+      refl refl placed told
       (λ tree. value_in-set_le limits tree book.orders place old next found lowers)
 
   pub applied_covers : IsCovered limits
       (settled limits book acts (outcome_with book place (Some next)))
   applied_covers =
       covers_lowered limits (rows_told terms) are_rows (values_told terms) acts book after covers
-      refl refl placed told less
+      refl refl refl placed told less
 
 -- what a report or a cancel reject comes to on a covered book
 module _ (limits : LimitsValue) (acts : List Act) (book : BookValue)

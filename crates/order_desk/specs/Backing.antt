@@ -1,6 +1,6 @@
 -- How what is posted stands to what the orders of a book are worth.
 use Rattle.std.specs.Prelude.{◌≡◌, ℕ, ◌≤◌, ◌<◌, List, length, All}
-use Rattle.exposure_book.specs.Books.{BookValue}
+use Rattle.exposure_book.specs.Books.{BookValue, nets_of}
 use Rattle.exposure_book.specs.Totals.{IsPlaced}
 use Rattle.risk_journal.specs.declared.acts.Act.{Act}
 use Rattle.risk_journal.specs.ActLists.{posts_in, last_post}
@@ -19,6 +19,7 @@ pub record IsBacked (limits : LimitsValue) (acts : List Act) (book : BookValue) 
 pub record Backs (limits : LimitsValue) (acts : List Act) (book : BookValue) : Type 0 where
   pub accounts : book.accounts ≡ length limits.accounts
   pub symbols : book.symbols ≡ length limits.symbols
+  pub nets : book.nets ≡ nets_of limits
   pub placed : All (IsPlaced book.accounts book.symbols) book.orders
   pub trees : (tree : ℕ) → tree < halt_tree limits → IsBacked limits acts book tree
 

@@ -221,8 +221,7 @@ fn run<K: Screen>(
     let Ok(hands) = Hands::open(alloc, limits, sum, board.hand(0)) else {
         return Err("memory")?;
     };
-    let (accounts, symbols) = (limits.accounts().len(), limits.symbols().len());
-    let book = Book::new(alloc, accounts as u32, symbols as u32)?;
+    let book = Book::new(alloc, limits)?;
     let mut screens = set;
     arm_all(
         &mut screens,

@@ -20,7 +20,7 @@ use Rattle.session_engine.specs.Session.{LimitsValue, SessionValue, opening, aft
 abbrev limits_of : ℕ → ℕ → LimitsValue
 limits_of firm symbol = record {
   firm = firm;
-  accounts = record { name = codes "ACC"; limit = 100000 } ∷ [];
+  accounts = record { name = codes "ACC"; limit = 100000; net = false } ∷ [];
   symbols =
       record { name = codes "XYZ"; limit = symbol; low = 10000; high = 120000; size = 100000 }
       ∷ record { name = codes "ABC"; limit = 100000; low = 10000; high = 120000; size = 100000 }

@@ -245,11 +245,7 @@ pub fn run_session<H: Hand, M: Hand, S: Source, V: Sink, C: Sink, G: Gate>(
         Ok(own) => own,
         Err(ended) => return without_frames(ended, source, venue, client),
     };
-    let (accounts, symbols) = (
-        limits.accounts().len() as u32,
-        limits.symbols().len() as u32,
-    );
-    let book = match Book::new(alloc, accounts, symbols) {
+    let book = match Book::new(alloc, limits) {
         Ok(book) => book,
         Err(_) => return without_frames(own.end(End::Memory), source, venue, client),
     };

@@ -4,7 +4,7 @@ pub returns-in-Firm : goal.returns-in-Firm
 returns-in-Firm c = rw c.in-Firm.is c.write_count.ensures
 
 pub returns-in-Account : goal.returns-in-Account
-returns-in-Account c = rw c.in-Account.is c.write_named.ensures
+returns-in-Account c = rw c.in-Account.is c.write_account.ensures
 
 pub returns-in-Symbol : goal.returns-in-Symbol
 returns-in-Symbol c = rw c.in-Symbol.is c.write_symbol.ensures
@@ -21,4 +21,4 @@ returns-in-Repeat c =
     rw c.in-Repeat.is (rw c.from-in-Repeat.ensures at c.write_count-in-Repeat.ensures)
 
 pub returns-in-Off : goal.returns-in-Off
-returns-in-Off c = rw c.in-Off.is (rw c.from-in-Off.ensures at c.write_named-in-Off.ensures)
+returns-in-Off c = rw c.in-Off.is c.write_off.ensures

@@ -1,6 +1,5 @@
 use Rattle.std.proofs.Common.{◌≡◌, ◌∙◌, [], length, refl, sym, ap, inl, inr, true}
 use Rattle.std.proofs.Common.{arith, rules}
-use Rattle.std.specs.Result.{is_ok}
 use Rattle.csv.specs.Records.{fields_of}
 use Rattle.limit_table.proofs.SoFar.{before_first_row, few_so_far, all_read, row_read, fault_read}
 use Rattle.limit_table.proofs.reading.read_entries.Goals as goal
@@ -18,53 +17,33 @@ loop-row-init c =
       inr (inr (rw (made, named) at from.has_headers, from.headers)),
       c.into_byte_records-row-items.ensures.left,
       before_first_row _ _ _ (rw (made, named) at from.config ∙ c.new.ensures.config)
-          from.source from.state c.new-entries.ensures.items,
+          from.source from.state c.new-so_far.ensures,
     )
 
-pub overflow_cast-len : goal.overflow_cast-len
-overflow_cast-len c =
-    omega (
-      arith,
-      few_so_far _ _ _ c.loop-row.invariant.3,
-      c.len.ensures,
-      c.as_slice.ensures.len,
-      ap length c.as_slice.ensures.value,
-    )
-
-pub overflow_add-len : goal.overflow_add-len
-overflow_add-len c =
-    omega (
-      arith,
-      few_so_far _ _ _ c.loop-row.invariant.3,
-      c.len.ensures,
-      c.as_slice.ensures.len,
-      ap length c.as_slice.ensures.value,
-    )
+pub take-requires : goal.take-requires
+take-requires c = record { few = few_so_far _ _ _ c.loop-row.invariant.3 }
 
 -- the row has a fault
 pub returns-in-Err-clause-refused : goal.returns-in-Err-clause-refused
-returns-in-Err-clause-refused c = λ _.
+returns-in-Err-clause-refused c = λ other.
     let inv = c.loop-row.invariant in
     let s = rw (c.in-Some.is, c.in-Ok.is) at ((c.next.ensures.steps inv.2 inv.0).0 inv.1) in
-    let wrong = rw c.as_slice.ensures.value at (sym c.read_row.ensures ∙ c.in-Err.is) in
-    let size = c.len.ensures ∙ sym c.as_slice.ensures.len ∙ ap length c.as_slice.ensures.value in
-    rw (c.fault_in.ensures, size) (fault_read c.args.bytes.now c.loop-row.row-iterator.rdr c.next.new.self.rdr
-    c.loop-row.entries.items (fields_of c.in-Ok.fields) c.in-Err.cause inv.3 s.0 wrong)
+    let refused = c.in-Err.ensures.refused inv.3.rows inv.3.stands other in
+    fault_read c.args.bytes.now c.loop-row.row-iterator.rdr c.next.new.self.rdr
+    c.loop-row.so_far _ _ inv.3 s.0 refused
 
 -- the row is sound
 pub loop-row-preserved : goal.loop-row-preserved
 loop-row-preserved c =
     let inv = c.loop-row.invariant in
     let s = rw (c.in-Some.is, c.in-Ok.is) at ((c.next.ensures.steps inv.2 inv.0).0 inv.1) in
-    let set = rw c.as_slice.ensures.value at (sym c.read_row.ensures ∙ c.in-Ok-read_row.is) in
-    let good : is_ok c.push.result ≡ true = search rules in
-    let items = rw good at c.push.ensures.items in
-    (s.0.3 ∙ inv.0, inl s.1, s.2, rw items (row_read _ _ _ _ _ _ inv.3 s.0 s.0.2 set))
+    let taken = c.in-Ok-take.ensures.taken inv.3.rows inv.3.stands in
+    (s.0.3 ∙ inv.0, inl s.1, s.2, row_read _ _ _ _ _ _ inv.3 s.0 s.0.2 taken)
 
 -- there is no further row
 pub returns-clause-read : goal.returns-clause-read
 returns-clause-read c =
     let inv = c.loop-row.invariant in
     let s = rw c.in-None.is at ((c.next.ensures.steps inv.2 inv.0).0 inv.1) in
-    all_read c.args.bytes.now c.loop-row.row-iterator.rdr c.next.new.self.rdr
-    c.loop-row.entries.items [] inv.3 s
+    rw c.into_entries.ensures (all_read c.args.bytes.now c.loop-row.row-iterator.rdr c.next.new.self.rdr
+    c.loop-row.so_far [] inv.3 s)

@@ -8,4 +8,4 @@ use Rattle.limit_table.proofs.reading.read_entries.Given as goal
 abbrev pub invariant-loop-row : goal.invariant-loop-row
 invariant-loop-row l =
     (l.row-iterator.rdr.trim ≡ trim.None) × Ready l.row-iterator.rdr × (0 < l.row-iterator.left)
-    × IsSoFar l.fn.bytes l.row-iterator.rdr l.entries.items
+    × IsSoFar l.fn.bytes l.row-iterator.rdr l.so_far

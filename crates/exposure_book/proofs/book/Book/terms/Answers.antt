@@ -1,44 +1,19 @@
-use Rattle.std.proofs.Common.{◌<◌, length, subst, sym, arith}
-use Rattle.exposure_book.specs.Books.{BookInMemory}
-use Rattle.exposure_book.proofs.Kept.{account-le, symbol-le, index_is}
+use Rattle.std.proofs.Common.{◌≡◌, subst, sym}
+use Rattle.exposure_book.specs.Books.{BookInMemory, terms_of}
+use Rattle.exposure_book.specs.Totals.{IsPlaced}
+use Rattle.exposure_book.proofs.Kept.{terms_are, terms_by}
 use Rattle.exposure_book.proofs.book.Book.terms.Goals as goal
 
-pub units-requires-2 : goal.units-requires-2
-units-requires-2 c =
-    let below : c.args.order.now.account < length c.self.inside.accounts.items =
-    subst (λ (b : BookInMemory). c.args.order.now.account < b.value.accounts) (sym c.self.view_is)
-    c.requires.account in
-    let is = index_is c.self.inside.accounts.items c.args.order.now.account c.index.result.now
-    below c.index.ensures in
-    let most = account-le _ _ _ _ _ c.self.invariant c.args.order.now.account below in
-    omega arith
-
-pub overflow_cast-result-2 : goal.overflow_cast-result-2
-overflow_cast-result-2 c =
-    let below : c.args.order.now.account < length c.self.inside.accounts.items =
-    subst (λ (b : BookInMemory). c.args.order.now.account < b.value.accounts) (sym c.self.view_is)
-    c.requires.account in
-    let is = index_is c.self.inside.accounts.items c.args.order.now.account c.index.result.now
-    below c.index.ensures in
-    let most = account-le _ _ _ _ _ c.self.invariant c.args.order.now.account below in
-    omega (arith, c.units-2.ensures)
-
-pub units-requires-3 : goal.units-requires-3
-units-requires-3 c =
-    let below : c.args.order.now.symbol < length c.self.inside.symbols.items =
-    subst (λ (b : BookInMemory). c.args.order.now.symbol < b.value.symbols) (sym c.self.view_is)
-    c.requires.symbol in
-    let is = index_is c.self.inside.symbols.items c.args.order.now.symbol c.index-2.result.now
-    below c.index-2.ensures in
-    let most = symbol-le _ _ _ _ _ c.self.invariant c.args.order.now.symbol below in
-    omega arith
-
-pub overflow_cast-result-3 : goal.overflow_cast-result-3
-overflow_cast-result-3 c =
-    let below : c.args.order.now.symbol < length c.self.inside.symbols.items =
-    subst (λ (b : BookInMemory). c.args.order.now.symbol < b.value.symbols) (sym c.self.view_is)
-    c.requires.symbol in
-    let is = index_is c.self.inside.symbols.items c.args.order.now.symbol c.index-2.result.now
-    below c.index-2.ensures in
-    let most = symbol-le _ _ _ _ _ c.self.invariant c.args.order.now.symbol below in
-    omega (arith, c.units-3.ensures)
+pub returns : goal.returns
+returns c =
+    let orders = c.self.inside.orders.items in
+    let ids = c.self.inside.ids.entries in
+    let table = c.self.inside.table in
+    let placed = subst (λ (b : BookInMemory).
+    IsPlaced b.value.accounts b.value.symbols c.args.order.now) (sym c.self.view_is) c.requires in
+    subst (λ (b : BookInMemory).
+    terms_by c.args.order.now c.units.result c.units-2.result c.units-3.result
+    ≡ terms_of b.value c.args.order.now) c.self.view_is
+    (terms_are orders ids table c.self.invariant.has c.args.order.now placed c.sums-sums.result
+    c.units.result c.units-2.result c.units-3.result c.sums-sums.ensures.value c.units.ensures
+    c.units-2.ensures c.units-3.ensures)

@@ -1,80 +1,46 @@
-use Rattle.std.proofs.Common.{◌≡◌, subst, sym, Some}
-use Rattle.std.proofs.Common.{slice_get, ◌∙◌}
-use Rattle.exposure_book.specs.Books.{BookInMemory}
-use Rattle.exposure_book.proofs.Kept.{index_is, firm_has_order, account_has_order, symbol_has_order}
-use Rattle.exposure_book.proofs.Kept.{next_account, next_symbol, values_by}
+use Rattle.std.proofs.Common.{◌≡◌, ◌<◌, subst, sym, Some, slice_get, set, ◌∙◌}
+use Rattle.exposure_book.specs.Books.{BookInMemory, proposal_of, with_orders}
+use Rattle.exposure_book.specs.Proposals.{capped}
+use Rattle.exposure_book.specs.Totals.{most_left}
+use Rattle.exposure_book.proofs.Kept.{pair_has, values_set}
+use Rattle.exposure_book.proofs.Lowered.{beyond-set}
 use Rattle.exposure_book.proofs.book.Book.values_with.Goals as goal
 
-pub moved-requires-clause-part : goal.moved-requires-clause-part
-moved-requires-clause-part c =
-    let found : slice_get c.self.inside.orders.items c.args.place ≡ Some c.order.result =
-    subst (λ (b : BookInMemory). slice_get b.value.orders c.args.place ≡ Some c.order.result)
-    (sym c.self.view_is) c.order.ensures.found in
-    rw c.exposure-old.ensures.value
-    (firm_has_order _ _ _ _ _ c.self.invariant c.args.place c.order.result found)
+pub returns-then-left-gt-MOST_LEFT-clause-value : goal.returns-then-left-gt-MOST_LEFT-clause-value
+returns-then-left-gt-MOST_LEFT-clause-value c =
+    let book = c.args.self.now.value in
+    let asks = c.requires.asks in
+    let placed = c.requires.order.placed in
+    let large : most_left < c.left.result = c.if-left-gt-MOST_LEFT.true in
+    beyond-set book c.args.place c.args.old.now c.args.next.now c.requires.order.found asks.account
+    asks.symbol asks.side asks.filled (subst (λ n. n < book.accounts) (sym asks.account) placed.account)
+    (subst (λ n. n < book.symbols) (sym asks.symbol) placed.symbol) c.requires.order.whole
+    (subst (λ n. most_left < n) c.left.ensures large)
 
-pub moved-requires-2-clause-part : goal.moved-requires-2-clause-part
-moved-requires-2-clause-part c =
-    let found : slice_get c.self.inside.orders.items c.args.place ≡ Some c.order.result =
-    subst (λ (b : BookInMemory). slice_get b.value.orders c.args.place ≡ Some c.order.result)
-    (sym c.self.view_is) c.order.ensures.found in
-    let before : Some c.requires.place.before ≡ Some c.order.result =
-    sym c.requires.place.found ∙ c.order.ensures.found in
-    let own : c.args.next.now.account ≡ c.order.result.account = cc in
-    let own_symbol : c.args.next.now.symbol ≡ c.order.result.symbol = cc in
-    let below = next_account _ _ _ _ _ c.self.invariant c.args.place c.order.result found
-    c.args.next.now own own_symbol in
-    rw (
-      c.exposure-old.ensures.value,
-      index_is c.self.inside.accounts.items
-          c.args.next.now.account c.index.result.now below c.index.ensures,
-    )
-    (account_has_order _ _ _ _ _ c.self.invariant c.args.place c.order.result found
-    c.args.next.now.account own)
-
-pub moved-requires-3-clause-part : goal.moved-requires-3-clause-part
-moved-requires-3-clause-part c =
-    let found : slice_get c.self.inside.orders.items c.args.place ≡ Some c.order.result =
-    subst (λ (b : BookInMemory). slice_get b.value.orders c.args.place ≡ Some c.order.result)
-    (sym c.self.view_is) c.order.ensures.found in
-    let before : Some c.requires.place.before ≡ Some c.order.result =
-    sym c.requires.place.found ∙ c.order.ensures.found in
-    let own : c.args.next.now.symbol ≡ c.order.result.symbol = cc in
-    let own_account : c.args.next.now.account ≡ c.order.result.account = cc in
-    let below = next_symbol _ _ _ _ _ c.self.invariant c.args.place c.order.result found
-    c.args.next.now own_account own in
-    rw (
-      c.exposure-old.ensures.value,
-      index_is c.self.inside.symbols.items c.args.next.now.symbol
-          c.index-2.result.now below c.index-2.ensures,
-    )
-    (symbol_has_order _ _ _ _ _ c.self.invariant c.args.place c.order.result found
-    c.args.next.now.symbol own)
+pub changed-pair-requires-clause-has : goal.changed-pair-requires-clause-has
+changed-pair-requires-clause-has c =
+    let orders = c.self.inside.orders.items in
+    let ids = c.self.inside.ids.entries in
+    let table = c.self.inside.table in
+    let found : slice_get orders c.args.place ≡ Some c.args.old.now =
+    subst (λ (b : BookInMemory). slice_get b.value.orders c.args.place ≡ Some c.args.old.now)
+    (sym c.self.view_is) c.requires.order.found in
+    let asks = c.requires.asks in
+    pair_has orders table c.self.invariant.has c.args.place c.args.old.now c.args.next.now found
+    asks.account asks.symbol asks.side
 
 pub returns-clause-value : goal.returns-clause-value
 returns-clause-value c =
-    let found : slice_get c.self.inside.orders.items c.args.place ≡ Some c.order.result =
-    subst (λ (b : BookInMemory). slice_get b.value.orders c.args.place ≡ Some c.order.result)
-    (sym c.self.view_is) c.order.ensures.found in
-    let before : Some c.requires.place.before ≡ Some c.order.result =
-    sym c.requires.place.found ∙ c.order.ensures.found in
-    let own_account : c.args.next.now.account ≡ c.order.result.account = cc in
-    let own_symbol : c.args.next.now.symbol ≡ c.order.result.symbol = cc in
-    let below_account =
-    next_account _ _ _ _ _ c.self.invariant c.args.place c.order.result found c.args.next.now
-    own_account own_symbol in
-    let below_symbol =
-    next_symbol _ _ _ _ _ c.self.invariant c.args.place c.order.result found c.args.next.now
-    own_account own_symbol in
-    let account =
-    index_is c.self.inside.accounts.items c.args.next.now.account c.index.result.now
-    below_account c.index.ensures in
-    let symbol = index_is c.self.inside.symbols.items c.args.next.now.symbol c.index-2.result.now
-    below_symbol c.index-2.ensures in
-    let values = values_by _ _ _ _ _ c.self.invariant c.args.place c.order.result found
-    c.args.next.now own_account own_symbol
-    c.exposure-old.result c.exposure-new.result c.moved.result c.moved-2.result c.moved-3.result
-    c.index.result.now c.index-2.result.now c.exposure-old.ensures.value
-    c.exposure-new.ensures.value
-    c.moved.ensures.value account c.moved-2.ensures.value symbol c.moved-3.ensures.value in
-    rw (← c.self.view_is) (c.capped.ensures.value ∙ values)
+    let orders = c.self.inside.orders.items in
+    let ids = c.self.inside.ids.entries in
+    let table = c.self.inside.table in
+    let found : slice_get orders c.args.place ≡ Some c.args.old.now =
+    subst (λ (b : BookInMemory). slice_get b.value.orders c.args.place ≡ Some c.args.old.now)
+    (sym c.self.view_is) c.requires.order.found in
+    let asks = c.requires.asks in
+    let values = values_set orders table c.self.invariant.has c.args.place c.args.old.now
+    c.args.next.now found asks.account asks.symbol asks.side ids c.changed-pair.result
+    c.sums_with.result c.changed-pair.ensures.value c.sums_with.ensures.value in
+    subst (λ (b : BookInMemory). c.capped.result ≡ capped (proposal_of (with_orders
+    (set b.value.orders c.args.place c.args.next.now) b.value) c.args.next.now.account
+    c.args.next.now.symbol)) c.self.view_is (c.capped.ensures.value ∙ values)
