@@ -20,7 +20,7 @@ use Rattle.risk_journal.specs.declared.acts.Act.{Act}
 use Rattle.trail_replay.proofs.BlockLaws.{all-append}
 use Rattle.trail_replay.specs.Arrays.{AreLines}
 use Rattle.tree_check.specs.Agreeing.{CanBeChecked, stays_if, tree_agrees}
-use Rattle.tree_check.specs.Reads.{AreOf, own_reads, reads_by, reads_in}
+use Rattle.tree_check.specs.Reads.{AreOf, own_reads, reads_in}
 use Rattle.tree_check.specs.Staying.{IsOwn, stays_along}
 use Rattle.tree_check.specs.Walked.{are_walked}
 use Rattle.tree_check.specs.declared.agreeing.ToldTree.{ToldTree}

@@ -1,12 +1,11 @@
 -- The sessions of a load, one after another: their outputs are made beside inputs in memory.
-use Rattle.std.proofs.Common.{◌≡◌, ℕ, ◌+◌, ◌<◌, List, [], ◌∷◌, ◌++◌, length, map, take, drop, refl, sym, ap}
+use Rattle.std.proofs.Common.{◌≡◌, ℕ, ◌+◌, ◌<◌, List, [], ◌∷◌, ◌++◌, length, map, take, sym, ap}
 use Rattle.std.proofs.Common.{◌∙◌, arith, subst, inl, inr, get_or}
-use Rattle.std.proofs.Common.{Vec, Global, String, string_bytes}
+use Rattle.std.proofs.Common.{string_bytes}
 use Rattle.std.proofs.lemmas.List.{map-append}
 use Rattle.std.proofs.lemmas.Option.{get_or_from_slice_get}
 use Rattle.std.specs.Prelude.{Option, Some, None, IfSome, IsSome, slice_get}
 use Rattle.std.specs.Option.{option_map}
-use Rattle.std.specs.List.{range_with_len}
 use Rattle.gate_ports.specs.Names.{Texts, IsThere, MeansName}
 use Rattle.gate_program.specs.declared.names.Outputs.{Outputs}
 use Rattle.gate_program.specs.declared.status.Status.{Status}

@@ -2,9 +2,9 @@
 use Rattle.std.proofs.Common.{◌≡◌, ℕ, zero, suc, ◌+◌, ◌^◌, ◌<◌, ◌≤◌, List, [], ◌∷◌, ◌++◌, length, map}
 use Rattle.std.proofs.Common.{take, get_or, refl, sym, ap, ◌∙◌, subst, arith, Vec, Global}
 use Rattle.std.proofs.Common.{append_assoc, length-take}
-use Rattle.std.specs.Prelude.{Result, Ok, Err, OnOk, All}
+use Rattle.std.specs.Prelude.{Result, Ok, Err, All}
 use Rattle.std.specs.List.{AllZip, AllByRecursion, flat_map, enumerate_from}
-use Rattle.std.proofs.lemmas.List.{append-nil, map-append, length-map, take_more, take_all, get_or-map}
+use Rattle.std.proofs.lemmas.List.{append-nil, map-append, length-map, take_more, take_all}
 use Rattle.std.proofs.lemmas.List.Concat.{flat_map-append}
 use Rattle.std.proofs.lemmas.List.Elements.{recursion_from_All}
 use Rattle.risk_board.specs.declared.hand.Line.{Line}

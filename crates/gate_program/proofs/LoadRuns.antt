@@ -5,7 +5,7 @@ use Rattle.std.proofs.Common.{Vec, Global, String, string_bytes}
 use Rattle.std.proofs.lemmas.List.{length-map}
 use Rattle.std.proofs.lemmas.List.FromFn.{length-range_with_len}
 use Rattle.std.proofs.lemmas.Option.{slice_get_within}
-use Rattle.std.specs.Prelude.{false, Option, Some, None, slice_get, sum_by, ◌⊎◌}
+use Rattle.std.specs.Prelude.{Option, Some, slice_get, ◌⊎◌}
 use Rattle.std.specs.List.{AllByRecursion, range_with_len}
 use Rattle.gate_ports.specs.Names.{Texts}
 use Rattle.limit_table.proofs.OneAnswer.{not_both}
@@ -26,7 +26,7 @@ use Rattle.gate_program.specs.Objects.{ObjectsValue, HasCreated}
 use Rattle.gate_program.specs.Telling.{told_of}
 use Rattle.gate_program.specs.declared.told.Told.{Told}
 use Rattle.gate_program.specs.declared.told.Told.TheVariants as told
-use Rattle.gate_program.specs.Run.{PortsValue, set_of}
+use Rattle.gate_program.specs.Run.{set_of}
 use Rattle.gate_program.specs.Stages.{GivesNoLimits, HasUnmade}
 use Rattle.gate_program.specs.Statuses.{number_of, told_text}
 use Rattle.gate_program.specs.Words.{RunWords, session_most, venue_name}

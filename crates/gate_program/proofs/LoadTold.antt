@@ -6,7 +6,6 @@ use Rattle.make_load.specs.declared.summary.Asked.{Asked}
 use Rattle.session_engine.specs.Session.{armed_for}
 use Rattle.gate_program.specs.Gate.{IsTold}
 use Rattle.gate_program.specs.Loads.{LoadWent, input_of, load_run}
-use Rattle.gate_program.specs.Run.{PortsValue}
 use Rattle.gate_program.proofs.Ran.{shown}
 use Rattle.gate_program.proofs.Ways.{beside, end_beside, journal_beside, told_so}
 

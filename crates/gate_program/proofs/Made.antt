@@ -1,9 +1,8 @@
 -- A load whose sessions ran and were closed: what it did.
-use Rattle.std.proofs.Common.{◌≡◌, ◌≢◌, ℕ, ◌*◌, ◌≤◌, ◌<◌, List, [], ◌∷◌, length, map, refl, sym, ap, subst}
-use Rattle.std.proofs.Common.{◌∙◌, inl, inr, Bool, true, false, arith, zero, suc, replicate}
-use Rattle.std.proofs.lemmas.List.{length-map}
+use Rattle.std.proofs.Common.{◌≡◌, ℕ, ◌*◌, ◌≤◌, ◌<◌, List, [], ◌∷◌, length, refl, sym, ap, subst}
+use Rattle.std.proofs.Common.{◌∙◌, inl, inr, Bool, false, arith, suc}
 use Rattle.std.proofs.lemmas.Option.{slice_get_within}
-use Rattle.std.specs.Prelude.{Option, Some, None, IfSome, slice_get, ◌⊎◌}
+use Rattle.std.specs.Prelude.{Option, Some, None, slice_get, ◌⊎◌}
 use Rattle.std.specs.List.{list_any}
 use Rattle.fix_fields.specs.Frames.{FrameValue}
 use Rattle.fix_fields.specs.Found.{Splits}
@@ -12,7 +11,7 @@ use Rattle.gate_ports.specs.Faults.{Rose}
 use Rattle.gate_ports.specs.Names.{Texts}
 use Rattle.limit_table.specs.Files.{IsLimitFile}
 use Rattle.limit_table.specs.declared.limits.Limits.{Limits}
-use Rattle.make_load.specs.Loads.{limit_text, session_text, session_texts}
+use Rattle.make_load.specs.Loads.{limit_text, session_text}
 use Rattle.make_load.specs.declared.summary.Asked.{Asked}
 use Rattle.risk_journal.specs.declared.acts.Act.{Act}
 use Rattle.risk_journal.specs.declared.acts.End.{End}
@@ -25,13 +24,12 @@ use Rattle.gate_program.specs.CommandOf.{IsAsked}
 use Rattle.gate_program.specs.Finish.{HasEnded}
 use Rattle.gate_program.specs.Loads.{HasMade, LoadWent, counts_of, input_of, load_run}
 use Rattle.gate_program.specs.Objects.{ObjectsValue, HasCreated, HasDone}
-use Rattle.gate_program.specs.Run.{PortsValue, EndHolds, is_cut_short, is_memory, is_read_fault}
-use Rattle.gate_program.specs.Run.{set_of, standing_of}
-use Rattle.gate_program.specs.Telling.{Teller, told_of}
+use Rattle.gate_program.specs.Run.{EndHolds, is_cut_short, is_memory, is_read_fault}
+use Rattle.gate_program.specs.Run.{set_of}
+use Rattle.gate_program.specs.Telling.{told_of}
 use Rattle.gate_program.specs.WholeInputs.{IsWholeInput}
-use Rattle.gate_program.specs.Words.{RunWords}
 use Rattle.gate_program.proofs.Histories.{is_history, AdmissionLaws}
-use Rattle.gate_program.proofs.Lists.{map_at, mapped_at, there_is}
+use Rattle.gate_program.proofs.Lists.{there_is}
 use Rattle.gate_program.proofs.Ran.{silent, shown, told_bytes, session_holds, keeps_others, goes_on}
 use Rattle.gate_program.proofs.Ran.{journal_from}
 use Rattle.gate_program.proofs.Ways.{memory_or_run}
@@ -104,13 +102,13 @@ no_cut_ends limits screens before after bytes acts ending.Memory is whole done =
 no_cut_ends limits screens before after bytes acts ending.Whole is whole done = refl
 no_cut_ends limits screens before after bytes acts (ending.Cut place) is whole done =
     let same = cut_is_whole limits _ bytes acts (ending.Cut place) before.left _ _ _ _ is whole
-    (done.follows tt) in absurd cc
+    (done.follows.input tt) in absurd cc
 no_cut_ends limits screens before after bytes acts (ending.Broken place) is whole done =
     let same = cut_is_whole limits _ bytes acts (ending.Broken place) before.left _ _ _ _ is whole
-    (done.follows tt) in absurd cc
+    (done.follows.input tt) in absurd cc
 no_cut_ends limits screens before after bytes acts (ending.TooLong place) is whole done =
     let same = cut_is_whole limits _ bytes acts (ending.TooLong place) before.left _ _ _ _ is whole
-    (done.follows tt) in absurd cc
+    (done.follows.input tt) in absurd cc
 
 module _ {S : Type 0} (faults : S → ℕ) (none : (s : S) → faults s ≡ 0) (asked : Asked)
     (is_asked : IsAsked asked) (law : FilesLaw) (limits : Limits) (sets : List (List ScreenValue))

@@ -13,8 +13,11 @@ use Rattle.risk_journal.specs.declared.acts.Act.TheVariants.{Ended}
 use Rattle.risk_journal.specs.declared.acts.End.{End}
 use Rattle.risk_journal.specs.ActLists.{unplaced}
 use Rattle.screen_kit.specs.Screens.{ScreenValue}
-use Rattle.session_engine.specs.Follows.{FollowsSource, FollowsInput, EndsAs, EndsWith}
-use Rattle.gate_program.specs.Objects.{ObjectsValue, HasDone, HaveDone, AreCounts}
+use Rattle.session_engine.specs.Follows.{SinkValue}
+use Rattle.session_engine.specs.Follows.{FollowsSource, FollowsInput, IsByInput, StopsSource}
+use Rattle.session_engine.specs.Follows.{EndsAs, EndsWith}
+use Rattle.session_engine.specs.Session.{armed_for}
+use Rattle.gate_program.specs.Objects.{ObjectsValue, HasDone, HaveDone, AreCounts, venue_of, client_of}
 use Rattle.gate_program.specs.Telling.{Teller}
 use Rattle.gate_program.specs.Words.{RunWords}
 use Rattle.gate_program.specs.Run.{PortsValue, set_of}
@@ -28,6 +31,12 @@ pub record PlacesLaw : Type 0 where
       → map unplaced others ≡ map unplaced acts
       → FollowsInput limits screens bytes acts end venue client
       → FollowsInput limits screens bytes others end venue client
+  pub early : (limits : Limits) (screens : List ScreenValue) (acts others : List Act)
+      → map unplaced others ≡ map unplaced acts
+      → (left left_after : Option (List ℕ)) (end : End)
+      (venue venue_after client client_after : SinkValue)
+      → StopsSource limits screens left left_after acts end venue venue_after client client_after
+      → StopsSource limits screens left left_after others end venue venue_after client client_after
 
 -- an act that differs from the last one in a place alone is it
 ended_itself : (act : Act) (end : End) → unplaced act ≡ Ended end → act ≡ Ended end
@@ -85,9 +94,12 @@ one_alike : PlacesLaw → (limits : Limits) (screens : List ScreenValue) (before
     (placed acts : List Act) (end : End) → map unplaced placed ≡ map unplaced acts
     → HasDone limits screens before after acts end → HasDone limits screens before after placed end
 one_alike law limits screens before after placed acts end same done = record {
-  follows = λ by_input.
-      source_alike law limits _ before.left placed acts end before.venue_held after.venue_held
-      before.client_held after.client_held same (done.follows by_input);
+  follows = record {
+    input = λ by_input.
+        source_alike law limits _ before.left placed acts end before.venue_held after.venue_held
+        before.client_held after.client_held same (done.follows.input by_input);
+    early = early_alike done.follows.early;
+  };
   read = done.read;
   write = done.write;
   ends = end_alike placed acts end same done.ends;
@@ -95,6 +107,16 @@ one_alike law limits screens before after placed acts end same done = record {
   venue_name = done.venue_name;
   client_name = done.client_name;
 }
+  where
+    early_alike : (IsByInput end ⊎ StopsSource limits (armed_for limits screens) before.left
+        after.left acts end (venue_of before) (venue_of after) (client_of before)
+        (client_of after))
+        → IsByInput end ⊎ StopsSource limits (armed_for limits screens) before.left after.left
+        placed end (venue_of before) (venue_of after) (client_of before) (client_of after)
+    early_alike (inl by_input) = inl by_input
+    early_alike (inr stops) = inr (law.early limits (armed_for limits screens) acts placed same
+        before.left after.left end (venue_of before) (venue_of after) (client_of before)
+        (client_of after) stops)
 
 -- what all sessions did, with their sets of screens, they did with places too, with these sets
 pub done_alike : PlacesLaw → (limits : Limits) (sets others : List (List ScreenValue))

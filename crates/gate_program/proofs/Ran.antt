@@ -1,5 +1,5 @@
 -- Sessions that were opened, ran and were closed: what a run of them did.
-use Rattle.std.proofs.Common.{◌≡◌, ◌≢◌, ℕ, List, [], ◌∷◌, length, map, refl, sym, ap, subst}
+use Rattle.std.proofs.Common.{◌≡◌, ℕ, List, [], ◌∷◌, ◌++◌, length, map, refl, sym, ap, subst}
 use Rattle.std.proofs.Common.{◌∙◌}
 use Rattle.std.proofs.Common.{inl, inr, Bool, true, false, arith, suc, ◌≤◌}
 use Rattle.std.proofs.lemmas.List.{length-map}
@@ -15,17 +15,19 @@ use Rattle.risk_journal.specs.declared.acts.End.TheVariants as ending
 use Rattle.risk_journal.specs.JournalText.{journal_text}
 use Rattle.limit_table.specs.declared.limits.Limits.{Limits}
 use Rattle.screen_kit.specs.Screens.{ScreenValue}
+use Rattle.std.specs.Io.KnownBytes.{Consumes}
 use Rattle.session_engine.specs.Follows.{IsByInput, FollowsSource, FollowsInput, EndsAs, EndsWith}
+use Rattle.session_engine.specs.Follows.{StopsEarly, StopsSource}
 use Rattle.session_engine.specs.Session.{armed_for}
 use Rattle.gate_program.specs.Words.{RunWords, venue_name, client_name, journal_name, is_among}
 use Rattle.gate_program.specs.Words.{output_names}
-use Rattle.gate_program.specs.Run.{PortsValue, ReadRose, OutputRose, EndHolds, is_memory}
+use Rattle.gate_program.specs.Run.{PortsValue, ReadRose, WriteRose, OutputRose, EndHolds, is_memory}
 use Rattle.gate_program.specs.Run.{standing_of}
-use Rattle.gate_program.specs.Run.{FollowsText, session_name, set_of}
+use Rattle.gate_program.specs.Run.{FollowsText, StopsText, session_name, set_of}
 use Rattle.gate_program.specs.Gate.{HasRun, HasJournal, AreInputs, HasLimits}
 use Rattle.gate_program.specs.Totals.{totals_of}
 use Rattle.gate_program.specs.Objects.{ObjectsValue, AreNew, AreFresh, ChangesOutputs, HasDone}
-use Rattle.gate_program.specs.Objects.{HasOpened, HasCreated}
+use Rattle.gate_program.specs.Objects.{HasOpened, HasCreated, venue_of, client_of}
 use Rattle.gate_program.specs.Telling.{Teller}
 use Rattle.gate_program.specs.Objects.{HoldsOutputs}
 use Rattle.gate_program.specs.Finish.{HasEnded}
@@ -74,20 +76,31 @@ end_holds : (limits : Limits) (screens : List ScreenValue) (before after : Ports
     → (end ≡ ending.WriteFault → OutputRose before after run session)
     → EndsAs acts end
     → (IsByInput end → FollowsText limits screens after run session bytes acts end)
+    → (IsByInput end ⊎ StopsText limits screens before after run session bytes acts end)
     → EndHolds limits screens before after run session bytes acts end
-end_holds limits screens before after run n bytes acts ending.ReadFault read write ends follows =
-    (read refl, ends_with acts ending.ReadFault ends (λ is. cc))
-end_holds limits screens before after run n bytes acts ending.WriteFault read write ends follows =
-    (write refl, ends_with acts ending.WriteFault ends (λ is. cc))
-end_holds limits screens before after run n bytes acts ending.Memory read write ends follows = tt
-end_holds limits screens before after run n bytes acts ending.Whole read write ends follows =
+end_holds limits screens before after run n bytes acts ending.ReadFault read write ends follows
+    (inl by_input) = absurd by_input
+end_holds limits screens before after run n bytes acts ending.ReadFault read write ends follows
+    (inr stops) =
+    (read refl, ends_with acts ending.ReadFault ends (λ is. cc), stops)
+end_holds limits screens before after run n bytes acts ending.WriteFault read write ends follows
+    (inl by_input) = absurd by_input
+end_holds limits screens before after run n bytes acts ending.WriteFault read write ends follows
+    (inr stops) =
+    (write refl, ends_with acts ending.WriteFault ends (λ is. cc), stops)
+end_holds limits screens before after run n bytes acts ending.Memory read write ends follows early =
+    tt
+end_holds limits screens before after run n bytes acts ending.Whole read write ends follows early =
     follows tt
-end_holds limits screens before after run n bytes acts (ending.Cut place) read write ends follows =
+end_holds limits screens before after run n bytes acts (ending.Cut place) read write ends follows
+    early =
     follows tt
-end_holds limits screens before after run n bytes acts (ending.Broken place) read write ends follows =
+end_holds limits screens before after run n bytes acts (ending.Broken place) read write ends
+    follows early =
     follows tt
 end_holds limits screens before after run n bytes acts (ending.TooLong place) read write ends
-    follows = follows tt
+    follows early =
+    follows tt
 
 none_is_there : (text : Option (List ℕ)) → None ≡ text → IsSome text → ⊥
 none_is_there None is there = cc
@@ -137,6 +150,110 @@ follows_text limits screens run session count (Some old) (Some middle) (Some tex
             holds.to_client new.client_empty client_gets holds.client_told),
         input,
       )
+
+-- a sink's fault is one of its name
+stops_causes : (limits : Limits) (screens : List ScreenValue) (fetched : List ℕ) (acts : List Act)
+    (end : End) (venue client : List ℕ) (V C V' C' : Type 0) → (V → V') → (C → C')
+    → StopsEarly limits screens fetched acts end venue client V C
+    → StopsEarly limits screens fetched acts end venue client V' C'
+stops_causes limits screens fetched acts ending.ReadFault venue client V C V' C' v c stops = stops
+stops_causes limits screens fetched acts ending.Memory venue client V C V' C' v c stops = stops
+stops_causes limits screens fetched acts ending.Whole venue client V C V' C' v c stops = tt
+stops_causes limits screens fetched acts (ending.Cut place) venue client V C V' C' v c stops = tt
+stops_causes limits screens fetched acts (ending.Broken place) venue client V C V' C' v c stops = tt
+stops_causes limits screens fetched acts (ending.TooLong place) venue client V C V' C' v c stops = tt
+stops_causes limits screens fetched acts ending.WriteFault venue client V C V' C' v c stops = record {
+  behind = stops.behind;
+  failed = record { last = stops.failed.last; failed = which stops.failed.failed };
+}
+  where
+    which : {A B : Type 0} → ((V × A) ⊎ (C × B)) → ((V' × A) ⊎ (C' × B))
+    which (inl (failed, more)) = inl (v failed, more)
+    which (inr (failed, more)) = inr (c failed, more)
+
+-- what is known of it holds from an earlier folder on, whose write counts were no higher
+pub stops_from : (limits : Limits) (screens : List ScreenValue) (before earlier after : PortsValue)
+    (run : RunWords) (session : ℕ) (bytes : List ℕ) (acts : List Act) (end : End)
+    → ((name : List ℕ) → WriteRose before after name → WriteRose earlier after name)
+    → StopsText limits screens before after run session bytes acts end
+    → StopsText limits screens earlier after run session bytes acts end
+stops_from limits screens before earlier after run session bytes acts end rose stops =
+    by after.texts stops
+  where
+    by : (told : Option Texts)
+        → IfSome told (λ texts. (venue : List ℕ) × (client : List ℕ)
+        × (texts (venue_name run.out session) ≡ Some venue)
+        × (texts (client_name run.out session) ≡ Some client)
+        × (fetched : List ℕ) × (rest : List ℕ) × (bytes ≡ fetched ++ rest)
+        × StopsEarly limits screens fetched acts end venue client
+        (WriteRose before after (venue_name run.out session))
+        (WriteRose before after (client_name run.out session)))
+        → IfSome told (λ texts. (venue : List ℕ) × (client : List ℕ)
+        × (texts (venue_name run.out session) ≡ Some venue)
+        × (texts (client_name run.out session) ≡ Some client)
+        × (fetched : List ℕ) × (rest : List ℕ) × (bytes ≡ fetched ++ rest)
+        × StopsEarly limits screens fetched acts end venue client
+        (WriteRose earlier after (venue_name run.out session))
+        (WriteRose earlier after (client_name run.out session)))
+    by None stops = tt
+    by (Some texts) (venue, client, at_venue, at_client, fetched, rest, front, stops) = (
+      venue,
+      client,
+      at_venue,
+      at_client,
+      fetched,
+      rest,
+      front,
+      stops_causes limits screens fetched acts end venue client _ _ _ _
+          (rose (venue_name run.out session)) (rose (client_name run.out session)) stops,
+    )
+
+-- what a told session wrote that a fault ended are the texts of its outputs
+stops_text : (limits : Limits) (screens : List ScreenValue) (run : RunWords) (session count : ℕ)
+    (t0 t1 t2 : Option Texts) (own now : ObjectsValue) (acts : List Act) (end : End)
+    (V C : Type 0) → ChangesOutputs run.out count t0 t1 → AreFresh t0 own
+    → (t1 ≡ None → t2 ≡ None) → IfSome t1 (λ _. IfSome t2 (λ new. HoldsOutputs run new session now))
+    → (Rose own.venue_faults now.venue_faults → V) → (Rose own.client_faults now.client_faults → C)
+    → StopsSource limits screens own.left now.left acts end (venue_of own) (venue_of now)
+    (client_of own) (client_of now)
+    → IfSome t2 (λ texts. (venue : List ℕ) × (client : List ℕ)
+    × (texts (venue_name run.out session) ≡ Some venue)
+    × (texts (client_name run.out session) ≡ Some client)
+    × (fetched : List ℕ) × (rest : List ℕ) × (told_bytes own.left ≡ fetched ++ rest)
+    × StopsEarly limits screens fetched acts end venue client V C)
+stops_text limits screens run session count None t1 None own now acts end V C changes new tells
+    holds venue client stops = tt
+stops_text limits screens run session count None t1 (Some texts) own now acts end V C changes new
+    tells holds venue client stops =
+    let none : Some texts ≡ None = tells changes in absurd cc
+stops_text limits screens run session count (Some old) t1 None own now acts end V C changes new
+    tells holds venue client stops = tt
+stops_text limits screens run session count (Some old) None (Some texts) own now acts end V C
+    (mid, there, same) new tells holds venue client stops = absurd cc
+stops_text limits screens run session count (Some old) (Some middle) (Some texts) own now acts end
+    V C changes new tells holds venue client stops =
+    let front = left_front own.left now.left stops.fetched new.left stops.taken in (
+      stops.to_venue,
+      stops.to_client,
+      holds.venue ∙ ap (λ s. Some s) (holds_appended own.venue_held now.venue_held stops.to_venue
+          holds.to_venue new.venue_empty stops.venue_got holds.venue_told),
+      holds.client ∙ ap (λ s. Some s) (holds_appended own.client_held now.client_held
+          stops.to_client holds.to_client new.client_empty stops.client_got holds.client_told),
+      stops.fetched,
+      front.0,
+      front.1,
+      stops_causes limits screens stops.fetched acts end stops.to_venue stops.to_client
+          (Rose own.venue_faults now.venue_faults) (Rose own.client_faults now.client_faults) V C
+          venue client stops.stops,
+    )
+  where
+    -- what was fetched are the first bytes
+    left_front : (left left_after : Option (List ℕ)) (fetched : List ℕ) → IsSome left
+        → Consumes left left_after fetched
+        → (rest : List ℕ) × (told_bytes left ≡ fetched ++ rest)
+    left_front None left_after fetched some taken = absurd cc
+    left_front (Some bytes) None fetched some taken = absurd taken
+    left_front (Some bytes) (Some rest) fetched some taken = (rest, taken)
 
 -- what was left of a new input is its name's text
 text_is : (texts : Texts) (name : List ℕ) (left : Option (List ℕ)) → IsSome (texts name)
@@ -209,10 +326,9 @@ journal_from run t0 t1 t2 r0 w0 r1 w1 r2 w2 text acts lines true count later cha
       front_behind run.out count t0 t1 t2 (journal_text acts lines) changes front,
     )
 
-either_rose : (v0 v1 c0 c1 : ℕ) (V C : Type 0) → v0 ≡ 0 → c0 ≡ 0 → Rose v0 v1 ⊎ Rose c0 c1
-    → (v1 ≢ 0 → V) → (c1 ≢ 0 → C) → V ⊎ C
-either_rose v0 v1 c0 c1 V C v c (inl rose) venue client = inl (venue (rose_is_some v0 v1 v rose))
-either_rose v0 v1 c0 c1 V C v c (inr rose) venue client = inr (client (rose_is_some c0 c1 c rose))
+either_rose : (v c V C : Type 0) → v ⊎ c → (v → V) → (c → C) → V ⊎ C
+either_rose v c V C (inl rose) venue client = inl (venue rose)
+either_rose v c V C (inr rose) venue client = inr (client rose)
 
 module _ {S : Type 0} (faults : S → ℕ) (tell : Teller) (run : RunWords) (limits : Limits)
     (sets : List (List ScreenValue)) (t0 : Option Texts)
@@ -235,16 +351,13 @@ module _ {S : Type 0} (faults : S → ℕ) (tell : Teller) (run : RunWords) (lim
       (shown t2 r2 w2 text) run session (told_bytes own.left) did end
       (λ is. rose_from _ _ _ (fresh.went.read (session_name run session))
       (causes.input (rose_is_some _ _ new.input_fresh (done.read is))))
-      (λ is. either_rose _ _ _ _ _ _ new.venue_fresh new.client_fresh (done.write is)
-      (λ some. rose_from _ _ _ (fresh.went.written (venue_name run.out session))
-      (causes.venue some))
-      (λ some. rose_from _ _ _ (fresh.went.written (client_name run.out session))
-      (causes.client some)))
+      (λ is. either_rose _ _ _ _ (done.write is) venue_rose client_rose)
       done.ends
       (λ by_input. follows_text limits (armed_for limits (set_of sets session)) run session
       (length objects) t0 t1 t2 own now did end fresh.texts
       new ended.finished.written.tells (holds_one t1 t2 ended.finished.written.holds)
-      (done.follows by_input)) where
+      (done.follows.input by_input))
+      (early done.follows.early) where
         holds_one : (a b : Option Texts)
             → IfSome a (λ old. IfSome b (λ new. (n : ℕ) (o : ObjectsValue)
             → slice_get ended.objects_after n ≡ Some o → HoldsOutputs run new n o))
@@ -252,6 +365,31 @@ module _ {S : Type 0} (faults : S → ℕ) (tell : Teller) (run : RunWords) (lim
         holds_one None b holds = tt
         holds_one (Some x) None holds = tt
         holds_one (Some x) (Some y) holds = holds session now is_now
+
+        venue_rose : Rose own.venue_faults now.venue_faults
+            → Rose (w0 (venue_name run.out session)) (w2 (venue_name run.out session))
+        venue_rose rose = rose_from _ _ _ (fresh.went.written (venue_name run.out session))
+            ((ended.finished.causes session now is_now).venue (rose_is_some _ _
+            (fresh.each session own is_own).venue_fresh rose))
+
+        client_rose : Rose own.client_faults now.client_faults
+            → Rose (w0 (client_name run.out session)) (w2 (client_name run.out session))
+        client_rose rose = rose_from _ _ _ (fresh.went.written (client_name run.out session))
+            ((ended.finished.causes session now is_now).client (rose_is_some _ _
+            (fresh.each session own is_own).client_fresh rose))
+
+        early : (IsByInput end ⊎ StopsSource limits (armed_for limits (set_of sets session))
+            own.left now.left did end (venue_of own) (venue_of now) (client_of own)
+            (client_of now))
+            → IsByInput end ⊎ StopsText limits (armed_for limits (set_of sets session))
+            (shown t0 r0 w0 []) (shown t2 r2 w2 text) run session (told_bytes own.left) did end
+        early (inl by_input) = inl by_input
+        early (inr stops) = inr (stops_text limits (armed_for limits (set_of sets session)) run
+            session (length objects) t0 t1 t2 own now did end
+            (Rose (w0 (venue_name run.out session)) (w2 (venue_name run.out session)))
+            (Rose (w0 (client_name run.out session)) (w2 (client_name run.out session)))
+            fresh.texts (fresh.each session own is_own) ended.finished.written.tells
+            (holds_one t1 t2 ended.finished.written.holds) venue_rose client_rose stops)
 
 module _ {S : Type 0} (faults : S → ℕ) (run : RunWords) (limits : Limits)
     (sets : List (List ScreenValue)) (t0 : Option Texts)

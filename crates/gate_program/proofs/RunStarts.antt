@@ -1,8 +1,7 @@
 -- What sessions that are to be run as tasks need: how many there are, and whose screens they take.
-use Rattle.std.proofs.Common.{◌≡◌, ℕ, ◌<◌, ◌≤◌, List, ◌∷◌, length, map, take, refl, sym, ap, ◌∙◌, subst}
+use Rattle.std.proofs.Common.{◌≡◌, ℕ, ◌<◌, ◌≤◌, List, ◌∷◌, length, map, take, refl, sym, ap, ◌∙◌}
 use Rattle.std.proofs.Common.{arith, Bool, true, false, ◌&&◌}
 use Rattle.std.proofs.lemmas.Bool.Decides.{nat_tests}
-use Rattle.std.proofs.lemmas.List.{length-map}
 use Rattle.std.specs.Prelude.{IsTrue, nat_le, not}
 use Rattle.std.specs.List.{list_all, list_any}
 use Rattle.screen_kit.specs.Screens.{ScreenValue}

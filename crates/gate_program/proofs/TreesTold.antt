@@ -1,14 +1,12 @@
 -- The trees of a journal, one more at a time.
-use Rattle.std.proofs.Common.{◌≡◌, ℕ, suc, zero, ◌+◌, ◌<◌, List, [], ◌∷◌, ◌++◌, length, map, refl, sym, ap, subst}
-use Rattle.std.proofs.Common.{◌∙◌, arith, inl, inr, get_or}
-use Rattle.std.proofs.lemmas.List.{length-map}
+use Rattle.std.proofs.Common.{◌≡◌, ℕ, ◌<◌, List, [], ◌∷◌, ◌++◌, length, sym, ap, subst}
+use Rattle.std.proofs.Common.{◌∙◌, inl, inr, get_or}
 use Rattle.std.specs.Prelude.{Some, slice_get}
 use Rattle.limit_table.specs.declared.limits.Limits.{Limits}
 use Rattle.risk_board.specs.declared.hand.Line.{Line}
 use Rattle.risk_journal.specs.declared.acts.Act.{Act}
 use Rattle.trail_replay.proofs.PreparedTables.{get_or-list_below}
 use Rattle.trail_replay.specs.Reads.{list_below}
-use Rattle.tree_check.proofs.Below.{length-below}
 use Rattle.tree_check.specs.declared.agreeing.ToldTree.{ToldTree}
 use Rattle.gate_program.specs.Agreeing.{AreTold, IsTold}
 use Rattle.gate_program.proofs.Lists.{pushed_at}

@@ -15,7 +15,7 @@ use Rattle.limit_table.specs.declared.limits.Limits.{Limits}
 use Rattle.screen_kit.specs.Screens.{ScreenValue}
 use Rattle.session_engine.specs.Session.{armed_for}
 use Rattle.gate_program.specs.Words.{RunWords, Command, journal_name}
-use Rattle.gate_program.specs.Run.{PortsValue, EndHolds, set_of, is_memory, standing_of}
+use Rattle.gate_program.specs.Run.{PortsValue, EndHolds, StopsText, set_of, is_memory, standing_of}
 use Rattle.gate_program.specs.Commands.{CommandWent}
 use Rattle.gate_program.specs.Gate.{RunWent, SessionsWent, HasJournal, HasLimits}
 use Rattle.gate_program.specs.Gate.{IsTold}
@@ -27,7 +27,7 @@ use Rattle.gate_program.specs.Totals.{totals_of}
 use Rattle.gate_program.proofs.Chains.{rose_from, zero_stands}
 use Rattle.gate_program.proofs.Early.{others_left}
 use Rattle.gate_program.proofs.Histories.{AdmissionLaws}
-use Rattle.gate_program.proofs.Ran.{silent, shown, has_run}
+use Rattle.gate_program.proofs.Ran.{silent, shown, has_run, stops_from}
 
 -- there are no limits
 pub no_limits_went : (run : RunWords) (sets : List (List ScreenValue)) (t0 : Option Texts)
@@ -50,16 +50,33 @@ module _ (run : RunWords) (sets : List (List ScreenValue)) (t : Option Texts)
     (r0 w0 r1 w1 : List ℕ → ℕ) (t2 : Option Texts)
     (r2 w2 : List ℕ → ℕ)
     (text : List ℕ) (reads : NeverFalls r0 r1) (writes : NeverFalls w0 w1) where
+  stops_earlier : (limits : Limits) (screens : List ScreenValue) (n : ℕ) (bytes : List ℕ)
+      (own : List Act) (end : End)
+      → StopsText limits screens (shown t r1 w1 []) (shown t2 r2 w2 text) run n bytes own end
+      → StopsText limits screens (shown t r0 w0 []) (shown t2 r2 w2 text) run n bytes own end
+  stops_earlier limits screens n bytes own end stops =
+      stops_from limits screens (shown t r1 w1 []) (shown t r0 w0 []) (shown t2 r2 w2 text) run n
+      bytes own end (λ name. rose_from _ _ _ (writes name)) stops
+
   end_earlier : (limits : Limits) (screens : List ScreenValue) (n : ℕ) (bytes : List ℕ)
       (own : List Act) (end : End)
       → EndHolds limits screens (shown t r1 w1 []) (shown t2 r2 w2 text) run n bytes own end
       → EndHolds limits screens (shown t r0 w0 []) (shown t2 r2 w2 text) run n bytes own end
-  end_earlier limits screens n bytes own ending.ReadFault (rose, ends) =
-      (rose_from _ _ _ (reads _) rose, ends)
-  end_earlier limits screens n bytes own ending.WriteFault (inl rose, ends) =
-      (inl (rose_from _ _ _ (writes _) rose), ends)
-  end_earlier limits screens n bytes own ending.WriteFault (inr rose, ends) =
-      (inr (rose_from _ _ _ (writes _) rose), ends)
+  end_earlier limits screens n bytes own ending.ReadFault (rose, ends, stops) = (
+    rose_from _ _ _ (reads _) rose,
+    ends,
+    stops_earlier limits screens n bytes own ending.ReadFault stops,
+  )
+  end_earlier limits screens n bytes own ending.WriteFault (inl rose, ends, stops) = (
+    inl (rose_from _ _ _ (writes _) rose),
+    ends,
+    stops_earlier limits screens n bytes own ending.WriteFault stops,
+  )
+  end_earlier limits screens n bytes own ending.WriteFault (inr rose, ends, stops) = (
+    inr (rose_from _ _ _ (writes _) rose),
+    ends,
+    stops_earlier limits screens n bytes own ending.WriteFault stops,
+  )
   end_earlier limits screens n bytes own ending.Memory holds = holds
   end_earlier limits screens n bytes own ending.Whole holds = holds
   end_earlier limits screens n bytes own (ending.Cut place) holds = holds

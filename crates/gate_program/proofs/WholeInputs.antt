@@ -15,7 +15,7 @@ use Rattle.fix_fields.specs.declared.frame.Found.TheVariants as found
 use Rattle.fix_fields.proofs.FrameLaws.{one_frame_at}
 use Rattle.fix_fields.proofs.FoundLaws.{one_is_found}
 use Rattle.gate_ports.specs.Names.{Texts}
-use Rattle.limit_table.specs.Files.{IsFirstFault, IsLimitFile}
+use Rattle.limit_table.specs.Files.{IsFirstFault}
 use Rattle.limit_table.specs.declared.fault.LimitFault.{LimitFault}
 use Rattle.limit_table.specs.declared.limits.Limits.{Limits}
 use Rattle.limit_table.proofs.OneAnswer.{not_both}

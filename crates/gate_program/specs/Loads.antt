@@ -1,5 +1,5 @@
 -- What a load that was made and run did.
-use Rattle.std.specs.Prelude.{◌≡◌, ℕ, ◌<◌, List, [], ◌∷◌, length, map, slice_get, sum_by, codes}
+use Rattle.std.specs.Prelude.{◌≡◌, ℕ, ◌<◌, List, [], length, map, slice_get, sum_by, codes}
 use Rattle.std.specs.Prelude.{Some, IsSome, Bool, false, ◌⊎◌}
 use Rattle.std.specs.List.{list_any, range_with_len}
 use Rattle.limit_table.specs.Files.{IsLimitFile}

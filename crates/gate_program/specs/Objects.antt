@@ -4,12 +4,13 @@ use Rattle.std.specs.Prelude.{MatchOption, IsSome}
 use Rattle.std.specs.Prelude.{slice_get, ◌⊎◌, false}
 use Rattle.gate_ports.specs.Faults.{Rose}
 use Rattle.gate_ports.specs.Names.{Texts, IsOpened, IsEmptySink}
+use Rattle.session_engine.specs.Follows.{SinkValue}
 use Rattle.limit_table.specs.declared.limits.Limits.{Limits}
 use Rattle.risk_journal.specs.declared.acts.Act.{Act}
 use Rattle.risk_journal.specs.declared.acts.End.{End}
 use Rattle.risk_journal.specs.declared.acts.End.TheVariants as ending
 use Rattle.screen_kit.specs.Screens.{ScreenValue}
-use Rattle.session_engine.specs.Follows.{IsByInput, FollowsSource, EndsAs}
+use Rattle.session_engine.specs.Follows.{Follows, EndsAs}
 use Rattle.session_engine.specs.Session.{armed_for}
 use Rattle.gate_program.specs.declared.open.Opened.{Opened}
 use Rattle.gate_program.specs.Words.{RunWords, venue_name, client_name, output_names, is_among}
@@ -105,11 +106,20 @@ pub record HasOpened (run : RunWords) (before after : PortsValue) (objects : Lis
       → AreNew run before.texts session own
   pub own : EachOwn run after.texts objects
 
+-- a session's outputs as its run sees them
+abbrev pub venue_of : ObjectsValue → SinkValue
+venue_of own =
+    record { held = own.venue_held; faults = own.venue_faults; name = own.venue_name }
+
+abbrev pub client_of : ObjectsValue → SinkValue
+client_of own =
+    record { held = own.client_held; faults = own.client_faults; name = own.client_name }
+
 -- What a session did with its objects and these screens, by its end.
 pub record HasDone (limits : Limits) (screens : List ScreenValue) (before after : ObjectsValue)
     (acts : List Act) (end : End) : Type 0 where
-  pub follows : IsByInput end → FollowsSource limits (armed_for limits screens) before.left acts end
-      before.venue_held after.venue_held before.client_held after.client_held
+  pub follows : Follows limits (armed_for limits screens) before.left after.left acts end
+      (venue_of before) (venue_of after) (client_of before) (client_of after)
   -- a fault that ends the session is one of its own objects
   pub read : end ≡ ending.ReadFault → Rose before.input_faults after.input_faults
   pub write : end ≡ ending.WriteFault

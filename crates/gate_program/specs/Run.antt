@@ -1,7 +1,7 @@
 -- What the sessions of a run did together, and what is left of it in a folder and on standard
 -- output.
 use Rattle.std.specs.Prelude.{◌≡◌, ℕ, List, [], length, map, Option, Some, IfSome, slice_get}
-use Rattle.std.specs.Prelude.{Bool, true, false, ◌⊎◌, ◌||◌, if◌then◌else◌}
+use Rattle.std.specs.Prelude.{Bool, true, false, ◌++◌, ◌⊎◌, ◌||◌, if◌then◌else◌}
 use Rattle.std.specs.List.{list_any, slice_index_or}
 use Rattle.gate_ports.specs.Faults.{Rose}
 use Rattle.gate_ports.specs.Names.{Texts}
@@ -16,7 +16,7 @@ use Rattle.risk_journal.specs.ActLists.{events_of}
 use Rattle.session_engine.specs.Admitted.{AdmitsOwn, StaysWithin}
 use Rattle.gate_program.specs.Words.{RunWords, venue_name, client_name}
 use Rattle.screen_kit.specs.Screens.{ScreenValue}
-use Rattle.session_engine.specs.Follows.{EndsWith, FollowsInput}
+use Rattle.session_engine.specs.Follows.{EndsWith, FollowsInput, StopsEarly}
 
 -- a folder and standard output at a moment: texts and counts of faults by name, where they are told
 pub record PortsValue : Type 0 where
@@ -62,13 +62,29 @@ FollowsText limits screens after run session bytes acts end =
     × (texts (client_name run.out session) ≡ Some client)
     × FollowsInput limits screens bytes acts end venue client)
 
+-- A session that a fault ended: its acts and both its outputs follow what was fetched, the first bytes
+-- of its input, and where a sink failed it is the output of the last message, where the folder tells
+-- its texts.
+abbrev pub StopsText : Limits → List ScreenValue → PortsValue → PortsValue → RunWords → ℕ → List ℕ
+    → List Act → End → Type 0
+StopsText limits screens before after run session bytes acts end =
+    IfSome after.texts (λ texts. (venue : List ℕ) × (client : List ℕ)
+    × (texts (venue_name run.out session) ≡ Some venue)
+    × (texts (client_name run.out session) ≡ Some client)
+    × (fetched : List ℕ) × (rest : List ℕ) × (bytes ≡ fetched ++ rest)
+    × StopsEarly limits screens fetched acts end venue client
+    (WriteRose before after (venue_name run.out session))
+    (WriteRose before after (client_name run.out session)))
+
 -- what is known of a session of these bytes, with these screens, armed, by its end
 abbrev pub EndHolds : Limits → List ScreenValue → PortsValue → PortsValue → RunWords → ℕ → List ℕ
     → List Act → End → Type 0
 EndHolds limits screens before after run session bytes acts ending.ReadFault =
     ReadRose before after (session_name run session) × EndsWith acts ending.ReadFault
+    × StopsText limits screens before after run session bytes acts ending.ReadFault
 EndHolds limits screens before after run session bytes acts ending.WriteFault =
     OutputRose before after run session × EndsWith acts ending.WriteFault
+    × StopsText limits screens before after run session bytes acts ending.WriteFault
 EndHolds limits screens before after run session bytes acts ending.Memory = Unit {0}
 EndHolds limits screens before after run session bytes acts ending.Whole =
     FollowsText limits screens after run session bytes acts ending.Whole

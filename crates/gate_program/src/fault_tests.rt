@@ -98,6 +98,22 @@ const TWO_SENT: &[Piece] = &[
     ),
 ];
 
+/// The same with the first 64 bytes of the last message.
+const TWO_SENT_AND_A_FRONT: &[Piece] = &[
+    Piece::Whole(
+        b"35=D|49=GATE|56=VENUE|34=1|52=20240102-10:00:00|11=b1|1=ACC|\
+            55=XYZ|54=1|38=1|40=2|44=10.00|60=20240102-10:00:00|",
+    ),
+    Piece::Whole(
+        b"35=D|49=GATE|56=VENUE|34=2|52=20240102-10:00:00|11=b2|1=ACC|\
+            55=XYZ|54=1|38=1|40=2|44=10.00|60=20240102-10:00:00|",
+    ),
+    Piece::Raw(
+        b"8=FIX.4.4\x019=112\x0135=D\x0149=GATE\x0156=VENUE\x0134=3\x01\
+            52=20240102-10:00:00\x01",
+    ),
+];
+
 /// What goes in.
 const INPUTS: Row = Row {
     name: "two sessions of three orders",
@@ -417,14 +433,17 @@ fn compare_left(
     compare_stream(rt, alloc, of, folder, "session1", Some(SECOND_ORDERS))
 }
 
-/// Runs each case, and compares.
+/// Runs each case with a folder of which a call moves at most so many bytes, and compares.
 fn compare_all<R: Threads + Sync + Abort>(
     rt: &R,
     alloc: Global,
     cases: &[Case],
-) -> Result<(), Fail> {
+    most: usize,
+) -> Result<(), Fail>
+    requires { 0 < most }
+{
     for case in cases {
-        let mut stage = stage_of(alloc, &INPUTS, 65_536)?;
+        let mut stage = stage_of(alloc, &INPUTS, most)?;
         for (what, name, number) in case.failing {
             stage.folder.fail(*what, name, *number)?;
         }
@@ -454,6 +473,17 @@ fn compare_all<R: Threads + Sync + Abort>(
 #[test]
 fn one_failing_call_leaves_what_was_done(rt: HostRuntime) -> Result<(), Fail> {
     let alloc = rt.alloc();
-    compare_all(&rt, alloc, &EARLY)?;
-    compare_all(&rt, alloc, &AFTER)
+    compare_all(&rt, alloc, &EARLY, 65_536)?;
+    compare_all(&rt, alloc, &AFTER, 65_536)
+}
+
+#[test]
+fn a_message_that_fails_stands_as_a_front(rt: HostRuntime) -> Result<(), Fail> {
+    let case = Case {
+        name: "the second session's third message cannot be written whole",
+        failing: &[(gate_ports::Fail::Give, "out/s01.venue", 7)],
+        second_venue: Some(TWO_SENT_AND_A_FRONT),
+        ..AFTER[1]
+    };
+    compare_all(&rt, rt.alloc(), &[case], 64)
 }

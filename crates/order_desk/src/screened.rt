@@ -14,8 +14,13 @@ const TWO: &[u8] =
 const ONE: &[u8] =
     b"firm,,100000,,,\naccount,ACC,100000,,,\nsymbol,XYZ,100000,1,12,100000\nrepeat,,1,,,\n";
 
+/// As TWO, where the screen for repeats is dropped as order 2 is taken up, and that for prices as order 3.
+const OFF: &[u8] =
+    b"firm,,100000,,,\naccount,ACC,100000,,,\nsymbol,XYZ,100000,1,12,100000\nrepeat,,2,,,\n\
+        off,collar,3,,,\noff,repeat,2,,,\noff,other,0,,,\n";
+
 /// The sequences.
-pub(crate) const SCREENED: [Sequence; 3] = [
+pub(crate) const SCREENED: [Sequence; 4] = [
     Sequence {
         name: "two repeats, and a price above the collar",
         limits: TWO,
@@ -81,6 +86,19 @@ pub(crate) const SCREENED: [Sequence; 3] = [
             (Replace(b"c1", b"a1", 80, 100000), Sent, 0, All(1000)),
             (Reject(b"c1"), Settled(Applied), 0, All(1000)),
             (Cancel(b"d1", b"a1"), Sent, 0, All(1000)),
+        ],
+    },
+    Sequence {
+        name: "screens are dropped by the numbers of the orders, of which a cancel is none",
+        limits: OFF,
+        halted: false,
+        turns: &[
+            (Buy(b"a1", 5, 100000), Sent, 7, All(50)),
+            (Cancel(b"c1", b"a1"), Sent, 0, All(50)),
+            (Buy(b"a2", 5, 100000), Refused(Screen(3)), 0, All(50)),
+            (Buy(b"a3", 5, 100000), Sent, 7, All(100)),
+            (Buy(b"a4", 1, 120100), Sent, 7, All(113)),
+            (Buy(b"a5", 100001, 10000), Refused(Screen(1)), 0, All(113)),
         ],
     },
 ];

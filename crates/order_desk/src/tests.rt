@@ -2,6 +2,7 @@
 //! whole sequences of messages, worked by hand.
 ghost use Rattle.std.specs.Prelude.{◌≡◌, length, IfOk};
 
+use crate::dropping::only_its_own_rows_drop_screens;
 use crate::laws::a_first_book_is_covered;
 use crate::screened::SCREENED;
 use crate::sequences::{Answer, Posted, SEQUENCES, Sequence, Step, Turn};
@@ -119,6 +120,14 @@ fn message(step: Step) -> Result<Message<'static>, Fail> {
     }
 }
 
+/// Whether a step is an order or a replace, which are counted.
+fn is_order(step: Step) -> bool {
+    matches!(
+        step,
+        Step::Buy(..) | Step::New(..) | Step::Replace(..) | Step::ReplaceOf(..)
+    )
+}
+
 /// Sent, or refused.
 fn decided(refusal: Option<Refusal>) -> Answer {
     match refusal {
@@ -221,8 +230,14 @@ fn run<K: Screen>(
         },
     )?;
     a_first_book_is_covered();
+    only_its_own_rows_drop_screens();
     let mut desk = Desk::open(limits, hands, book, screens);
+    let mut orders = 0u32;
     for turn in sequence.turns {
+        if is_order(turn.0) {
+            desk.drop_screens(orders);
+            orders = orders.wrapping_add(1);
+        }
         compare(rt, &mut desk, name, *turn)?;
     }
     Ok(())

@@ -1,4 +1,4 @@
-use Rattle.std.proofs.Common.{◌≡◌, length, map, max, arith, ap, sym, ◌∙◌, ℕ, Bool, true, false, inl, inr}
+use Rattle.std.proofs.Common.{map, max, arith, sym, ◌∙◌, inl, inr}
 use Rattle.std.proofs.lemmas.List.{length-map}
 use Rattle.std.proofs.lemmas.Bool.{false≢true}
 use Rattle.fold_law.specs.Sum.{sum_of}

@@ -1,5 +1,5 @@
-use Rattle.std.proofs.Common.{◌≡◌, ◌<◌, length, map, arith, ap, sym, ◌∙◌, refl}
-use Rattle.std.proofs.Common.{◌++◌, [], ◌∷◌, length-append, length-drop, Vec, Global, List}
+use Rattle.std.proofs.Common.{◌<◌, length, map, arith, ap, ◌∙◌}
+use Rattle.std.proofs.Common.{length-append, length-drop, Vec, Global, List}
 use Rattle.std.proofs.lemmas.List.{length-map}
 use Rattle.risk_journal.specs.declared.acts.Act.{Act}
 use Rattle.tree_check.proofs.Below.{length-below}

@@ -1,5 +1,5 @@
 -- the trees so far, and the lines and the reads of the others
-use Rattle.std.proofs.Common.{◌≡◌, ℕ, length, map, drop}
+use Rattle.std.proofs.Common.{◌≡◌, length, map, drop}
 use Rattle.gate_program.specs.Agreeing.{AreTold}
 use Rattle.gate_program.proofs.agreeing.told_trees.Given as goal
 

@@ -1,4 +1,4 @@
-use Rattle.std.proofs.Common.{◌≡◌, ℕ, refl, length, map, ap, sym, ◌∙◌, subst, arith, string_bytes}
+use Rattle.std.proofs.Common.{◌≡◌, ℕ, refl, length, map, ap, sym, ◌∙◌, subst, arith}
 use Rattle.std.proofs.lemmas.List.{length-map}
 use Rattle.f_array.proofs.NewPasses.{length-new_passes}
 use Rattle.gate_program.specs.CommandOf.{run_value}
@@ -66,7 +66,10 @@ returns-in-Ok-run_sessions g c =
     let f = objects_of g.I.In.Source.left g.I.In.Source.name g.I.In.Source.faults g.D.Out.Sink.held
     g.D.Out.Sink.name g.D.Out.Sink.faults in
     let tasks = c.tasks_of-tasks.result.items in
-    let law : PlacesLaw = record { free = c.places_are_free.ensures } in
+    let law : PlacesLaw = record {
+      free = c.places_are_free.ensures.input;
+      early = c.places_are_free.ensures.early;
+    } in
     let before = sym (mapped_twice f (λ t. t.opened) tasks)
     ∙ ap (map f) c.tasks_of-tasks.ensures.opened in
     ended law g.I.In.Source.faults _ c.args.limits.now _ _ (run_value c.args.run.now) _ _ _ _ _ _ _ _

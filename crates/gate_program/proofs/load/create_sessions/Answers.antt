@@ -1,6 +1,6 @@
-use Rattle.std.proofs.Common.{◌≡◌, ℕ, ◌+◌, ◌<◌, length, map, take, drop, arith, ◌∙◌, ap, sym, refl}
-use Rattle.std.proofs.Common.{string_bytes, [], ◌∷◌, List}
-use Rattle.std.proofs.Common.{length-append, take_all, subst}
+use Rattle.std.proofs.Common.{ℕ, ◌+◌, ◌<◌, length, map, arith, ◌∙◌, ap, sym, refl}
+use Rattle.std.proofs.Common.{string_bytes}
+use Rattle.std.proofs.Common.{length-append, take_all}
 use Rattle.std.proofs.lemmas.List.{length-map, map-append}
 use Rattle.std.proofs.lemmas.Option.{slice_get_read}
 use Rattle.std.specs.Prelude.{Some, None}
@@ -11,7 +11,7 @@ use Rattle.gate_program.proofs.Early.{leaves_empty}
 use Rattle.gate_program.proofs.Folder.{each_own_later}
 use Rattle.gate_program.proofs.Created.{creates_named, named_by_venue, next_created}
 use Rattle.gate_program.proofs.Created.{lefts_more, unmade_named}
-use Rattle.gate_program.proofs.Lists.{first_left, map_at, take_one}
+use Rattle.gate_program.proofs.Lists.{first_left, map_at}
 use Rattle.gate_program.proofs.Sessions.{outputs_at}
 use Rattle.gate_program.proofs.load.create_sessions.Goals as goal
 

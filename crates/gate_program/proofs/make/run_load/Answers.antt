@@ -1,10 +1,9 @@
-use Rattle.std.proofs.Common.{◌≡◌, ◌≤◌, ◌<◌, ℕ, List, length, map, arith, ap, sym, ◌∙◌, subst, refl}
-use Rattle.std.proofs.Common.{string_bytes}
+use Rattle.std.proofs.Common.{◌≡◌, ℕ, length, map, arith, ap, sym, ◌∙◌, subst, refl}
 use Rattle.std.proofs.lemmas.List.{length-map}
 use Rattle.std.specs.Prelude.{Some, None}
 use Rattle.std.specs.List.{range_with_len}
 use Rattle.gate_ports.specs.Objects.{SureState}
-use Rattle.gate_program.specs.Loads.{load_folder, load_run}
+use Rattle.gate_program.specs.Loads.{load_folder}
 use Rattle.gate_program.specs.Objects.{objects_of}
 use Rattle.gate_program.specs.Room.{HasSpare}
 use Rattle.gate_program.specs.Words.{session_most, venue_name}

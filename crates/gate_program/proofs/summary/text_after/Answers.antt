@@ -1,4 +1,4 @@
-use Rattle.std.proofs.Common.{ℕ, length, map, arith, sym, subst}
+use Rattle.std.proofs.Common.{ℕ, map, arith, sym, subst}
 use Rattle.std.proofs.lemmas.List.{length-map}
 use Rattle.gate_program.specs.Totals.{HaveTotals}
 use Rattle.gate_program.proofs.summary.text_after.Goals as goal
