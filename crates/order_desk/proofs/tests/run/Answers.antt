@@ -5,5 +5,5 @@ use Rattle.order_desk.proofs.tests.run.Goals as goal
 pub open-desk-requires : goal.open-desk-requires
 open-desk-requires g c = record {
   desk = first_desk c.args.limits.now _ _ c.in-Ok.hands c.in_ok-book.book.value c.in-Ok.ensures.ok
-      (rw (← c.accounts.ensures, ← c.symbols.ensures) c.in_ok-book.ensures);
+      c.in_ok-book.ensures;
 }
