@@ -39,8 +39,8 @@ CHUNK = 100
 class Watched(Book):
     """A book that counts which reports come to orders in which state."""
 
-    def __init__(self, counts):
-        super().__init__()
+    def __init__(self, counts, nets):
+        super().__init__(nets)
         self.counts = counts
 
     def apply(self, kind, values):
@@ -100,7 +100,7 @@ def see(counts, limits, inputs, acts):
     for data, own in zip(inputs, acts):
         reads = [act[2:] for act in own if act[0] == "read"]
         session = Dropping(limits, own_screens(limits), reads)
-        session.book = Watched(counts)
+        session.book = Watched(counts, limits.nets)
         counts["frames"] += sum(1 for _ in take_frames(session, data))
         counts["end", own[-1][1]] += 1
         late = sum(place >= session.orders for _, place in limits.off)

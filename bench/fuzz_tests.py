@@ -143,7 +143,7 @@ class Hostile(unittest.TestCase):
         counts = Counter()
         for state in hostile.states():
             session = Session(Limits(base(100_000)), own_screens(Limits(base(100_000))), [])
-            session.book = fuzz.Watched(counts)
+            session.book = fuzz.Watched(counts, set())
             self.assertTrue(list(take_frames(session, hostile.session(state))))
         kinds = {(*state, told) for state in hostile.states()
                  for told in (*hostile.TYPES, "F", "refusal")}
