@@ -31,9 +31,13 @@ NUMBERS = ("", "0", "1", "16", "64", "65", "200000", "200001", "1000000", "10000
            "1000000001", "999999999999", "1000000000000", "000000000001", "0000000000001", "-1",
            "+1", "1.0", " 1", "1e3")
 NAMES = ("", "A", "ACC", "XYZ", " ", "a" * 64, "a" * 65, "\x1f", "\x7f", "\u00e9", "size")
-KINDS = ("firm", "account", "symbol", "trip", "quota", "repeat", "off", "", "Firm", "firm ", "size")
+KINDS = ("firm", "account", "symbol", "trip", "quota", "repeat", "off", "version", "", "Firm",
+         "firm ", "size")
+MODES = ("", "net", "gross", "both", "Net", "net ", "\u00e9")
+VERSIONS = ("version,2,,,,,", "version,2,,,,", "version,1,,,,,", "version,3,,,,,", "version,02,,,,,",
+            'version,"2",,,,,', "version,2,,,,,net", "Version,2,,,,,", "version,2 ,,,,,")
 BOUNDS = tuple(price.decode() for price in PRICES if b"," not in price)
-CELLS = (KINDS, NAMES, NUMBERS, BOUNDS, BOUNDS, NUMBERS)
+CELLS = (KINDS, NAMES, NUMBERS, BOUNDS, BOUNDS, NUMBERS, MODES)
 LENGTHS = (b"", b"0", b"x", b"-1", b" 5", b"8192", b"8193", b"9999999", b"10000000", b"00000000")
 
 
@@ -229,13 +233,14 @@ def change(dice, data):
 
 
 def change_limits(dice, text):
-    """A limit file with a row or a cell changed; now and then with more rows than there may be."""
+    """A limit file with a row or a cell changed; now and then with more rows than there may be, or
+    with a row that tells a version."""
     rows = text.split("\n")[:-1]
-    at, choice = dice.randrange(len(rows)), dice.randrange(10)
+    at, choice = dice.randrange(len(rows)), dice.randrange(11)
     if choice < 6:
         cells = rows[at].split(",")
         column = dice.randrange(len(cells))
-        cells[column] = dice.choice(CELLS[min(column, 5)])
+        cells[column] = dice.choice(CELLS[min(column, 6)])
         rows[at] = ",".join(cells)
     elif choice == 6:
         rows[at] = dice.choice((rows[at] + ",", rows[at][:-1], ""))
@@ -243,8 +248,11 @@ def change_limits(dice, text):
         del rows[at]
     elif choice == 8:
         rows.insert(dice.randint(0, len(rows)), rows[at])
+    elif choice == 9:
+        rows.insert(dice.choice((0, 0, at)), dice.choice(VERSIONS))
     else:
         kind, most, rest = dice.choice((("off", 16, "1,,,"), ("account", 100, "1,,,"),
                                         ("symbol", 400, "1,1,2,3")))
+        rest += "," * rows[0].startswith("version,")
         rows += [f"{kind},N{number},{rest}" for number in range(most - dice.randrange(3))]
     return "".join(row + "\n" for row in rows)

@@ -124,6 +124,8 @@ def fuzz_cells(counts):
         ("of those judged whole: runs with `off` rows; screens that were dropped; sessions that did "
          "otherwise than without the rows", f"{counts['with off rows']:,}; "
          f"{counts['off', 'dropped']:,}; {counts['off', 'told']:,}"),
+        ("runs with net accounts; sessions that did otherwise than with gross ones",
+         f"{counts['with net accounts']:,}; {counts['net', 'told']:,}"),
         ("sessions that ended whole, cut, broken, too long", ended),
         ("orders and requests sent, refused; notes",
          f"{counts['sent']:,}, {counts['refused']:,}; {counts['noted']:,}"),

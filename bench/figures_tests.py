@@ -75,11 +75,12 @@ class Rows(unittest.TestCase):
     def test_what_inputs_with_something_wrong_count(self):
         counts = Counter({"runs": 10, "sessions": 12, "frames": 99, ("fault", 3): 2,
                           "with off rows": 3, ("off", "dropped"): 5, ("off", "told"): 4,
-                          ("off", "dropped nothing"): 6, ("end", 0): 5, ("end", 2): 7, ("refused", 16): 8,
+                          ("off", "dropped nothing"): 6, "with net accounts": 2, ("net", "told"): 1,
+                          ("end", 0): 5, ("end", 2): 7, ("refused", 16): 8,
                           "refused": 9, ("state", "open", "nothing", "current", "F"): 3,
                           ("state", "dead", "nothing", "current", "F"): 4})
         self.assertEqual([cells[1] for cells in figures.fuzz_cells(counts)], [
-            "10, 12, 99", "8; 2", "3; 5; 4", "5, 0, 7, 0", "0, 9; 0", "8", "7", "2"])
+            "10, 12, 99", "8; 2", "3; 5; 4", "2; 1", "5, 0, 7, 0", "0, 9; 0", "8", "7", "2"])
 
     def test_refused_allocations_and_live_sessions(self):
         counts = Counter({"runs": 265, "status 8": 257, "as with ample memory": 8})

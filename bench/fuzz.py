@@ -14,6 +14,7 @@ what it ran and saw. At a run that is wrong it looks for a smaller one that is w
 files in FOLDER, where one is given, and ends with status 1.
 """
 import argparse
+import copy
 import shutil
 import sys
 import tempfile
@@ -39,8 +40,8 @@ CHUNK = 100
 class Watched(Book):
     """A book that counts which reports come to orders in which state."""
 
-    def __init__(self, counts):
-        super().__init__()
+    def __init__(self, counts, nets):
+        super().__init__(nets)
         self.counts = counts
 
     def apply(self, kind, values):
@@ -95,26 +96,29 @@ class Dropping(Session):
 
 def see(counts, limits, inputs, acts):
     """Counts the frames of inputs, how they end, the reports by their orders' states, and the rows
-    that drop screens."""
+    that drop screens and the net accounts that tell."""
     counts["with off rows"] += bool(limits.off)
+    counts["with net accounts"] += bool(limits.nets)
     for data, own in zip(inputs, acts):
         reads = [act[2:] for act in own if act[0] == "read"]
         session = Dropping(limits, own_screens(limits), reads)
-        session.book = Watched(counts)
+        session.book = Watched(counts, limits.nets)
         counts["frames"] += sum(1 for _ in take_frames(session, data))
         counts["end", own[-1][1]] += 1
         late = sum(place >= session.orders for _, place in limits.off)
         counts["off", "of an order that never came"] += late
         if late < len(limits.off):
-            counts["off", "told"] += tells_of_rows(limits, data, reads, own)
+            counts["off", "told"] += is_otherwise(limits, {"off": []}, data, reads, own)
+        if limits.nets:
+            counts["net", "told"] += is_otherwise(limits, {"nets": set()}, data, reads, own)
 
 
-def tells_of_rows(limits, data, reads, acts):
-    """Whether a session's acts are others than without the rows that drop screens."""
-    rows, limits.off = limits.off, []
-    other, _ = run_session(limits, data, reads)
-    limits.off = rows
-    return other.acts != acts
+def is_otherwise(limits, changes, data, reads, acts):
+    """Whether a session's acts are others than with changed limits."""
+    other = copy.copy(limits)
+    for name, value in changes.items():
+        setattr(other, name, value)
+    return run_session(other, data, reads)[0].acts != acts
 
 
 def smaller(program, limits, inputs):
@@ -187,6 +191,8 @@ def tell(counts, seconds):
           f"{counts['off', 'of an order that never came']:,} were of an order that never came, "
           f"{counts['off', 'several at one order']:,} orders had several; "
           f"{counts['off', 'told']:,} sessions did otherwise than without")
+    print(f"net accounts in {counts['with net accounts']:,} runs: {counts['net', 'told']:,} sessions "
+          f"did otherwise than with gross ones")
     print(f"sent {counts['sent']:,}, refused {counts['refused']:,}, noted {counts['noted']:,}")
     print(f"refused by code  {causes}")
     print(f"noted by code  {notes}")

@@ -19,12 +19,13 @@ import hostile
 import inputs
 import refuse
 from model.book import LEAF_MOST
-from model.frames import next_frame
+from model.frames import framed, next_frame
 from model.judge import Wrong, judge_early
 from model.limits import Limits, first_fault
 from model.screens import own_screens
 from model.session import Session, run_session, take_frames
-from rows import FIRST, ROWS, base, buy, one, repeats, replace, text
+from rows import (FIRST, ROUND, ROWS, base, buy, one, order, repeats, replace, text, trade,
+                  version_2)
 from stress import PROGRAM
 
 GATE = os.environ.get("GATE_PROGRAM", PROGRAM)
@@ -136,18 +137,85 @@ class Screens(unittest.TestCase):
         self.assertTrue(all(seen[kind] for kind in ("several", "out of order", True, False)), seen)
 
 
+# A limit file, its first fault, and the row: of version 2, and of what is none.
+NET = "version,2,,,,,\nfirm,,5000,,,,\naccount,ACC,100000,,,,net\nsymbol,XYZ,100000,1,12,100000,\n"
+VERSIONS = (
+    ("a net account", NET, None),
+    ("a mode that is none", NET + "account,A2,1,,,,both\n", (2, 5)),
+    ("a mode in another row", NET + "quota,,1,,,,net\n", (1, 5)),
+    ("six columns", NET + "quota,,1,,,\n", (1, 5)),
+    ("the version again", NET + "version,2,,,,,\n", (2, 5)),
+    ("a mode of a row of no kind", NET + "acount,A2,1,,,,both\n", (2, 5)),
+    ("a mode, and a column that stays empty", NET + "account,A2,1,2,,,both\n", (2, 5)),
+    ("a good mode, and such a column", NET + "account,A2,1,2,,,net\n", (1, 5)),
+    ("seven columns in version 1", "firm,,1,,,\naccount,A,1,,,,net\n", (1, 2)),
+    ("the version behind a row", "firm,,1,,,\nversion,2,,,,,\n", (1, 2)),
+    ("another version", "version,3,,,,,\nfirm,,1,,,,\n", (1, 1)),
+    ("a version row of six columns", "version,2,,,,\nfirm,,1,,,,\n", (2, 1)),
+    ("a version alone", "version,2,,,,,\n", (6, 0)),
+    ("the version behind empty lines", "\n\n" + NET + "account,ACC,1,,,,\n", (5, 5)),
+)
+
+
+class Versions(unittest.TestCase):
+    """Limit files of version 2, and what a net account's orders cost."""
+
+    def test_faults(self):
+        for name, limits, fault in VERSIONS:
+            with self.subTest(name):
+                self.assertEqual(first_fault(limits), fault)
+
+    def posted(self, mode):
+        """What a session posts in the firm's tree: a buy, its trade, a sell, and its trade."""
+        limits = Limits(NET.replace("net", mode))
+        session, _ = run_session(limits, b"".join(ROUND), [])
+        self.assertEqual([act[0] for act in session.acts].count("sent"), 2)
+        return [act[3] for act in session.acts if act[:2] == ("post", 0)]
+
+    def test_what_was_bought_and_sold_offset_each_other(self):
+        """1,000; the larger of 1,000 and 1,200 - 1,000; 1,000 - 950. In a gross account the sell
+        comes to 2,200 and its trade to 1,950."""
+        self.assertEqual(self.posted("net"), [1_000, 1_000, 50])
+        for mode in ("", "gross"):
+            self.assertEqual(self.posted(mode), [1_000, 2_200, 1_950])
+
+    def test_pairs_do_not_offset_each_other(self):
+        """A buy in one symbol and a sell in another, a buy in one account and a sell in another."""
+        both = version_2(base(100_000, "account,ACD,100000,,,", "symbol,ABC,100000,1,12,100000"),
+                         {"ACC": "net", "ACD": "net"})
+        bought = (FIRST, trade("a1", 100, "10.00"))
+        sell = order("a2", "54=2|38=100|40=2|44=9.00|")
+        for name, old, new in (("a symbol", b"55=XYZ", b"55=ABC"), ("an account", b"1=ACC\x01",
+                                                                    b"1=ACD\x01")):
+            with self.subTest(name):
+                fields = next_frame(sell, 0).body.replace(b"\x01" + old, b"\x01" + new)
+                session, _ = run_session(Limits(both), b"".join(bought) + framed(fields), [])
+                self.assertEqual([act[3] for act in session.acts if act[:2] == ("post", 0)],
+                                 [1_000, 2_200])
+
+    def test_the_modes_that_are_made(self):
+        seen = Counter()
+        for seed in range(100):
+            limits = inputs.with_modes(random.Random(seed), base(1_000, "account,ACD,1,,,"))
+            limits = inputs.with_dropped(random.Random(seed), limits)
+            self.assertIsNone(first_fault(limits), limits)
+            seen[len(Limits(limits).nets)] += 1
+        self.assertEqual(set(seen), {0, 1, 2})
+
+
 class Hostile(unittest.TestCase):
     """Reports of every kind on orders in every state, and orders worth a limit."""
 
     def test_each_report_meets_an_order_in_each_state(self):
-        counts = Counter()
-        for state in hostile.states():
-            session = Session(Limits(base(100_000)), own_screens(Limits(base(100_000))), [])
-            session.book = fuzz.Watched(counts)
-            self.assertTrue(list(take_frames(session, hostile.session(state))))
         kinds = {(*state, told) for state in hostile.states()
                  for told in (*hostile.TYPES, "F", "refusal")}
-        self.assertEqual({kind for kind, _ in fuzz.of_kind(counts, "state")}, kinds)
+        for side in (1, 2):
+            counts = Counter()
+            for state in hostile.states():
+                session = Session(Limits(NET), own_screens(Limits(NET)), [])
+                session.book = fuzz.Watched(counts, session.limits.nets)
+                self.assertTrue(list(take_frames(session, hostile.session(state, side))))
+            self.assertEqual({kind for kind, _ in fuzz.of_kind(counts, "state")}, kinds)
 
     def test_an_order_worth_a_limit(self):
         """Exactly, rounded up; and more, where its price is one higher."""
@@ -215,8 +283,10 @@ class Program(unittest.TestCase):
 
     def test_hostile_reports(self):
         """Of each kind on an order in each state; and the rows that drop screens."""
-        states = [hostile.session(state) for state in hostile.states()]
-        self.assertIsNone(fuzz.wrong_of(GATE, base(100_000), states, Counter()))
+        for side in (1, 12):
+            states = [hostile.session(state, side) for state in hostile.states()]
+            for limits in (base(100_000), version_2(base(100_000), {"ACC": "net"})):
+                self.assertIsNone(fuzz.wrong_of(GATE, limits, states, Counter()))
         for name, rows, messages, _ in DROPPED:
             with self.subTest(name):
                 limits = base(200_000, *rows)

@@ -1,7 +1,8 @@
 """Limit files and inputs of random runs: worked runs (`rows.py`), random sessions (`loads.py`),
 messages with each value at the limits of a field, orders worth as much as a limit, orders that
 screens refuse, and reports on orders in every state (`hostile.py`); with up to three changes in each
-input (`broken.py`) and now and then some in the limit file, which may drop screens."""
+input (`broken.py`) and now and then some in the limit file, which may drop screens and have net
+accounts."""
 import random
 
 import broken
@@ -12,7 +13,7 @@ from model.frames import next_frame
 from model.limits import Limits
 from model.screens import own_screens
 from model.session import Session
-from rows import ROWS, base, buy, cancel, refusal, replace, report, trade
+from rows import ROWS, base, buy, cancel, refusal, replace, report, trade, version_2
 
 # Price (44) at its most, in ten-thousandths.
 PRICE_MOST = 9_999_999_999
@@ -29,13 +30,28 @@ class Desk(loads.Client):
     def __init__(self, dice, number, limits):
         super().__init__(dice, number)
         self.plain = Session(limits, own_screens(limits), [])
+        self.symbols = [name.decode() for name in limits.symbols]
+
+    def account(self):
+        """One of the limit file's; now and then one that it hasn't."""
+        some = [name.decode() for name in self.plain.limits.accounts]
+        return self.random.choice(some) if self.random.random() < 0.97 else "none"
 
     def terms(self):
         """Few prices and quantities, so that trades meet leaves and prices exactly."""
         price = self.random.choice(("1", "2.5", "12", "12.0000"))
-        return [(55, "XYZ"), (54, self.random.choice((1, 1, 2, 5, 6))),
+        return [(55, self.random.choice(self.symbols)), (54, self.random.choice((1, 1, 2, 5, 6))),
                 (38, self.random.randint(1, 4)), (40, self.random.choice((2, 2, 2, 1))),
                 (44, price)]
+
+    def replace(self):
+        """A replace, mostly with its order's symbol and side."""
+        own, orig, terms = f"{self.name}-{self.sent}", self.known(), self.terms()
+        order = self.plain.book.by_id.get(orig.encode())
+        if order and self.random.random() < 0.8:
+            terms[:2] = [(55, order.symbol.decode()), (54, order.side.decode())]
+        account = [(1, self.account())] if self.random.random() < 0.2 else []
+        return self.from_client("G", [(11, own), (41, orig)] + account + terms)
 
     def any_id(self):
         """An id that the book has, mostly a late one; now and then one that it hasn't."""
@@ -79,8 +95,10 @@ class Desk(loads.Client):
 
 
 def limits_of(dice):
-    """A limit file: wide, of the loads, or with values at their ends."""
-    text = base(100_000) if dice.random() < 0.5 else loads.limits(dice)
+    """A limit file: wide, at times of two accounts and symbols, of the loads, or with values at
+    their ends."""
+    more = ("account,ACD,100000,,,", "symbol,ABC,100000,1,10,500") if dice.random() < 0.5 else ()
+    text = base(100_000, *more) if dice.random() < 0.5 else loads.limits(dice)
     if dice.random() < 0.2:
         firm, account, symbol = (dice.choice((0, 1, 999, LEAF_MOST, 999_999_999_999))
                                  for _ in range(3))
@@ -92,19 +110,28 @@ def limits_of(dice):
     return text
 
 
+def with_modes(dice, text):
+    """A limit file as one of version 2, each of its accounts net or gross."""
+    if text.startswith("version,"):
+        return text
+    names = [row.split(",")[1] for row in text.splitlines() if row.startswith("account,")]
+    return version_2(text, {name: dice.choice(("net", "net", "gross", "")) for name in names})
+
+
 def with_dropped(dice, text):
     """A limit file with rows that drop screens, for names that a screen has and for others, at any
     place: some for one order, some out of order, some for an order that never comes."""
     rows = text.splitlines()
     if any(row.startswith("off,") for row in rows):
         return text
+    is_second = rows[0].startswith("version,")
     names = dice.sample(SCREENS, dice.randint(0, 3))
     names += dice.sample(OTHERS, dice.choice((0, 0, 1, len(OTHERS))))
     dice.shuffle(names)
     orders = [dice.choice((0, 1, 1, 2, 3, 5, 8, 1_000_000_000)) for _ in range(3)]
     for name in names:
-        row = f"off,{name},{dice.choice(orders)},,,"
-        rows.insert(dice.choice((len(rows), dice.randint(0, len(rows)))), row)
+        row = f"off,{name},{dice.choice(orders)},,," + "," * is_second
+        rows.insert(dice.choice((len(rows), dice.randint(is_second, len(rows)))), row)
     return "".join(row + "\n" for row in rows)
 
 
@@ -184,7 +211,7 @@ def session_of(dice, number, limits):
     if choice < 0.2:
         return at_limits(dice, limits)
     if choice < 0.25:
-        return hostile.session(dice.choice(STATES))
+        return hostile.session(dice.choice(STATES), dice.choice((1, 2, 12, 1562)))
     if choice < 0.55:
         return loads.session(dice, number, dice.randint(1, 12))
     desk = Desk(dice, number, Limits(limits))
@@ -208,6 +235,8 @@ def made(seed, number, counts):
     limits = row.limits if row else limits_of(dice)
     if dice.random() < 0.3:
         limits = with_dropped(dice, limits)
+    if dice.random() < 0.3:
+        limits = with_modes(dice, limits)
     inputs = row.inputs if row else [session_of(dice, session, limits)
                                      for session in range(dice.choice((1, 1, 2, 3, 4)))]
     if dice.random() < 0.1:

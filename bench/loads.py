@@ -1,5 +1,6 @@
 """Random sessions over one account and one symbol: limit files, and inputs of all messages."""
 from model.frames import framed
+from rows import version_2
 
 TIME = "20240102-10:00:00"
 QUANTITIES = (1, 5, 20, 60, 501, 1_000_000_000)
@@ -12,7 +13,7 @@ def message(kind, sender, number, rest):
 
 
 def limits(random):
-    """A limit file that some orders meet; at times a trip, repeats, a small quota."""
+    """A limit file that some orders meet; at times a trip, repeats, a small quota, a net account."""
     firm = random.choice((500, 2_000, 8_000, 30_000))
     account, symbol = (firm * random.choice((7, 10, 13)) // 10 for _ in range(2))
     rows = [f"firm,,{firm},,,", f"account,ACC,{account},,,", f"symbol,XYZ,{symbol},1,12,500"]
@@ -22,7 +23,8 @@ def limits(random):
         rows.append(f"quota,,{random.randint(1, 60)},,,")
     if random.random() < 0.3:
         rows.append(f"repeat,,{random.randint(0, 3)},,,")
-    return "".join(row + "\n" for row in rows)
+    text = "".join(row + "\n" for row in rows)
+    return version_2(text, {"ACC": "net"}) if random.random() < 0.3 else text
 
 
 class Client:
@@ -60,8 +62,11 @@ class Client:
         if self.random.random() < 0.1:
             terms = terms[:3] + [(40, 1)]
         self.orders.append(own)
-        account = "ACC" if self.random.random() < 0.98 else "ACD"
-        return self.from_client("D", [(11, own), (1, account)] + terms)
+        return self.from_client("D", [(11, own), (1, self.account())] + terms)
+
+    def account(self):
+        """Mostly the one that the limit file has."""
+        return "ACC" if self.random.random() < 0.98 else "ACD"
 
     def known(self):
         """An id that an order of this session may have, one of the last or an old one."""

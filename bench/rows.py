@@ -20,6 +20,15 @@ def base(firm, *more):
     return "".join(row + "\n" for row in rows)
 
 
+def version_2(limits, modes):
+    """A limit file of version 1 as one of version 2, with the mode of each account that has one."""
+    rows = ["version,2,,,,,"]
+    for row in limits.splitlines():
+        kind, name = row.split(",")[:2]
+        rows.append(f"{row},{modes.get(name, '') if kind == 'account' else ''}")
+    return "".join(row + "\n" for row in rows)
+
+
 def order(own, rest, client="C1", number=1):
     """An order of a client (D) for ACC in XYZ: its fields from Side (54) on."""
     return text(f"35=D|49={client}|56=GATE|34={number}|52=T|11={own}|1=ACC|55=XYZ|{rest}60=T|")
@@ -30,10 +39,10 @@ def buy(client, own, quantity, price, number=1):
     return order(own, f"54=1|38={quantity}|40=2|44={price}|", client, number)
 
 
-def replace(own, orig, quantity, price):
-    """A request to replace an order that buys (G)."""
-    return text(f"35=G|49=C1|56=GATE|34=2|52=T|11={own}|41={orig}|55=XYZ|54=1|38={quantity}|40=2|"
-                f"44={price}|60=T|")
+def replace(own, orig, quantity, price, side=1):
+    """A request to replace an order, one that buys where no other Side (54) is given (G)."""
+    return text(f"35=G|49=C1|56=GATE|34=2|52=T|11={own}|41={orig}|55=XYZ|54={side}|38={quantity}|"
+                f"40=2|44={price}|60=T|")
 
 
 def cancel(own, orig):
@@ -81,6 +90,9 @@ def example(name, *sessions):
 RACE = Run(base(1_000), (buy("C1", "a1", 60, "10.00"), buy("C2", "b1", 60, "10.00")))
 FIRST = buy("C1", "a1", 100, "10.00")
 SELL = order("a1", "54=2|38=100|40=2|44=9.00|")
+# Bought and filled, sold and filled: in a net account the two offset each other.
+ROUND = (FIRST, trade("a1", 100, "10.00"), order("a2", "54=2|38=100|40=2|44=9.00|"),
+         trade("a2", 100, "9.50"))
 # Runs over which each allocation is refused, by the names that they have there.
 RUNS = {
     "one order": one(base(1_000), buy("C1", "a1", 100, "10.0000")),
@@ -107,6 +119,8 @@ ROWS = (
     one(base(1_000, "trip,,1,,,"), buy("C1", "a1", 200, "10.00"), buy("C1", "a2", 1, "10.00")),
     one(base(5_000), text("35=D|49=C1|56=GATE|34=7|52=T|11=a1|1=ACC|54=1|38=1|40=1|60=T|")),
     one(base(5_000), replace("b1", "zz", 1, "10.00"), trade("zz", 1, "1"), report("4", "zz")),
+    one(version_2(base(5_000), {"ACC": "net"}), *ROUND),
+    one(version_2(base(5_000), {"ACC": "gross"}), *ROUND),
 )
 # Allocations are refused over these too.
 RUNS.update({

@@ -92,7 +92,8 @@ def heading_text(tree: Tree) -> str:
     """What a tree is of: its name, behind its kind."""
     if not tree.name:
         return escape(tree.kind.capitalize())
-    return f"{element('span', tree.kind, class_='kind')} {escape(tree.name)}"
+    kind = f"net {tree.kind}" if tree.is_net else tree.kind
+    return f"{element('span', kind, class_='kind')} {escape(tree.name)}"
 
 
 def thinning_text(view: TreeView) -> str:

@@ -1,7 +1,12 @@
 """The book of a session: the orders that it sent, and what they may cost."""
-from collections import Counter, namedtuple
+from collections import namedtuple
 
 LEAF_MOST = 2 ** 35 - 1
+BUY = b"1"
+# Of a pair of account and symbol, in ten-thousandths: what was filled of its buys, what of their
+# leaves may cost, and the same of its sells.
+Sums = namedtuple("Sums", "bought to_buy sold to_sell")
+NOTHING = Sums(0, 0, 0, 0)
 # A pending cancel has no quantity and no price.
 Pending = namedtuple("Pending", "id quantity price is_replace")
 
@@ -26,33 +31,53 @@ class Order:
         pending = wanted or self.pending
         return max(self.price, pending.price if pending else 0)
 
-    def exposure(self, wanted=None):
-        """What the order may cost, in ten-thousandths."""
-        return self.notional + self.leaves(wanted) * self.reserve(wanted)
+    def sums(self, wanted=None):
+        """What the order adds to the sums of its pair."""
+        return on_side(self.side, self.notional, self.leaves(wanted) * self.reserve(wanted))
 
     def close(self):
         """Canceled, expired or rejected."""
         self.is_dead, self.pending = True, None
 
 
+def on_side(side, filled, reserve):
+    """Sums of which one side has these, a buy's or a sell's."""
+    return Sums(filled, reserve, 0, 0) if side == BUY else Sums(0, 0, filled, reserve)
+
+
+def changed(sums, before, after):
+    """Sums in which an order has these sums in place of those before."""
+    return Sums(*(own - old + new for own, old, new in zip(sums, before, after)))
+
+
+def exposure(sums, is_net):
+    """What a pair may cost: in a net account what was bought and what was sold offset each other."""
+    if is_net:
+        return max(sums.bought + sums.to_buy - sums.sold, sums.sold + sums.to_sell - sums.bought)
+    return sum(sums)
+
+
 class Book:
-    """Orders by every id that they ever had, and the sums of their exposures."""
+    """Orders by every id that they ever had, and the sums of each pair; `nets` are the names of the
+    accounts that are net."""
 
-    def __init__(self):
-        self.by_id, self.sums = {}, Counter()
+    def __init__(self, nets):
+        self.by_id, self.nets, self.pairs = {}, nets, {}
 
-    def trees(self, account, symbol):
-        """The keys of the three sums of a pair."""
-        return ("firm",), ("account", account), ("symbol", symbol)
+    def values(self, account, symbol, before=NOTHING, after=NOTHING):
+        """The values of the three trees of a pair, in which an order has other sums than before:
+        the exposures of the pairs in the tree, rounded up once."""
+        pair = account, symbol
+        pairs = {**self.pairs, pair: changed(self.pairs.get(pair, NOTHING), before, after)}
+        costs = {own: exposure(sums, own[0] in self.nets) for own, sums in pairs.items()}
+        parts = (costs.values(), [cost for own, cost in costs.items() if own[0] == account],
+                 [cost for own, cost in costs.items() if own[1] == symbol])
+        return [-(-sum(part) // 10_000) for part in parts]
 
-    def values(self, account, symbol, more=0):
-        """The values of the three trees with so much more exposure, rounded up once."""
-        return [-(-(self.sums[key] + more) // 10_000) for key in self.trees(account, symbol)]
-
-    def add(self, order, more):
-        """Adds to the three sums of an order."""
-        for key in self.trees(order.account, order.symbol):
-            self.sums[key] += more
+    def change(self, order, before):
+        """Takes over the sums of an order that had others before."""
+        pair = order.account, order.symbol
+        self.pairs[pair] = changed(self.pairs.get(pair, NOTHING), before, order.sums())
 
     def fault_of(self, own_id, orig):
         """What stands against a request, by ids and by its order's state."""
@@ -67,11 +92,12 @@ class Book:
             return "Pending"
         return None if order.id == orig else "Unknown"
 
-    def propose_new(self, own_id, account, symbol, quantity, price):
+    def propose_new(self, own_id, account, symbol, side, quantity, price):
         """The three values with this order, or a fault."""
         if own_id in self.by_id:
             return "Duplicate"
-        return self.fitting(self.values(account, symbol, quantity * price))
+        sums = on_side(side, 0, quantity * price)
+        return self.fitting(self.values(account, symbol, after=sums))
 
     def propose_replace(self, values, price):
         """The three values with this replace pending, or a fault."""
@@ -84,8 +110,8 @@ class Book:
             return "Mismatch"
         if quantity <= order.filled:
             return "Quantity"
-        more = order.exposure(Pending(None, quantity, price, True)) - order.exposure()
-        return self.fitting(self.values(order.account, order.symbol, more))
+        wanted = order.sums(Pending(None, quantity, price, True))
+        return self.fitting(self.values(order.account, order.symbol, order.sums(), wanted))
 
     def fitting(self, values):
         """The values, or the fault that a leaf can't hold one."""
@@ -95,28 +121,28 @@ class Book:
         """Takes up an order that is sent."""
         order = Order(own_id, account, symbol, side, quantity, price)
         self.by_id[own_id] = order
-        self.add(order, order.exposure())
+        self.change(order, NOTHING)
 
     def commit_request(self, own_id, orig, quantity, price, is_replace):
         """Takes up a request that is sent."""
         order = self.by_id[orig]
-        before = order.exposure()
+        before = order.sums()
         order.pending = Pending(own_id, quantity, price, is_replace)
         self.by_id[own_id] = order
-        self.add(order, order.exposure() - before)
+        self.change(order, before)
 
     def apply(self, kind, values):
         """Changes the order of a report or an OrderCancelReject: `stray`, `over`, or the order."""
         order = self.by_id.get(values.get(11))
         if not order:
             return "stray"
-        before = order.exposure()
+        before = order.sums()
         if kind == "9":
             if order.pending and order.pending.id == values[11]:
                 order.pending = None
         elif not report(order, values):
             return "over"
-        self.add(order, order.exposure() - before)
+        self.change(order, before)
         return order
 
 

@@ -1,4 +1,5 @@
-"""A limit file: its rows and the trees that they make; of a text that is none, its first fault."""
+"""A limit file of either version: its rows and the trees that they make; of a text that is none, its
+first fault."""
 import csv
 import re
 from collections import namedtuple
@@ -22,6 +23,9 @@ KINDS = {
     "off": Kind(True, False, 0, 1_000_000_000, 16),
 }
 SIZES = (1, 1_000_000_000)
+# The first row of a file of version 2, whose rows have a seventh column, the mode.
+VERSION = ["version", "2", "", "", "", "", ""]
+MODES = ("", "gross", "net")
 
 
 def is_number(text, least, most):
@@ -45,15 +49,23 @@ def is_name(text):
         return False
 
 
-def fault_of_row(row, before):
+def rows_of(text):
+    """Its version, and its rows with their numbers from 1 but for the row that tells the version."""
+    rows = list(enumerate(filter(None, csv.reader(text.split("\n"))), 1))
+    return (2, rows[1:]) if rows and rows[0][1] == VERSION else (1, rows)
+
+
+def fault_of_row(version, row, before):
     """The first fault of a row behind rows of these kinds and names; None where it has none."""
-    if len(row) != 6:
+    if len(row) != {1: 6, 2: 7}[version]:
         return SHAPE
-    word, name, limit, low, high, size = row
+    (word, name, limit, low, high, size), mode = row[:6], "".join(row[6:])
     kind = KINDS.get(word)
-    if not kind:
+    if not kind or (word == "account" and mode not in MODES):
         return KIND
     if (name and not kind.is_named) or ((low or high or size) and not kind.is_banded):
+        return SHAPE
+    if mode and word != "account":
         return SHAPE
     are_numbers = is_number(limit, kind.least, kind.most)
     if kind.is_banded:
@@ -75,9 +87,10 @@ def first_fault(text):
     file."""
     if len(text.encode()) > MOST_BYTES:
         return TOO_MANY, 0
+    version, rows = rows_of(text)
     before = []
-    for number, row in enumerate(filter(None, csv.reader(text.split("\n"))), 1):
-        fault = fault_of_row(row, before)
+    for number, row in rows:
+        fault = fault_of_row(version, row, before)
         if fault:
             return fault, number
         before.append(tuple(row[:2]))
@@ -85,13 +98,16 @@ def first_fault(text):
 
 
 class Limits:
-    """Firm, accounts and symbols with their limits, in file order, and the settings."""
+    """Firm, accounts and symbols with their limits, in file order, the names of the accounts that
+    are net, and the settings."""
 
     def __init__(self, text):
         self.firm, self.trip, self.quota, self.repeat = None, None, QUOTA, 0
-        self.accounts, self.symbols, self.off = {}, {}, []
-        for kind, name, limit, low, high, size in filter(None, csv.reader(text.split("\n"))):
+        self.accounts, self.symbols, self.off, self.nets = {}, {}, [], set()
+        for _, (kind, name, limit, low, high, size, *mode) in rows_of(text)[1]:
             self.take(kind, name.encode(), int(limit), low, high, size)
+            if mode == ["net"]:
+                self.nets.add(name.encode())
         self.account_places = {name: place for place, name in enumerate(self.accounts)}
         self.symbol_places = {name: place for place, name in enumerate(self.symbols)}
 

@@ -17,7 +17,7 @@ class Session:
     def __init__(self, limits, screens, reads):
         self.limits, self.screens, self.reads = limits, screens, iter(reads)
         self.acts, self.venue, self.client = [], Stream(), Stream()
-        self.book, self.posted, self.posts = Book(), {}, {}
+        self.book, self.posted, self.posts = Book(limits.nets), {}, {}
         self.frame, self.orders, self.firms, self.target = 0, 0, 0, b"CLIENT"
 
     def post(self, tree, value):
@@ -158,7 +158,7 @@ class Session:
             return
         price = self.price_of(values, pair[1])
         if is_new:
-            proposal = self.book.propose_new(values[11], *pair, values[38], price)
+            proposal = self.book.propose_new(values[11], *pair, values[54], values[38], price)
         else:
             proposal = self.book.propose_replace(values, price)
         if isinstance(proposal, str):

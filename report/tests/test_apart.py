@@ -72,6 +72,17 @@ LIMIT_FILES = [
     ("another word", "trip", "tripp", UNREADABLE, "row 5 isn't one of a limit file"),
     ("five columns", "trip,,2,,,", "trip,,2,,", UNREADABLE, "row 5 isn't one of a limit file"),
 ]
+# The same in version 2: what is changed, and the row that isn't one then.
+SECOND_VERSION = [
+    ("no such mode", "account,ALPHA,4000,,,,", "account,ALPHA,4000,,,,Net", 3),
+    ("the firm's mode", "firm,,5000,,,,", "firm,,5000,,,,net", 2),
+    ("a symbol's mode", "1,20,1000,", "1,20,1000,gross", 5),
+    ("a setting's mode", "trip,,2,,,,", "trip,,2,,,,net", 6),
+    ("six columns", "trip,,2,,,,", "trip,,2,,,", 6),
+    ("another version", "version,2,", "version,3,", 1),
+    ("no version", "version,2,,,,,\n", "", 1),
+    ("twice", "version,2,,,,,\n", "version,2,,,,,\n" * 2, 2),
+]
 
 
 class Apart(unittest.TestCase):
@@ -124,6 +135,16 @@ class Apart(unittest.TestCase):
             self.assertIn(old, text, name)
             Path(self.words[0]).write_text(text.replace(old, new))
             self.expect(name, status, said)
+
+    def test_limit_files_of_version_2(self):
+        """A mode that is none or in another row, a row of six columns, the version in another place."""
+        text = (EXAMPLES / "firm" / "limits.csv").read_text()
+        text = "version,2,,,,,\n" + text.replace("\n", ",\n")
+        self.words[0] = str(self.out / "limits.csv")
+        for name, old, new, row in SECOND_VERSION:
+            self.assertIn(old, text, name)
+            Path(self.words[0]).write_text(text.replace(old, new, 1))
+            self.expect(name, UNREADABLE, f"row {row} isn't one of a limit file")
 
     def test_streams(self):
         """A stream has another message, one too few or one too many."""

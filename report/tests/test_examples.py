@@ -48,6 +48,12 @@ FIRM = [
 ]
 
 
+def version_2(text: str) -> str:
+    """A limit file as one of version 2, with no mode."""
+    return "".join(row + "\n" for row in ("version,2,,,,,", *(f"{row},"
+                                                              for row in text.splitlines())))
+
+
 def page_data(html: str, name: str):
     """What the page's script is given."""
     text = re.search(f'id="{name}">([^<]*)<', html)[1]
@@ -95,10 +101,23 @@ class Examples(unittest.TestCase):
         text = Path(words[0]).read_text()
         words[0] = str(self.out / "limits.csv")
         for name, data in (("mark", "\ufeff" + text), ("CR", text.replace("\n", "\r\r")),
-                           ("quotes", text.replace("ACC", '"ACC"'))):
+                           ("quotes", text.replace("ACC", '"ACC"')),
+                           ("version 2", version_2(text))):
             Path(words[0]).write_bytes(data.encode())
             with quiet() as said:
                 self.assertEqual(main(words), DONE, f"{name}: {said.getvalue()}")
+
+    def test_the_mode_of_an_account_is_shown(self):
+        """A net account is called so in its heading; the journal is checked as any other."""
+        words = example("first", self.out)
+        text = version_2(Path(words[0]).read_text())
+        words[0] = str(self.out / "limits.csv")
+        for mode, wanted in (("net", "net account"), ("gross", "account"), ("", "account")):
+            Path(words[0]).write_text(text.replace("100000,,,,", f"100000,,,,{mode}", 1))
+            with quiet() as said:
+                self.assertEqual(main(words), DONE, f"{mode}: {said.getvalue()}")
+            page = (self.out / "report.html").read_text()
+            self.assertIn(f'<span class="kind">{wanted}</span> ACC', page)
 
     def test_trees(self):
         """How far each limit was used: tree, limit, highest sent, used, highest posted, at the end,

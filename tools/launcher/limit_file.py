@@ -1,11 +1,15 @@
-"""What is wrong with a limit file: its first fault, as docs/FORMATS.md has them, with the row, its
-line and what was expected there."""
+"""What is wrong with a limit file of either version: its first fault, as docs/FORMATS.md has them,
+with the row, its line and what was expected there."""
 import re
 
 from launcher.say import counted, shown
 
 LONGEST = 1_048_576
 COLUMNS = ("kind", "name", "limit", "low", "high", "size")
+# What a row of version 2 has besides, and the first row of such a file.
+MODE = "mode"
+MODES = (b"", b"gross", b"net")
+VERSION_2 = [b"version", b"2", b"", b"", b"", b"", b""]
 
 # Of each kind: whether it has a name, the range of its limit, and how many rows there may be.
 KINDS = {
@@ -21,7 +25,8 @@ SIZES = (1, 1_000_000_000)
 
 
 class Row:
-    """One row: its columns as bytes, its number and its line, both from 1, and its text."""
+    """One row: its columns as bytes, its number and its line, both from 1, and its text; and those
+    that a row of the file's version has."""
 
     def __init__(self, columns, number, line, text):
         self.columns = columns
@@ -29,6 +34,7 @@ class Row:
         self.line = line
         self.text = text
         self.kind = columns[0]
+        self.wanted = COLUMNS
 
 
 class Fault:
@@ -57,8 +63,8 @@ def first_fault(data):
             7, None, f"it has {counted(len(data))} bytes: at most {counted(LONGEST)} are read"
         )
     before = []
-    for row in rows(data):
-        for wrong in (shape, kind, filled, numbers, wrong_name, repeated, too_many, band):
+    for row in limit_rows(data):
+        for wrong in (shape, kind, wrong_mode, filled, numbers, wrong_name, repeated, too_many, band):
             found = wrong(row, before)
             if found:
                 return Fault(found[0], row, found[1])
@@ -68,14 +74,30 @@ def first_fault(data):
     return None
 
 
+def limit_rows(data):
+    """The rows but for the one that tells version 2, each with the columns of its version."""
+    wanted = COLUMNS
+    for row in rows(data):
+        if row.number == 1 and row.columns == VERSION_2:
+            wanted = (*COLUMNS, MODE)
+            continue
+        row.wanted = wanted
+        yield row
+
+
 def shape(row, _):
     count = len(row.columns)
-    if count != len(COLUMNS):
-        columns = f"{count} column" + ("" if count == 1 else "s")
-        other = next((one for one in (b";", b"\t", b"|") if row.text.count(one) == 5), None)
-        more = f". Between columns is a comma, and not {shown(other)}" if other else ""
-        return 1, f"it has {columns}: a row has six, " + ", ".join(COLUMNS) + more
-    return None
+    if count == len(row.wanted):
+        return None
+    columns = f"{count} column" + ("" if count == 1 else "s")
+    most = len(row.wanted) - 1
+    other = next((one for one in (b";", b"\t", b"|") if row.text.count(one) == most), None)
+    more = f". Between columns is a comma, and not {shown(other)}" if other else ""
+    if MODE in row.wanted:
+        return 1, f"it has {columns}: a row of version 2 has seven, {', '.join(row.wanted)}{more}"
+    if count == len(COLUMNS) + 1:
+        more = ". A file whose rows have a seventh, the mode, begins with the row `version,2,,,,,`"
+    return 1, f"it has {columns}: a row has six, {', '.join(row.wanted)}{more}"
 
 
 def kind(row, _):
@@ -89,18 +111,28 @@ def near(row):
     """What may have led to a kind that is none."""
     if row.kind == b"kind":
         return ". A limit file has no row of titles"
+    if row.kind == b"version":
+        return ". A file of version 2 begins with the row `version,2,,,,,`, and has it once"
     if row.kind.strip().lower() in KINDS:
         return ", in small letters and without blanks"
     return ""
 
 
+def wrong_mode(row, _):
+    if row.kind != b"account" or row.columns[6:7] in ([], *([mode] for mode in MODES)):
+        return None
+    return 2, f"the column {MODE} is {shown(row.columns[6])}: it has to be empty, gross or net"
+
+
 def filled(row, _):
     named = KINDS[row.kind][0]
-    empty = () if row.kind == b"symbol" else (3, 4, 5)
-    for place in empty if named else (1, *empty):
-        if row.columns[place]:
-            column, of = f"{COLUMNS[place]} is {shown(row.columns[place])}", row.kind.decode()
-            return 1, f"the column {column}: in a row `{of}` it stays empty"
+    empty = [] if named else [1]
+    empty += [] if row.kind == b"symbol" else [3, 4, 5]
+    empty += [] if row.kind == b"account" else [6]
+    for place, column in enumerate(row.wanted):
+        if place in empty and row.columns[place]:
+            told, of = f"{column} is {shown(row.columns[place])}", row.kind.decode()
+            return 1, f"the column {told}: in a row `{of}` it stays empty"
     return None
 
 

@@ -2,7 +2,7 @@
 import re
 import unittest
 
-from launcher.limit_file import KINDS
+from launcher.limit_file import KINDS, MODES
 from launcher.usage import HELP
 from tests.sources import sources, text, uses
 
@@ -59,7 +59,11 @@ class Formats(unittest.TestCase):
 
     def test_the_rows_of_a_limit_file_are_those_that_the_launcher_knows(self):
         told = {}
-        for kind, name, limit, prices, size, rows in table("| Kind | Name | Limit |"):
+        for kind, name, limit, prices, size, mode, rows in table("| Kind | Name | Limit |"):
+            modes = re.findall("`(.*?)`|(empty)", mode)
+            self.assertEqual(
+                {one.encode() for one, _ in modes}, set(MODES if kind == "`account`" else [b""])
+            )
             ends = tuple(int(one.replace(",", "")) for one in limit.split(" to "))
             told[kind.strip("`").encode()] = (name == "name", ends, int(rows.split()[-1]))
             self.assertEqual(prices == "prices", kind == "`symbol`")

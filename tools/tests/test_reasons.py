@@ -13,6 +13,7 @@ from tests.places import LIMITS, ORDER, InFolder, soh
 
 RUN = ("run", "limits.csv", "out", "a.fix")
 ROWS = "firm,,1000,,,\n"
+NET = "version,2,,,,,\nfirm,,5000,,,,\naccount,ACC,9,,,,net\nsymbol,XYZ,9,1,12,100,\n"
 DROPPED = "".join(f"off,S{n},1,,,\n" for n in range(17))
 SYMBOLS = "".join(f"symbol,S{n},1,1,2,1\n" for n in range(401))
 
@@ -102,6 +103,17 @@ FAULTS = [
     ("a screen dropped twice", ROWS + "off,size,1,,,\noff,size,2,,,\n", 5, 3, 3, ["row off `size`"]),
     ("no screen", ROWS + "off,,1,,,\n", 4, 2, 2, ["the name is ``"]),
     ("an order too late", ROWS + "off,size,1000000001,,,\n", 3, 2, 2, ["0 to 1,000,000,000"]),
+    ("a mode in version 1", ROWS + "account,A,1,,,,net\n", 1, 2, 2, ["it has 7", "`version,2,,,,,`"]),
+    ("six columns in version 2", NET + "quota,,1,,,\n", 1, 5, 5, ["it has 6", "size, mode"]),
+    ("a mode that is none", NET + "account,A,1,,,,both\n", 2, 5, 5, ["mode is `both`", "gross or net"]),
+    ("a mode of the firm", NET + "quota,,1,,,,gross\n", 1, 5, 5, ["mode is `gross`", "`quota`"]),
+    ("a column before a mode", NET + "account,A,1,,2,,net\n", 1, 5, 5, ["the column high is `2`"]),
+    ("a mode before a column", NET + "account,A,1,,2,,Net\n", 2, 5, 5, ["the column mode is `Net`"]),
+    ("the version twice", NET + "version,2,,,,,\n", 2, 5, 5, ["the kind is `version`"]),
+    ("the version too late", ROWS + "version,2,,,,,\n", 1, 2, 2, ["it has 7 columns"]),
+    ("a version of six columns", "version,2,,,,\n" + ROWS, 2, 1, 1, ["begins with the row `version,2,,,,,`"]),
+    ("another version", "version,3,,,,,\n", 1, 1, 1, ["it has 7 columns: a row has six"]),
+    ("semicolons in version 2", NET + "quota;;1;;;;\n", 1, 5, 5, ["a comma, and not `;`"]),
     ("17 screens", ROWS + DROPPED, 7, 18, 18, ["there are 16 rows `off` before"]),
     ("401 symbols", ROWS + SYMBOLS, 7, 402, 402, ["there are 400 rows `symbol` before"]),
     ("too many bytes", "#" * 1_048_577, 7, 0, 0, ["1,048,576 are read"]),
@@ -243,7 +255,8 @@ class LimitFaults(InFolder):
     def test_a_sound_file_has_no_fault(self):
         for text in (
             LIMITS, "\ufefffirm,,1,,,\n", 'firm,"",0,,,', ROWS + 'symbol,X,1,.5,"2.",007\n',
-            'off,"no, such",1000000000,,,\noff,size,0,,,\n' + ROWS + "off,collar,0,,,\n"
+            'off,"no, such",1000000000,,,\noff,size,0,,,\n' + ROWS + "off,collar,0,,,\n",
+            NET, "\r\n" + NET.replace("net", "gross") + "off,size,0,,,,\n", NET.replace("net", "")
         ):
             self.assertIsNone(first_fault(text.encode()))
 
