@@ -156,15 +156,21 @@ def at_limits(dice, limits):
 
 
 def screened(dice, limits):
-    """Orders and replaces at and beyond what the screens let pass, most of them like each other."""
+    """Orders and replaces at and beyond what the screens let pass, most of them like each other; some
+    with a field fault, which count as orders, and cancels, which don't."""
     row, data = Limits(limits).symbols[b"XYZ"], []
     for place in range(dice.randint(2, 12)):
+        own, orig, choice = f"o{place}", f"o{dice.randint(0, place)}", dice.random()
         quantity = dice.choice((1, 1, 1, 2, row.size, row.size + 1))
         price = price_text(dice.choice((row.high, row.high, row.low, row.high + 1)))
-        if dice.random() < 0.2:
-            data.append(replace(f"o{place}", f"o{dice.randint(0, place)}", quantity, price))
-        else:
-            data.append(buy("C1", f"o{place}", quantity, price))
+        made = buy("C1", own, quantity, price)
+        if choice < 0.2:
+            made = replace(own, orig, quantity, price)
+        elif choice < 0.3:
+            made = cancel(own, orig)
+        elif choice < 0.4:
+            made = broken.with_value(made, 55, b"")
+        data.append(made)
     return b"".join(data)
 
 
