@@ -94,7 +94,7 @@ def judge_refused(worked, done):
         acts, lines = read_journal(done.journal())
     except Fault:
         return None
-    if sum(act[0] == "post" for own in acts for act in own) != sum(map(len, lines)):
+    if sum(act[0] == "post" for own in acts for act in own) != sum(map(len, lines.values())):
         return None
     limits, ended = Limits(worked.limits), 0
     judge_journal(done.journal(), limits)

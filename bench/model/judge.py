@@ -79,8 +79,8 @@ def judge_journal(text, limits):
         acts, lines = read_journal(text)
     except Fault as fault:
         raise Wrong("no journal", *fault.args) from fault
-    demand(len(lines) <= limits.halt_tree() + 1, "too many trees")
-    lines += [[] for _ in range(limits.halt_tree() + 1 - len(lines))]
+    demand(max(lines, default=0) <= limits.halt_tree(), "too many trees")
+    lines = [lines.get(tree, []) for tree in range(limits.halt_tree() + 1)]
     for tree, (word, _, limit) in enumerate(limits.trees()):
         fold, most = ("max", None) if word == "halt" else ("sum", limit)
         judge_tree(acts, lines[tree], tree, fold, most)
