@@ -9,10 +9,12 @@ pub within_slices : (number : ℕ) (steps : List ℕ) (machines : List Machine)
     → All KeepsSlice machines → admitted_from number steps machines ≤ slices_sum machines
 within_slices number steps [] kept = omega arith
 within_slices number steps (machine ∷ later) kept =
-    omega
-    (arith, sum_by-cons (λ (own : Machine). own.slice) machine later,
-    All-head KeepsSlice machine later kept (steps_by number steps),
-    within_slices (number + 1) steps later (All-tail KeepsSlice machine later kept))
+    omega (
+      arith,
+      sum_by-cons (λ (own : Machine). own.slice) machine later,
+      All-head KeepsSlice machine later kept (steps_by number steps),
+      within_slices (number + 1) steps later (All-tail KeepsSlice machine later kept),
+    )
 
 pub together_within : (limit : ℕ) (machines : List Machine) (steps : List ℕ)
     → slices_sum machines ≤ limit → All KeepsSlice machines
