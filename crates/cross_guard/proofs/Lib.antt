@@ -2,3 +2,9 @@ pub mod LevelBounds
 pub mod Apart
 pub mod Clearing
 pub mod OwnAdmits
+pub mod Lasts
+pub mod Capped
+pub mod Places
+pub mod Rested
+pub mod Values
+pub mod Covered

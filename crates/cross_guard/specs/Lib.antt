@@ -4,3 +4,7 @@ pub mod Levels
 pub mod Guarding
 pub mod Standings
 pub mod Laws
+pub mod Resting
+pub mod Held
+pub mod Session
+pub mod Covering

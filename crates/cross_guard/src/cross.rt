@@ -1,4 +1,5 @@
 //! The fold of resting orders: of buys the highest level, and of sells the lowest.
+ghost use Rattle.std.specs.Prelude.{◌≡◌};
 ghost use Rattle.cross_guard.specs.Halves.{cross_cap, cross_join, cross_le, IsPacked};
 ghost use Rattle.cross_guard.specs.HalvesLaws.{cross_laws};
 
@@ -10,6 +11,13 @@ pub const HALF: u64 = 524_288;
 
 /// Every value is below this.
 pub const PACKED: u64 = 274_877_906_944;
+
+/// Two values as one: the larger of each half.
+pub(crate) fn joined(a: u64, b: u64) -> u64
+    ensures { result ≡ cross_join a b }
+{
+    (a / HALF).max(b / HALF) * HALF + (a % HALF).max(b % HALF)
+}
 
 /// The larger of both halves.
 pub struct Cross;
@@ -30,7 +38,7 @@ impl Fold for Cross {
     ghost under = { IsPacked };
 
     fn join(a: u64, b: u64) -> u64 {
-        (a / HALF).max(b / HALF) * HALF + (a % HALF).max(b % HALF)
+        joined(a, b)
     }
 
     fn le(a: u64, b: u64) -> bool {

@@ -1,6 +1,11 @@
 //! Laws on clear values. The functions do nothing: their contracts are the laws.
-ghost use Rattle.std.specs.Prelude.{◌≡◌, ℕ, List, length, true};
+ghost use Rattle.std.specs.Prelude.{◌≡◌, ℕ, List, length, true, Option};
+ghost use Rattle.fix_fields.specs.Fields.{FieldValue};
 ghost use Rattle.fold_law.specs.Whole.{whole_of};
+ghost use Rattle.limit_table.specs.Trees.{LimitsValue};
+ghost use Rattle.risk_journal.specs.ActLists.{SeenAt};
+ghost use Rattle.cross_guard.specs.Covering.{Covers};
+ghost use Rattle.cross_guard.specs.Session.{CrossSession, opening, after_frame};
 ghost use Rattle.risk_board.specs.History.{Event, IsLegal};
 ghost use Rattle.risk_board.specs.declared.hand.Line.{Line as LineValue};
 ghost use Rattle.limit_table.specs.declared.kind.SymbolRow.{SymbolRow as RowValue};
@@ -28,6 +33,15 @@ pub fn admitted_stays_clear()
 pub fn admitted_orders_never_cross()
     ensures { (components : ℕ) (lines : List LineValue) (events : List (List Event))
         → IsLegal (whole_of cross_join 0) 0 components lines events → NeverCross lines events }
+{}
+
+/// Before the first frame, and after each, what the orders of a session rest as is admitted in each
+/// symbol, whatever its frames and its reads are.
+pub fn resting_orders_are_covered()
+    ensures first { (reads : List SeenAt) → Covers (opening reads) }
+    ensures next { (limits : LimitsValue) (text : List ℕ) (fields : Option (List FieldValue))
+        (session : CrossSession) → Covers session
+        → Covers (after_frame limits text fields session) }
 {}
 
 /// In a legal history each session stands at each place as a front of its own posts and reads leaves it,

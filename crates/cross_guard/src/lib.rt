@@ -5,21 +5,27 @@
 //! highest level of its buys, and the lowest level of its sells, told so that in both halves more is
 //! larger. A *level* is a price's place among 524,287 between the symbol's collars. The root of a
 //! symbol's tree joins the values of all sessions by halves, and is *clear* where its highest buy is
-//! below its lowest sell. Nothing here knows of frames or of threads.
+//! below its lowest sell. What of a session's orders may rest is kept order by order, with all *terms*
+//! that the venue may have of each. No code here knows of frames or of threads.
 #![tactic(auto)]
 
 mod cross;
 mod guarding;
 mod laws;
 mod level;
+mod orders;
+mod resting;
 
 pub use cross::{Cross, HALF, PACKED};
 pub use guarding::{CrossOutcome, CrossVerdict, guard};
 pub use laws::{
     a_history_admits_what_sessions_do, admitted_orders_never_cross, admitted_stays_clear,
-    clear_keeps_orders_apart,
+    clear_keeps_orders_apart, resting_orders_are_covered,
 };
 pub use level::{clear, cross_value};
+pub use orders::RestingOrders;
 
+#[cfg(test)]
+mod orders_tests;
 #[cfg(test)]
 mod tests;
