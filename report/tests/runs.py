@@ -23,11 +23,18 @@ def order(number: int, client: str, order_id: str, account: str, symbol: str, qu
             f"|54=1|38={quantity}|40=2|44={price}|60={TIME}|")
 
 
-def forward(number: int, order_id: str, account: str, symbol: str, quantity: str,
-            price: str) -> bytes:
-    """The message that passes a buy limit order on to the venue."""
+def forward(number: int, order_id: str, account: str, symbol: str, quantity: str, price: str,
+            side: str = "1") -> bytes:
+    """The message that passes a limit order on to the venue, a buy where no other side is given."""
     return frame(f"35=D|49=GATE|56=VENUE|34={number}|52={TIME}|11={order_id}|1={account}"
-                 f"|55={symbol}|54=1|38={quantity}|40=2|44={price}|60={TIME}|")
+                 f"|55={symbol}|54={side}|38={quantity}|40=2|44={price}|60={TIME}|")
+
+
+def filled(number: int, client: str, order_id: str, account: str, side: str, price: str) -> bytes:
+    """The report, passed on to the client, that 100 shares of XYZ were traded, all of an order."""
+    return frame(f"35=8|49=GATE|56={client}|34={number}|52={TIME}|37=V{number}|11={order_id}"
+                 f"|17=E{number}|150=F|39=2|1={account}|55=XYZ|54={side}|38=100|32=100|31={price}"
+                 f"|151=0|14=100|6={price}|")
 
 
 def refusal(number: int, client: str, order_id: str, reason: int, account: str, symbol: str,
@@ -142,6 +149,36 @@ FIRM_STREAMS = {
     "s03.venue": b"", "s03.client": refusal(1, "BETA2", "d1", 0, "BETA", "XYZ", "10", "HALT"),
 }
 
+NET_POSTS = "0:1:1000 0:2:1000 0:3:50 0:4:1050 0:5:2250 0:6:2000 0:7:3500 0:8:5000 0:9:3500"
+NET_JOURNAL = journal(" ".join([
+    asks(0, (0, 1, 3), (1, 1, 1), (1000,) * 3, "4,0,0,0 0,1,1,1000 1,1,1,1000 3,1,1,1000"),
+    "sent,0,0,,,",
+    asks(0, (0, 1, 3), (2, 2, 2), (1000,) * 3, "4,0,0,0 0,2,2,1000 1,2,2,1000 3,2,2,1000"),
+    "sent,0,2,,,",
+    asks(0, (0, 1, 3), (3, 3, 3), (50,) * 3, ""),
+    asks(0, (0, 2, 3), (4, 1, 4), (1050, 1000, 1050), "4,0,0,0 0,4,4,1050 2,1,1,1000 3,4,4,1050"),
+    "sent,0,4,,,",
+    asks(0, (0, 2, 3), (5, 2, 5), (2250, 2200, 2250), "4,0,0,0 0,5,5,2250 2,2,2,2200 3,5,5,2250"),
+    "sent,0,6,,,",
+    asks(0, (0, 2, 3), (6, 3, 6), (2000, 1950, 2000), ""),
+    asks(0, (0, 1, 3), (7, 4, 7), (3500, 1550, 3500), "4,0,0,0 0,7,7,3500 1,4,4,1550 3,7,7,3500"),
+    "sent,0,8,,,",
+    asks(0, (0, 2, 3), (8, 4, 8), (5000, 3450, 5000), "4,0,0,0 0,8,8,5000 2,4,4,3450 3,8,8,5000"),
+    back(0, (0, 2, 3), (9, 5, 9), (3500, 1950, 3500)), "refused,0,9,2,0,0 ended,0,0,,,",
+    lines(0, NET_POSTS), lines(1, "0:1:1000 0:2:1000 0:3:50 0:4:1550"),
+    lines(2, "0:1:1000 0:2:2200 0:3:1950 0:4:3450 0:5:1950"), lines(3, NET_POSTS)]))
+NET_STREAMS = {
+    "s00.venue": forward(1, "n1", "NETTED", "XYZ", "100", "10.00")
+    + forward(2, "n2", "NETTED", "XYZ", "100", "9.00", "2")
+    + forward(3, "g1", "PLAIN", "XYZ", "100", "10.00")
+    + forward(4, "g2", "PLAIN", "XYZ", "100", "9.00", "2")
+    + forward(5, "n3", "NETTED", "XYZ", "150", "10.00"),
+    "s00.client": filled(1, "C1", "n1", "NETTED", "1", "10.00")
+    + filled(2, "C1", "n2", "NETTED", "2", "9.50") + filled(3, "C1", "g1", "PLAIN", "1", "10.00")
+    + filled(4, "C1", "g2", "PLAIN", "2", "9.50")
+    + refusal(5, "C1", "g3", 3, "PLAIN", "XYZ", "150", "ACCOUNT"),
+}
+
 DAY = EXAMPLES / "day" / "expected"
 RUNS = {
     "day": (("session",), (DAY / "journal.csv").read_text(),
@@ -149,6 +186,7 @@ RUNS = {
     "first": (("session",), FIRST_JOURNAL, FIRST_STREAMS),
     "desk": (("session",), DESK_JOURNAL, DESK_STREAMS),
     "firm": (("alpha1", "beta1", "alpha2", "beta2"), FIRM_JOURNAL, FIRM_STREAMS),
+    "net": (("session",), NET_JOURNAL, NET_STREAMS),
 }
 
 

@@ -16,6 +16,7 @@ from report.tests.runs import TIME, TOP, example
 
 HEADER = ["session", "frame", "time", "ClOrdID", "OrigClOrdID", "account", "symbol", "side",
           "quantity", "price", "outcome", "tree", "root", "limit", "excess", "message"]
+ORDER, TRADE = "NewOrderSingle", "ExecutionReport: trade"
 
 # session, frame, ClOrdID, account, symbol, quantity, price, outcome, tree, root, limit, excess
 FIRST = [
@@ -45,6 +46,20 @@ FIRM = [
     ("2", "1", "c2", "ALPHA", "XYZ", "70", "10.00", "refused: FIRM", "firm", "5200", "5000", "200"),
     ("2", "2", "c3", "ALPHA", "XYZ", "10", "10.00", "refused: HALT", "halt", "1", "", ""),
     ("3", "0", "d1", "BETA", "XYZ", "10", "10.00", "refused: HALT", "halt", "1", "", ""),
+]
+# frame, ClOrdID, account, side, quantity, price, outcome, tree, root, limit, excess, message
+NET = [
+    ("0", "n1", "NETTED", "buy", "100", "10.00", "sent", "", "", "", "", ORDER),
+    ("1", "n1", "NETTED", "buy", "100", "10.00", "passed on", "", "", "", "", TRADE),
+    ("2", "n2", "NETTED", "sell", "100", "9.00", "sent", "", "", "", "", ORDER),
+    ("3", "n2", "NETTED", "sell", "100", "9.50", "passed on", "", "", "", "", TRADE),
+    ("4", "g1", "PLAIN", "buy", "100", "10.00", "sent", "", "", "", "", ORDER),
+    ("5", "g1", "PLAIN", "buy", "100", "10.00", "passed on", "", "", "", "", TRADE),
+    ("6", "g2", "PLAIN", "sell", "100", "9.00", "sent", "", "", "", "", ORDER),
+    ("7", "g2", "PLAIN", "sell", "100", "9.50", "passed on", "", "", "", "", TRADE),
+    ("8", "n3", "NETTED", "buy", "150", "10.00", "sent", "", "", "", "", ORDER),
+    ("9", "g3", "PLAIN", "buy", "150", "10.00", "refused: ACCOUNT", "account PLAIN", "3450", "3000",
+     "450", ORDER),
 ]
 
 
@@ -86,8 +101,17 @@ class Examples(unittest.TestCase):
                 session, frame, order_id, account, symbol, quantity, price, *rest = cells
                 whole = [session, frame, TIME, order_id, "", account, symbol, "buy", quantity,
                          price,
-                         *rest, "NewOrderSingle"]
+                         *rest, ORDER]
                 self.assertEqual(row, whole, f"{name}, {order_id}")
+
+    def test_requests_and_reports_of_the_net_account(self):
+        """Each row of the example with trades."""
+        self.written("net")
+        with open(self.out / "requests.csv", encoding="utf-8", newline="") as file:
+            _, *rows = csv.reader(file)
+        for row, cells in zip(rows, NET, strict=True):
+            frame, order_id, account, *rest = cells
+            self.assertEqual(row, ["0", frame, TIME, order_id, "", account, "XYZ", *rest])
 
     def test_the_day(self):
         """The day's table, with cancels, replaces and reports, which was checked by hand."""
@@ -139,6 +163,11 @@ class Examples(unittest.TestCase):
                      "2 account BETA 4,000 1,500 37 % 2,500 1,500 5 0",
                      "3 symbol XYZ 100,000 4,500 4.5 % 5,500 4,500 12 0",
                      "4 halt, tripped by session 2 none – – – 1 1 2"],
+            "net": ["0 firm 6,000 3,500 58 % 5,000 3,500 9 0",
+                    "1 account NETTED 3,000 1,550 51 % 1,550 1,550 4 0",
+                    "2 account PLAIN 3,000 2,200 73 % 3,450 1,950 5 1",
+                    "3 symbol XYZ 6,000 3,500 58 % 5,000 3,500 9 0",
+                    "4 halt, not tripped none – – – 0 0 0"],
         }
         for name, rows in want.items():
             part = re.search(r'id="trees".*?</table>', self.written(name), re.DOTALL)[0]

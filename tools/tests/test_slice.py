@@ -68,6 +68,17 @@ class Slices(unittest.TestCase):
                     else:
                         self.assertEqual(set(shares), {int(row.columns[2])})
 
+    def test_modes_and_the_version_stand_in_each_slice(self):
+        self.put(b"version,2,,,,,\nfirm,,5,,,,\naccount,A,3,,,,net\naccount,B,1,,,,\n")
+        self.assertEqual(self.split("2").returncode, 0)
+        self.assertEqual(
+            self.slices(2),
+            [
+                b"version,2,,,,,\nfirm,,3,,,,\naccount,A,1,,,,net\naccount,B,1,,,,\n",
+                b"version,2,,,,,\nfirm,,2,,,,\naccount,A,2,,,,net\naccount,B,0,,,,\n",
+            ],
+        )
+
     def test_words_that_are_no_form(self):
         for words in ((), ("1",), ("0",), ("02",), ("1001",), ("-2",), ("two",), ("2", "3")):
             with self.subTest(words=words):
