@@ -3,6 +3,8 @@
 //! which is refused and posts nothing: where both run, its taking up shows that the third is done,
 //! and the second session goes on then. No clause says that memory isn't wanting, nor which call of
 //! an object fails.
+ghost use Rattle.std.specs.Prelude.{◌<◌};
+
 use crate::command::gate;
 use crate::rows::{LARGE, Piece, Row, Session, bytes_of, no_screens, stage_of};
 use crate::test_gates::InTurn;
