@@ -6,11 +6,11 @@ use std::test::*;
 fn words_have_worked_numbers(rt: HostRuntime) -> Result<(), Fail> {
     const WORDS: [(&str, u32, u64, u64); 3] = [
         ("nothing", 0, 0, 0),
-        ("the first stamp", 1, 1000, 1_099_511_628_776),
+        ("the first stamp", 1, 1000, 274_877_907_944),
         (
             "both at their ends",
-            16_777_215,
-            1_099_511_627_775,
+            67_108_863,
+            274_877_906_943,
             u64::MAX,
         ),
     ];
