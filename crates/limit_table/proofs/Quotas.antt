@@ -1,13 +1,15 @@
 -- The quota of a limit file is in its range, and any quota in it can stand in the file.
-use Rattle.std.proofs.Common.{ℕ, ◌≤◌, List, [], ◌∷◌, ◌++◌, map}
+use Rattle.std.proofs.Common.{ℕ, ◌≤◌, List, [], ◌∷◌, ◌++◌, map, Bool, true, false, arith}
+use Rattle.std.specs.Prelude.{nat_lt, min, if◌then◌else◌}
 use Rattle.std.specs.List.{All}
 use Rattle.std.proofs.lemmas.List.Elements.{All-cons, All-head, All-tail}
+use Rattle.limit_table.specs.Counted.{counted_for}
 use Rattle.limit_table.specs.Entries.{quota_most}
 use Rattle.limit_table.specs.Files.{IsHeldByFile}
 use Rattle.limit_table.specs.Printing.{trip_rows}
 use Rattle.limit_table.specs.Ranges.{IsInRange}
 use Rattle.limit_table.specs.Value.{LimitsValue}
-use Rattle.limit_table.specs.declared.kind.Entry.{Entry}
+use Rattle.limit_table.specs.declared.counted.TheConstants.{FEW_SESSIONS, QUOTA_OF_MANY}
 use Rattle.limit_table.specs.declared.kind.Entry.TheVariants as entry
 use Rattle.limit_table.proofs.FileLimits.{held_is_file_limits, file_limits_are_held}
 
@@ -66,3 +68,18 @@ held_with_quota limits quota held least most =
       symbols = are.symbols;
       off = are.off;
     })
+
+held_by_test : (limits : LimitsValue) (many : Bool) → IsHeldByFile limits
+    → IsHeldByFile (record limits {
+      quota = if many then min limits.quota QUOTA_OF_MANY else limits.quota
+    })
+held_by_test limits true held =
+    let range = quota_in_range limits held in
+    held_with_quota limits (min limits.quota QUOTA_OF_MANY) held (omega (arith, range.0))
+    (omega (arith, range.1))
+held_by_test limits false held = held
+
+-- limits that a file holds, as so many sessions count them, are held by one too
+pub held_counted : (sessions : ℕ) (limits : LimitsValue) → IsHeldByFile limits
+    → IsHeldByFile (counted_for sessions limits)
+held_counted sessions limits held = held_by_test limits (nat_lt FEW_SESSIONS sessions) held

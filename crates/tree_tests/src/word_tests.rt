@@ -24,6 +24,28 @@ fn words_have_worked_numbers(rt: HostRuntime) -> Result<(), Fail> {
 }
 
 #[test]
+fn shapes_have_the_fewest_levels(rt: HostRuntime) -> Result<(), Fail> {
+    const LEVELS: [(u32, u32); 12] = [
+        (1, 0),
+        (2, 1),
+        (3, 2),
+        (4, 2),
+        (5, 3),
+        (8, 3),
+        (9, 4),
+        (16, 4),
+        (17, 5),
+        (32, 5),
+        (33, 6),
+        (64, 6),
+    ];
+    for (sessions, levels) in LEVELS {
+        assert_eq!(rt; Shape::of(sessions, 1).levels, levels, "{sessions} sessions");
+    }
+    Ok(())
+}
+
+#[test]
 fn shapes_have_worked_places(rt: HostRuntime) -> Result<(), Fail> {
     let shape = Shape::of(3, 2);
     assert_eq!(rt; shape.levels, 2, "levels for three sessions");
