@@ -39,12 +39,13 @@ from table import table, with_part
 
 README = os.path.join(sessions.HERE, "README.md")
 # Sessions, and the orders of each.
-LOADS = ((1, 40_000), (4, 2_000), (8, 1_000), (8, 2_000), (8, 5_000), (32, 2_000))
+LOADS = ((1, 40_000), (4, 2_000), (8, 1_000), (8, 2_000), (8, 5_000), (32, 2_000),
+         (64, 2_000))
 STRESS_RUNS, FUZZ_RUNS = 2_000, 24_000
 # What the refusals for a field fault have as their code, and how many codes there are.
 FIELD_FAULT, REFUSALS, NOTES = 16, 16, 6
 # Trees, posts of each pass in each, and the works: 2,048,000 posts each time.
-RECORDS = ((4, 16_000, replay.WORKS), (500, 128, replay.WORKS[:2]))
+RECORDS = ((4, 8_000, replay.WORKS), (500, 64, replay.WORKS[:2]))
 # The programs of `forests.py` in the order of the columns.
 SHARED = ("forest", "kept mutex", "kept tree", "bare mutex", "bare tree")
 
