@@ -72,7 +72,11 @@ const LOADS: [(&str, [&str; 4], &[u8]); 4] = [
     ("one order", ["make", "0", "1", "1"], ONE),
     ("a large load", ["make", "7", "8", "2000"], LARGE),
     ("the same again", ["make", "7", "8", "2000"], LARGE),
-    ("a load of the most sessions", ["make", "7", "64", "100"], MANY),
+    (
+        "a load of the most sessions",
+        ["make", "7", "64", "100"],
+        MANY,
+    ),
 ];
 
 /// Words that ask for no load.

@@ -71,7 +71,7 @@ held_with_quota limits quota held least most =
 
 held_by_test : (limits : LimitsValue) (many : Bool) → IsHeldByFile limits
     → IsHeldByFile (record limits {
-      quota = if many then min limits.quota QUOTA_OF_MANY else limits.quota
+      quota = if many then min limits.quota QUOTA_OF_MANY else limits.quota;
     })
 held_by_test limits true held =
     let range = quota_in_range limits held in

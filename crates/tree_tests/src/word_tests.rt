@@ -7,12 +7,7 @@ fn words_have_worked_numbers(rt: HostRuntime) -> Result<(), Fail> {
     const WORDS: [(&str, u32, u64, u64); 3] = [
         ("nothing", 0, 0, 0),
         ("the first stamp", 1, 1000, 274_877_907_944),
-        (
-            "both at their ends",
-            67_108_863,
-            274_877_906_943,
-            u64::MAX,
-        ),
+        ("both at their ends", 67_108_863, 274_877_906_943, u64::MAX),
     ];
     for (name, stamp, value, word) in WORDS {
         assert_eq!(rt; pack(stamp, value), word, "{name}");
@@ -40,7 +35,11 @@ fn shapes_have_the_fewest_levels(rt: HostRuntime) -> Result<(), Fail> {
         (64, 6),
     ];
     for (sessions, levels) in LEVELS {
-        assert_eq!(rt; Shape::of(sessions, 1).levels, levels, "{sessions} sessions");
+        assert_eq!(rt;
+            Shape::of(sessions, 1).levels,
+            levels,
+            "{sessions} sessions"
+        );
     }
     Ok(())
 }
