@@ -2,9 +2,9 @@
 use Rattle.std.specs.Prelude.{◌≡◌, ℕ, ◌+◌, ◌≤◌, ◌<◌, List, length, map, Option, IsSome, ⊤, Some, slice_get}
 use Rattle.std.specs.List.{All}
 use Rattle.gate_ports.specs.Faults.{Rose}
-use Rattle.journal_check.specs.declared.check.Checked.{Checked}
-use Rattle.journal_check.specs.declared.check.Checked.TheVariants.{Yes, No, ReadFault, Memory}
-use Rattle.journal_check.specs.declared.check.CheckFault.{CheckFault}
+use Rattle.journal_check.specs.declared.judging.Checked.{Checked}
+use Rattle.journal_check.specs.declared.judging.Checked.TheVariants.{Yes, No, ReadFault, Memory}
+use Rattle.journal_check.specs.declared.judging.CheckFault.{CheckFault}
 
 -- a fault that is answered has this
 abbrev pub IfNo : Checked → (CheckFault → Type 0) → Type 0

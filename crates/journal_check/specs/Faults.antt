@@ -1,26 +1,23 @@
 -- What a judge of a journal is given; the seven kinds of fault, each with its row; and the first that
 -- applies.
-use Rattle.std.specs.Prelude.{◌≡◌, ◌≢◌, ℕ, ◌+◌, ◌≤◌, ◌<◌, ◌⊎◌, List, [], length, map, take, ⊤}
-use Rattle.std.specs.Prelude.{Option, Some, None, slice_get, slice_index_or}
-use Rattle.std.specs.Option.{IsSomeAnd, unwrap_or}
-use Rattle.limit_table.specs.Trees.{LimitsValue, halt_tree, fold_of}
+use Rattle.std.specs.Prelude.{◌≡◌, ◌≢◌, ℕ, ◌+◌, ◌≤◌, ◌<◌, ◌⊎◌, List, [], length, map}
+use Rattle.std.specs.Prelude.{Option, Some, slice_get, slice_index_or}
+use Rattle.std.specs.Option.{unwrap_or}
+use Rattle.limit_table.specs.Trees.{LimitsValue, halt_tree}
 use Rattle.risk_board.specs.declared.hand.Line.{Line}
-use Rattle.risk_board.specs.History.{Event, posted, components_of, lines_of}
-use Rattle.risk_journal.specs.ActLists.{events_of}
 use Rattle.risk_journal.specs.JournalGrammar.{IsJournal}
 use Rattle.risk_journal.specs.JournalGrammar.{IsFirstFault as IsFirstBadRow}
-use Rattle.risk_journal.specs.JournalText.{end_number}
 use Rattle.risk_journal.specs.declared.acts.Act.{Act}
-use Rattle.risk_journal.specs.declared.acts.Act.TheVariants.{Post, Read, Sent, Refused, Noted, Ended}
-use Rattle.risk_journal.specs.declared.acts.End.{End}
 use Rattle.screen_kit.specs.Screens.{ScreenValue}
 use Rattle.session_engine.specs.Session.{armed_for}
-use Rattle.journal_check.specs.declared.check.TheConstants.{JOURNAL_MOST}
+use Rattle.journal_check.specs.declared.judging.TheConstants.{JOURNAL_MOST}
 use Rattle.journal_check.specs.Firsts.{IsFirstRow}
-use Rattle.journal_check.specs.RowNumbers.{act_row, HasAct, HasLine}
+use Rattle.journal_check.specs.RowNumbers.{act_row, HasActWith, HasLine}
+use Rattle.journal_check.specs.ActFaults.{Has}
+use Rattle.journal_check.specs.declared.act_rows.ActFault.TheVariants.{Early, Above}
 use Rattle.journal_check.specs.SessionActs.{IsOwnSession, DiffersAt}
-use Rattle.journal_check.specs.RightLines.{IsRightLine}
-use Rattle.journal_check.specs.ReadRows.{ReadRow, tree_reads, IsRightRow}
+use Rattle.journal_check.specs.LineFaults.{IsLineFault}
+use Rattle.journal_check.specs.ReadFaults.{IsWrongRead}
 
 -- what is judged: limits, a journal's text, and each session's bytes and screens
 pub record Case : Type 0 where
@@ -46,7 +43,7 @@ case_of limits text left screens = record {
 pub data Kind : Type 0 where
   Text : Kind
   Count : Kind
-  Early : Kind
+  EndedEarly : Kind
   Tree : Kind
   Acts : Kind
   Lines : Kind
@@ -56,7 +53,7 @@ pub data Kind : Type 0 where
 abbrev pub kind_number : Kind → ℕ
 kind_number Text = 1
 kind_number Count = 2
-kind_number Early = 3
+kind_number EndedEarly = 3
 kind_number Tree = 4
 kind_number Acts = 5
 kind_number Lines = 6
@@ -68,26 +65,13 @@ IsTextFault text row =
     ((JOURNAL_MOST < length text) × (row ≡ 0))
     ⊎ ((length text ≤ JOURNAL_MOST) × IsFirstBadRow text row)
 
--- a session in this row ended by a fault: by a read, by a write or for want of memory
-pub record IsEarlyRow (acts : List (List Act)) (row : ℕ) : Type 0 where
-  pub end : End
-  pub has : HasAct acts row (Ended end)
-  pub fault : 4 ≤ end_number end
-
--- the tree of an act, if it is of one
-abbrev pub tree_of : Act → Option ℕ
-tree_of (Post tree index value) = Some tree
-tree_of (Read tree stamp place value) = Some tree
-tree_of (Sent frame) = None
-tree_of (Refused frame code first second) = None
-tree_of (Noted frame code first second) = None
-tree_of (Ended end) = None
+-- a session in this row ended by a fault
+abbrev pub IsEarlyRow : List (List Act) → ℕ → Type 0
+IsEarlyRow acts row = HasActWith (Has Early) acts row
 
 -- an act in this row is of a tree above the last
-pub record IsFarAct (last : ℕ) (acts : List (List Act)) (row : ℕ) : Type 0 where
-  pub act : Act
-  pub has : HasAct acts row act
-  pub far : IsSomeAnd (tree_of act) (λ tree. last < tree)
+abbrev pub IsFarAct : ℕ → List (List Act) → ℕ → Type 0
+IsFarAct last acts row = HasActWith (Has (Above last)) acts row
 
 -- a line in this row is of a tree above the last
 pub record IsFarLine (last : ℕ) (acts : List (List Act)) (lines : List (List Line)) (row : ℕ)
@@ -123,60 +107,17 @@ pub record IsWrongAct (case : Case) (acts : List (List Act)) (row : ℕ) : Type 
   pub differs : DiffersAt case.limits (armed_in case session) (bytes_in case session) own index
   pub row_is : row ≡ act_row acts session index
 
--- what each session did in a tree
-abbrev pub tree_events : ℕ → List (List Act) → List (List Event)
-tree_events tree acts = map (events_of tree) acts
-
--- what each session posted in a tree
-abbrev pub tree_posts : ℕ → List (List Act) → List (List ℕ)
-tree_posts tree acts = map posted (tree_events tree acts)
-
--- the lines of a tree
-abbrev pub tree_lines : ℕ → List (List Line) → List Line
-tree_lines tree lines = slice_index_or lines tree []
-
--- the line in this row isn't right
-pub record IsWrongLine (acts : List (List Act)) (lines : List (List Line)) (row : ℕ) : Type 0 where
-  pub tree : ℕ
-  pub place : ℕ
-  pub line : Line
-  pub has : HasLine acts lines row tree place line
-  pub wrong : ¬ IsRightLine (tree_posts tree acts) (tree_lines tree lines) place line
-
--- a session has more posts than lines in some tree
-pub record LacksLine (acts : List (List Act)) (lines : List (List Line)) : Type 0 where
-  pub tree : ℕ
-  pub session : ℕ
-  pub fewer : length (lines_of session (tree_lines tree lines))
-      < length (slice_index_or (tree_posts tree acts) session [])
-
--- all lines are right, and a post has none
-pub record LacksOnly (acts : List (List Act)) (lines : List (List Line)) (row : ℕ) : Type 0 where
-  pub right : (other : ℕ) → ¬ IsWrongLine acts lines other
-  pub lacks : LacksLine acts lines
-  pub row_is : row ≡ 0
-
--- the read in this row isn't right
-pub record IsWrongRead (limits : LimitsValue) (acts : List (List Act)) (lines : List (List Line))
-    (row : ℕ) : Type 0 where
-  pub tree : ℕ
-  pub index : ℕ
-  pub read : ReadRow
-  pub at : slice_get (tree_reads tree acts) index ≡ Some read
-  pub row_is : row ≡ read.row
-  pub wrong : ¬ IsRightRow (fold_of limits tree) 0 (components_of (length acts))
-      (tree_lines tree lines) (tree_reads tree acts) index read
-
 -- A journal of these acts and lines has a fault of this kind, and this is its row. None is of its
 -- text, since it has one.
 abbrev pub IsFault : Case → List (List Act) → List (List Line) → Kind → ℕ → Type 0
 IsFault case acts lines Text row = ⊥
 IsFault case acts lines Count row = (length acts ≢ length case.sessions) × (row ≡ 0)
-IsFault case acts lines Early row = IsFirstRow (IsEarlyRow acts) row
+IsFault case acts lines EndedEarly row = IsFirstRow (IsEarlyRow acts) row
 IsFault case acts lines Tree row = IsFirstRow (IsFarRow (halt_tree case.limits) acts lines) row
 IsFault case acts lines Acts row = IsFirstRow (IsWrongAct case acts) row
-IsFault case acts lines Lines row = IsFirstRow (IsWrongLine acts lines) row ⊎ LacksOnly acts lines row
-IsFault case acts lines Reads row = IsFirstRow (IsWrongRead case.limits acts lines) row
+IsFault case acts lines Lines row = IsLineFault acts lines row
+IsFault case acts lines Reads row =
+    IsFirstRow (IsWrongRead (halt_tree case.limits) acts lines) row
 
 -- the text is a journal of these acts and lines, and not too long
 pub record IsRead (text : List ℕ) (acts : List (List Act)) (lines : List (List Line)) : Type 0 where

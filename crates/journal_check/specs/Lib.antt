@@ -1,8 +1,17 @@
 pub mod Firsts
 pub mod RowNumbers
+pub mod Trees
 pub mod SessionActs
+pub mod PostBounds
 pub mod RightLines
 pub mod ReadRows
+pub mod ActFaults
+pub mod LineFaults
+pub mod ReadFaults
 pub mod Faults
 pub mod Worth
+pub mod Agreement
+pub mod Tables
+pub mod Judged
+pub mod Buckets
 pub mod Answers

@@ -26,6 +26,12 @@ pub record HasAct (acts : List (List Act)) (row : ℕ) (act : Act) : Type 0 wher
   pub at : slice_get own index ≡ Some act
   pub row_is : row ≡ act_row acts session index
 
+-- an act in this row is so
+pub record HasActWith (Is : Act → Type 0) (acts : List (List Act)) (row : ℕ) : Type 0 where
+  pub act : Act
+  pub has : HasAct acts row act
+  pub is : Is act
+
 -- the line of this tree stands in this row, at this place from 0
 pub record HasLine (acts : List (List Act)) (lines : List (List Line)) (row tree place : ℕ)
     (line : Line) : Type 0 where

@@ -1,12 +1,12 @@
 -- The acts of a session, as its input and a list of reads give them.
-use Rattle.std.specs.Prelude.{◌≡◌, ◌≢◌, ℕ, ◌+◌, ◌≤◌, ◌<◌, List, [], ◌∷◌, ◌++◌, length, take, nat_lt, ⊤}
+use Rattle.std.specs.Prelude.{◌≡◌, ◌≢◌, ℕ, ◌+◌, ◌<◌, List, [], ◌∷◌, ◌++◌, length, take, nat_lt}
 use Rattle.fix_fields.specs.Frames.{FrameValue}
 use Rattle.fix_fields.specs.Found.{Splits}
 use Rattle.fix_fields.specs.declared.frame.Found.{Found}
 use Rattle.frame_run.specs.Ends.{EndsBy, input_most}
 use Rattle.risk_journal.specs.ActLists.{SeenAt, reads_of}
 use Rattle.risk_journal.specs.declared.acts.Act.{Act}
-use Rattle.risk_journal.specs.declared.acts.Act.TheVariants.{Post, Read, Sent, Refused, Noted, Ended}
+use Rattle.risk_journal.specs.declared.acts.Act.TheVariants.{Ended}
 use Rattle.risk_journal.specs.declared.acts.End.{End}
 use Rattle.screen_kit.specs.Screens.{ScreenValue}
 use Rattle.session_engine.specs.Session.{LimitsValue, opening, after_frames}
@@ -37,12 +37,3 @@ pub record DiffersAt (limits : LimitsValue) (screens : List ScreenValue) (bytes 
   pub inside : index < length acts
   pub before : take index acts ≡ take index right
   pub apart : take (index + 1) acts ≢ take (index + 1) right
-
--- an act that posts at most so much, or nothing
-abbrev pub PostsAtMost : ℕ → Act → Type 0
-PostsAtMost most (Post tree index value) = value ≤ most
-PostsAtMost most (Read tree stamp place value) = ⊤
-PostsAtMost most (Sent frame) = ⊤
-PostsAtMost most (Refused frame code first second) = ⊤
-PostsAtMost most (Noted frame code first second) = ⊤
-PostsAtMost most (Ended end) = ⊤

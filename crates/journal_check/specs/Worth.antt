@@ -5,7 +5,8 @@ use Rattle.admit_core.specs.Admitted.{StaysWithin}
 use Rattle.risk_board.specs.declared.hand.Line.{Line}
 use Rattle.risk_board.specs.History.{components_of, IsLegal}
 use Rattle.risk_journal.specs.declared.acts.Act.{Act}
-use Rattle.journal_check.specs.Faults.{Case, IsRead, IsSessionRight, tree_events, tree_lines}
+use Rattle.journal_check.specs.Faults.{Case, IsRead, IsSessionRight}
+use Rattle.journal_check.specs.Trees.{tree_events, tree_lines}
 
 -- The text is a journal in which each tree has one legal history, what is admitted is within each
 -- limit after every line and every read, and each session's acts are those of its input and of the

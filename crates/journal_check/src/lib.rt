@@ -1,7 +1,11 @@
 //! A judge of journals from anyone.
 #![tactic(auto)]
 
-mod check;
+mod agreement;
+mod judging;
 mod read_rows;
+mod right_lines;
+mod right_reads;
+mod tables;
 
-pub use check::{CheckDone, CheckFault, Checked, JOURNAL_MOST, check};
+pub use judging::{CheckDone, CheckFault, Checked, JOURNAL_MOST, check};

@@ -7,7 +7,7 @@
 pub(crate) struct ReadRow {
     pub(crate) row: u32,
     pub(crate) session: u32,
-    pub(crate) made: u32,
+    pub(crate) made: usize,
     pub(crate) least: u32,
     pub(crate) stamp: u32,
     pub(crate) place: u32,

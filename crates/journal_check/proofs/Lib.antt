@@ -1,0 +1,16 @@
+pub mod AgreeAt
+pub mod Agreements
+pub mod Cases
+pub mod FirstReads
+pub mod LegalLines
+pub mod LegalReads
+pub mod LegalTree
+pub mod LineWalk
+pub mod PlaceSteps
+pub mod Filled
+pub mod Counts
+pub mod FirstActs
+pub mod Changed
+pub mod LineRows
+pub mod ReadsRise
+pub mod NoneAbove
