@@ -27,10 +27,6 @@ module _ {X : Type 0} where
       ∙ sum_by_push (λ (l : List X). length l) (take index lists) (get_or lists index []))
       (le_or_lt (length lists) index)
 
-  take_none : (count : ℕ) → take count [] ≡ [] {X}
-  take_none zero = refl
-  take_none (suc count) = refl
-
   pub count_grows : (lists : List (List X)) (few many : ℕ) → few ≤ many
       → count_all (take few lists) ≤ count_all (take many lists)
   count_grows [] zero many le = omega arith

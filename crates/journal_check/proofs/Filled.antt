@@ -2,10 +2,10 @@
 use Rattle.std.proofs.Common.{◌≡◌, ◌≢◌, ℕ, zero, suc, ◌+◌, ◌<◌, ◌≤◌, List, [], ◌∷◌, ◌++◌, length, map}
 use Rattle.std.proofs.Common.{refl, ap, sym, subst, ◌∙◌, arith, ⊎_elim, get_or, length-append, length-set}
 use Rattle.std.proofs.Common.{get_or-set_same, get_or-set_other, cond, eq-eqb, replicate, append_assoc}
-use Rattle.std.proofs.Common.{Bool, true, false, ◌==◌, set}
+use Rattle.std.proofs.Common.{Bool, true, false, ◌==◌, set, drop}
 use Rattle.std.proofs.Math.Seq.{set-append_seam, get_or-append_seam}
 use Rattle.std.proofs.lemmas.Bool.{ne_eqb}
-use Rattle.std.proofs.lemmas.List.{append-nil as append_nil, length-map, get_or-map}
+use Rattle.std.proofs.lemmas.List.{append-nil as append_nil, length-map, get_or-map, drop_more, drop_all}
 use Rattle.risk_board.specs.History.{posted, Event}
 use Rattle.risk_board.specs.History.Event.{Posted, Saw}
 use Rattle.risk_journal.specs.ActLists.{events_of}
@@ -265,3 +265,36 @@ pub told_count : (count : ℕ) (acts : List (List Act))
 told_count count acts =
     sessions_count 0 2 (replicate count (empty_tree (length acts))) acts
     ∙ length_replicate count (empty_tree (length acts))
+
+-- with one act more of a session, the acts that are left are told
+pub told_more : (session row : ℕ) (before after : List TreeValue) (acts : List Act) (index : ℕ)
+    (d : Act) → index < length acts → after ≡ with_act session row before (get_or acts index d)
+    → with_acts session (row + 1) after (drop (index + 1) acts)
+    ≡ with_acts session row before (drop index acts)
+told_more session row before after acts index d less is =
+    ap (λ s. with_acts session (row + 1) s (drop (index + 1) acts)) is
+    ∙ ap (with_acts session row before) (sym (drop_more acts index d less))
+
+pub told_to_end : (session row : ℕ) (trees : List TreeValue) (acts : List Act) (index : ℕ)
+    → length acts ≤ index → with_acts session row trees (drop index acts) ≡ trees
+told_to_end session row trees acts index past =
+    ap (with_acts session row trees) (drop_all index acts past)
+
+-- with one session more, those that are left are told
+pub session_told : (session row : ℕ) (before begins after : List TreeValue) (acts : List (List Act))
+    (index length_is : ℕ) (own : List Act) → index < length acts → get_or acts index [] ≡ own
+    → length_is ≡ length own → begins ≡ map begun before
+    → after ≡ with_acts session row begins own
+    → with_sessions (session + 1) (row + length_is) after (drop (index + 1) acts)
+    ≡ with_sessions session row before (drop index acts)
+session_told session row before begins after acts index length_is own less at long starts is =
+    ap (λ n. with_sessions (session + 1) (row + n) after (drop (index + 1) acts)) long
+    ∙ ap (λ s. with_sessions (session + 1) (row + length own) s (drop (index + 1) acts))
+    (is ∙ ap (λ b. with_acts session row b own) starts)
+    ∙ ap (λ o. with_sessions session row before (o ∷ drop (index + 1) acts)) (sym at)
+    ∙ ap (with_sessions session row before) (sym (drop_more acts index [] less))
+
+pub sessions_to_end : (session row : ℕ) (trees : List TreeValue) (acts : List (List Act)) (index : ℕ)
+    → length acts ≤ index → with_sessions session row trees (drop index acts) ≡ trees
+sessions_to_end session row trees acts index past =
+    ap (with_sessions session row trees) (drop_all index acts past)

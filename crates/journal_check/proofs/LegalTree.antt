@@ -15,7 +15,7 @@ use Rattle.journal_check.specs.RowNumbers.{count_all}
 use Rattle.journal_check.specs.ReadRows.{ReadRow, told_events, session_reads, tree_reads, FitsLines}
 use Rattle.journal_check.proofs.LegalLines.{each_once}
 use Rattle.journal_check.proofs.LegalReads.{IsIn, session_in, reads_fit, stamps_rise, agree_all}
-use Rattle.journal_check.proofs.LegalReads.{places_follow, untold_events}
+use Rattle.journal_check.proofs.LegalReads.{places_follow, untold, untold_events}
 use Rattle.journal_check.proofs.LineWalk.{has_next}
 
 -- what holds at each place holds of all, item by item
@@ -35,8 +35,8 @@ own_acts tree session acts own at =
     let less : session < length acts =
     omega (arith, slice_get_within (tree_events tree acts) session own at, length-map acts (events_of tree)) in (
       slice_get-get_or acts session [] less,
-      sym (get_or_from_slice_get (tree_events tree acts) session own own at)
-          ∙ get_or-map (events_of tree) acts session own [] less,
+      sym (get_or_from_slice_get (tree_events tree acts) session own [] at)
+          ∙ get_or-map (events_of tree) acts session [] [] less,
     )
 
 module _ {whole : List ℕ → ℕ} {unit components tree : ℕ} {lines : List Line}
@@ -103,7 +103,7 @@ module _ {whole : List ℕ → ℕ} {unit components tree : ℕ} {lines : List L
         let theirs = told_events tree (first_row other) (slice_index_or acts other []) in
         subst (λ (e : List Event). PlacesFollow e others)
         (untold_events tree (first_row one) (slice_index_or acts one []) ∙ own_told one own at)
-        (subst (PlacesFollow _)
+        (subst (PlacesFollow (untold mine))
         (untold_events tree (first_row other) (slice_index_or acts other []) ∙ own_told other others also)
         (places_follow one 0 0 mine other theirs
         (λ x y first then. agree_all (tree_reads tree acts) right.reads x y

@@ -14,3 +14,11 @@ pub mod Changed
 pub mod LineRows
 pub mod ReadsRise
 pub mod NoneAbove
+pub mod Kept
+pub mod ReadTrees
+pub mod LineBounds
+pub mod TextRows
+pub mod SessionIsOne
+pub mod SessionRows
+pub mod Kinds
+pub mod WorthOf

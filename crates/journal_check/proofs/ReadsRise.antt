@@ -117,8 +117,8 @@ below-append count (x ∷ xs) ys one other (suc index) read at =
 session_below : (count session made least : ℕ) (own : List (ℕ × Event)) → session < count
     → AreBelow count (session_reads session made least own)
 session_below count session made least [] less index read at = absurd (none-some read at)
-session_below count session made least ((row, Posted value) ∷ own) less =
-    session_below count session (made + 1) least own less
+session_below count session made least ((row, Posted value) ∷ own) less index read at =
+    session_below count session (made + 1) least own less index read at
 session_below count session made least ((row, Saw stamp place value) ∷ own) less zero read at =
     let first : ReadRow = record {
       row = row;
@@ -137,11 +137,11 @@ session_below count session made least ((row, Saw stamp place value) ∷ own) le
 sessions_below : (tree count session row : ℕ) (acts : List (List Act))
     → session + length acts ≤ count → AreBelow count (reads_from tree session row acts)
 sessions_below tree count session row [] le index read at = absurd (none-some read at)
-sessions_below tree count session row (own ∷ acts) le =
+sessions_below tree count session row (own ∷ acts) le index read at =
     below-append count (session_reads session 0 0 (told_events tree row own))
     (reads_from tree (session + 1) (row + length own) acts)
     (session_below count session 0 0 (told_events tree row own) (omega (arith, le)))
-    (sessions_below tree count (session + 1) (row + length own) acts (omega (arith, le)))
+    (sessions_below tree count (session + 1) (row + length own) acts (omega (arith, le))) index read at
 
 -- each read of a tree is of one of the sessions
 pub reads_below : (tree : ℕ) (acts : List (List Act)) (index : ℕ) (read : ReadRow)

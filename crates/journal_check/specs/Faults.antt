@@ -12,9 +12,8 @@ use Rattle.screen_kit.specs.Screens.{ScreenValue}
 use Rattle.session_engine.specs.Session.{armed_for}
 use Rattle.journal_check.specs.declared.judging.TheConstants.{JOURNAL_MOST}
 use Rattle.journal_check.specs.Firsts.{IsFirstRow}
-use Rattle.journal_check.specs.RowNumbers.{act_row, HasActWith, HasLine}
-use Rattle.journal_check.specs.ActFaults.{Has}
-use Rattle.journal_check.specs.declared.act_rows.ActFault.TheVariants.{Early, Above}
+use Rattle.journal_check.specs.RowNumbers.{act_row}
+use Rattle.journal_check.specs.FarRows.{IsEarlyRow, IsFarRow}
 use Rattle.journal_check.specs.SessionActs.{IsOwnSession, DiffersAt}
 use Rattle.journal_check.specs.LineFaults.{IsLineFault}
 use Rattle.journal_check.specs.ReadFaults.{IsWrongRead}
@@ -65,26 +64,6 @@ IsTextFault text row =
     ((JOURNAL_MOST < length text) × (row ≡ 0))
     ⊎ ((length text ≤ JOURNAL_MOST) × IsFirstBadRow text row)
 
--- a session in this row ended by a fault
-abbrev pub IsEarlyRow : List (List Act) → ℕ → Type 0
-IsEarlyRow acts row = HasActWith (Has Early) acts row
-
--- an act in this row is of a tree above the last
-abbrev pub IsFarAct : ℕ → List (List Act) → ℕ → Type 0
-IsFarAct last acts row = HasActWith (Has (Above last)) acts row
-
--- a line in this row is of a tree above the last
-pub record IsFarLine (last : ℕ) (acts : List (List Act)) (lines : List (List Line)) (row : ℕ)
-    : Type 0 where
-  pub tree : ℕ
-  pub place : ℕ
-  pub line : Line
-  pub has : HasLine acts lines row tree place line
-  pub far : last < tree
-
-abbrev pub IsFarRow : ℕ → List (List Act) → List (List Line) → ℕ → Type 0
-IsFarRow last acts lines row = IsFarAct last acts row ⊎ IsFarLine last acts lines row
-
 -- a session's bytes, and its screens before its first frame
 abbrev pub bytes_in : Case → ℕ → List ℕ
 bytes_in case session = slice_index_or case.sessions session []
@@ -124,25 +103,34 @@ pub record IsRead (text : List ℕ) (acts : List (List Act)) (lines : List (List
   pub few : length text ≤ JOURNAL_MOST
   pub journal : IsJournal text acts lines
 
--- the journal has a fault of this kind in this row, and none of a kind before it
-pub record IsJournalFault (case : Case) (kind row : ℕ) : Type 0 where
-  pub acts : List (List Act)
-  pub lines : List (List Line)
-  pub read : IsRead case.text acts lines
+-- a journal of these acts and lines has a fault of this kind in this row, and none of a kind before it
+pub record IsFirstKind (case : Case) (acts : List (List Act)) (lines : List (List Line))
+    (kind row : ℕ) : Type 0 where
   pub of_kind : Kind
   pub kind_is : kind ≡ kind_number of_kind
   pub fault : IsFault case acts lines of_kind row
   pub before : (other : Kind) (at : ℕ) → kind_number other < kind_number of_kind
       → ¬ IsFault case acts lines other at
 
+-- the text is a journal, and this is its first fault
+pub record IsJournalFault (case : Case) (kind row : ℕ) : Type 0 where
+  pub acts : List (List Act)
+  pub lines : List (List Line)
+  pub read : IsRead case.text acts lines
+  pub first : IsFirstKind case acts lines kind row
+
 -- the fault of the first kind that applies
 abbrev pub IsFirstFault : Case → ℕ → ℕ → Type 0
 IsFirstFault case kind row =
     ((kind ≡ kind_number Text) × IsTextFault case.text row) ⊎ IsJournalFault case kind row
+
+-- a journal of these acts and lines has no fault of any kind
+abbrev pub HasNoFault : Case → List (List Act) → List (List Line) → Type 0
+HasNoFault case acts lines = (kind : Kind) (row : ℕ) → ¬ IsFault case acts lines kind row
 
 -- no kind of fault applies
 pub record IsLawful (case : Case) : Type 0 where
   pub acts : List (List Act)
   pub lines : List (List Line)
   pub read : IsRead case.text acts lines
-  pub none : (kind : Kind) (row : ℕ) → ¬ IsFault case acts lines kind row
+  pub none : HasNoFault case acts lines

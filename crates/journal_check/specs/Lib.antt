@@ -2,11 +2,16 @@ pub mod Firsts
 pub mod RowNumbers
 pub mod Trees
 pub mod SessionActs
+pub mod SameActs
+pub mod Sessions
 pub mod PostBounds
 pub mod RightLines
 pub mod ReadRows
 pub mod ActFaults
 pub mod LineFaults
+pub mod FarRows
+pub mod RowFaults
+pub mod TreeFaults
 pub mod ReadFaults
 pub mod Faults
 pub mod Worth

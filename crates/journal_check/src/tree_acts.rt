@@ -3,7 +3,7 @@ ghost use Rattle.std.specs.Prelude.{◌≡◌, ◌+◌, ◌≤◌, ◌<◌, ◌^
 ghost use Rattle.std.specs.Prelude.{slice_index_or};
 ghost use Rattle.fold_law.specs.declared.limits.TheConstants.{SESSIONS};
 ghost use Rattle.journal_check.specs.Buckets.{tree_value, empty_tree, begun, changed_at, with_post};
-ghost use Rattle.journal_check.specs.Buckets.{with_read, with_act, with_acts, AreByTree};
+ghost use Rattle.journal_check.specs.Buckets.{with_read, with_act, with_acts, with_sessions, AreByTree};
 ghost use Rattle.journal_check.specs.RowNumbers.{count_all};
 
 use crate::read_rows::ReadRow;
@@ -172,6 +172,24 @@ fn add_acts(trees: &mut [TreeActs], session: u32, first: u32, acts: &[Act]) -> R
     Ok(())
 }
 
+/// Adds the acts of all sessions to trees in which nothing was done, the first in row 2.
+fn add_sessions(trees: &mut [TreeActs], acts: &[Vec<Act>]) -> Result<(), Memory>
+    requires sessions { length acts.now ≤ SESSIONS }
+    requires rows { 2 + count_all (map (λ own. own.items) acts.now) < 2 ^ 32 }
+    ensures { OnOk result (map tree_value trees.new
+        ≡ with_sessions 0 2 (map tree_value trees.old) (map (λ own. own.items) acts.now)) }
+{
+    let mut session = 0;
+    let mut row = 2;
+    for own in acts {
+        begin_session(trees);
+        add_acts(trees, session, row, own)?;
+        session += 1;
+        row += own.len() as u32;
+    }
+    Ok(())
+}
+
 /// What the sessions did in each of so many trees, by the acts of all sessions.
 pub(crate) fn acts_by_tree(
     alloc: Global,
@@ -185,13 +203,6 @@ pub(crate) fn acts_by_tree(
         (map tree_value all.items)) }
 {
     let mut all = empty_trees(alloc, trees, acts.len())?;
-    let mut session = 0;
-    let mut row = 2;
-    for own in acts {
-        begin_session(&mut all);
-        add_acts(&mut all, session, row, own)?;
-        session += 1;
-        row += own.len() as u32;
-    }
+    add_sessions(&mut all, acts)?;
     Ok(all)
 }

@@ -71,7 +71,7 @@ pub(crate) fn lines_in(lines: &[Vec<Line>], tree: usize) -> &[Line]
 }
 
 /// How many acts all sessions have.
-fn acts_count(acts: &[Vec<Act>]) -> u32
+pub(crate) fn acts_count(acts: &[Vec<Act>]) -> u32
     requires { count_all (map (λ own. own.items) acts.now) < 2 ^ 32 }
     ensures { result ≡ count_all (map (λ own. own.items) acts.now) }
 {

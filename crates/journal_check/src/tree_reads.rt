@@ -1,5 +1,5 @@
 //! The first row of a journal's reads that isn't right.
-ghost use Rattle.std.specs.Prelude.{◌≡◌, ℕ, ◌+◌, ◌≤◌, ◌<◌, ◌^◌, ◌==◌, max, length, map, All, IfOk, IfSome, None};
+ghost use Rattle.std.specs.Prelude.{◌≡◌, ℕ, ◌+◌, ◌≤◌, ◌<◌, ◌^◌, ◌==◌, List, max, length, map, All, IfOk, IfSome, None};
 ghost use Rattle.std.specs.Prelude.{if◌then◌else◌};
 ghost use Rattle.fold_law.specs.Sum.{sum_of};
 ghost use Rattle.fold_law.specs.Whole.{whole_of};
@@ -9,7 +9,8 @@ ghost use Rattle.journal_check.specs.Buckets.{tree_value, AreByTree};
 ghost use Rattle.journal_check.specs.Firsts.{IsFirstRow};
 ghost use Rattle.journal_check.specs.LineFaults.{AreRightTrees, EndsBefore};
 ghost use Rattle.journal_check.specs.ReadFaults.{IsFoundRead, IsWrongRead, AreRightReads};
-ghost use Rattle.journal_check.specs.Tables.{AreCapped, least_of};
+ghost use Rattle.journal_check.specs.Tables.{AreCapped, least_of, AreValues, AreAllPlaces};
+ghost use Rattle.risk_board.specs.declared.hand.Line.{Line as LineValue};
 
 use crate::read_rows::ReadRow;
 use crate::right_reads::first_wrong_read;
@@ -20,6 +21,25 @@ use fold_law::{Fold, Max, Memory, Sum};
 use risk_board::{Line, components};
 use risk_journal::Journal;
 use std::alloc::Global;
+
+/// The row of the first read that isn't right, whatever lines the tables are of.
+fn first_of(
+    alloc: Global,
+    values: &[u64],
+    places: &[Vec<u32>],
+    reads: &[ReadRow],
+) -> Result<Option<u32>, Memory>
+    requires { All (λ read. read.session < length places.now) reads.now }
+    ensures { IfOk result (λ row. (whole : List ℕ → ℕ) (unit components : ℕ) (lines : List LineValue)
+        → AreValues whole unit components lines (length lines) values.now
+        → AreAllPlaces lines (length lines) (map (λ own. own.items) places.now)
+        → IsFoundRead whole unit components lines reads.now row) }
+{
+    match first_wrong_read(alloc, values, places, reads)? {
+        Some(index) => Ok(Some(reads[index].row)),
+        None => Ok(None),
+    }
+}
 
 /// The row of the first read of a tree with this fold that isn't right.
 fn first_by<F: Fold>(
@@ -39,10 +59,7 @@ fn first_by<F: Fold>(
 {
     let values = values_of::<F>(alloc, components, lines)?;
     let places = places_of(alloc, components, lines)?;
-    match first_wrong_read(alloc, &values, &places, reads)? {
-        Some(index) => Ok(Some(reads[index].row)),
-        None => Ok(None),
-    }
+    first_of(alloc, &values, &places, reads)
 }
 
 /// The same of a tree that is the halt tree, with the largest value, or has the sum.
