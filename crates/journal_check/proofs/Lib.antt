@@ -22,3 +22,4 @@ pub mod SessionIsOne
 pub mod SessionRows
 pub mod Kinds
 pub mod WorthOf
+pub mod FarLines

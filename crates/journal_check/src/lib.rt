@@ -10,6 +10,7 @@ mod replay;
 mod right_lines;
 mod right_reads;
 mod rows_first;
+mod screen_sets;
 mod session_acts;
 mod tables;
 mod tree_acts;
