@@ -22,3 +22,9 @@ pub mod SessionIsOne
 pub mod SessionRows
 pub mod Kinds
 pub mod WorthOf
+pub mod Comparing
+pub mod Differing
+pub mod FirstApart
+pub mod SameSession
+pub mod ScriptCalls
+pub mod ScriptedReads

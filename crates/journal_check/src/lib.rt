@@ -10,6 +10,8 @@ mod replay;
 mod right_lines;
 mod right_reads;
 mod rows_first;
+mod same_acts;
+mod script;
 mod session_acts;
 mod tables;
 mod tree_acts;
@@ -18,3 +20,4 @@ mod tree_lines;
 mod tree_reads;
 
 pub use judging::{CheckDone, CheckFault, Checked, JOURNAL_MOST, check};
+pub use script::ScriptHand;
