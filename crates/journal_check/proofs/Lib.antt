@@ -23,3 +23,9 @@ pub mod SessionRows
 pub mod Kinds
 pub mod WorthOf
 pub mod FarLines
+pub mod Comparing
+pub mod Differing
+pub mod FirstApart
+pub mod SameSession
+pub mod ScriptCalls
+pub mod ScriptedReads

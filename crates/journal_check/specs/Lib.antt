@@ -20,3 +20,6 @@ pub mod Tables
 pub mod Judged
 pub mod Buckets
 pub mod Answers
+pub mod Script
+pub mod ScriptKept
+pub mod Replays

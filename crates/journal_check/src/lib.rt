@@ -11,6 +11,8 @@ mod right_lines;
 mod right_reads;
 mod rows_first;
 mod screen_sets;
+mod same_acts;
+mod script;
 mod session_acts;
 mod tables;
 mod tree_acts;
@@ -19,3 +21,4 @@ mod tree_lines;
 mod tree_reads;
 
 pub use judging::{CheckDone, CheckFault, Checked, JOURNAL_MOST, check};
+pub use script::ScriptHand;
