@@ -22,3 +22,6 @@ mod tree_reads;
 
 pub use judging::{CheckDone, CheckFault, Checked, JOURNAL_MOST, check};
 pub use script::ScriptHand;
+
+#[cfg(test)]
+mod tests;
