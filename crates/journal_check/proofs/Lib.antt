@@ -29,3 +29,4 @@ pub mod FirstApart
 pub mod SameSession
 pub mod ScriptCalls
 pub mod ScriptedReads
+pub mod Sources
