@@ -45,6 +45,9 @@ module _ {S : Type 0} (faults : S → ℕ) (name : S → Option (List ℕ)) (bef
   AreBackSoFar now = (index : ℕ) (one other : S) → slice_get before index ≡ Some one
       → slice_get now index ≡ Some other → IsSourceBack faults name one other
 
+  same_back : (one : S) → IsSourceBack faults name one one
+  same_back one = record { later = omega arith; name_is = refl }
+
   pub back_more : (now : List S) (one other : S) → slice_get before (length now) ≡ Some one
       → AreBackSoFar now → IsSourceBack faults name one other → AreBackSoFar (now ++ other ∷ [])
   back_more now one other at so_far back index first then has also =
@@ -64,8 +67,15 @@ module _ {S : Type 0} (faults : S → ℕ) (name : S → Option (List ℕ)) (bef
       (λ (less : index < length now). so_far index first then has (parts.0 less))
       (le_or_lt (length now) index)
 
-  same_back : (one : S) → IsSourceBack faults name one one
-  same_back one = record { later = omega arith; name_is = refl }
+  -- all of them, none of which was called
+  pub itself_back : AreBack faults name before before
+  itself_back = record {
+    count = refl;
+    each = λ index one other at also.
+        let is : one ≡ other = sym (get_or_from_slice_get before index one one at)
+        ∙ get_or_from_slice_get before index other one also in
+        subst (IsSourceBack faults name one) is (same_back one);
+  }
 
   -- with those that weren't called all are back
   pub all_back : (now : List S) (session : ℕ) → length now ≡ session → session ≤ length before
