@@ -31,3 +31,4 @@ pub mod ScriptCalls
 pub mod ScriptedReads
 pub mod Sources
 pub mod InTrees
+pub mod SessionSteps

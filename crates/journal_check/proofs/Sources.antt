@@ -10,15 +10,24 @@ use Rattle.journal_check.specs.Answers.{IsSourceBack, AreBack, SomeRose}
 use Rattle.journal_check.proofs.Cases.{le_or_lt}
 
 -- the first of those that are left stands at the place of a session, and the others are left
-pub first_left : {X : Type 0} (xs old new : List X) (session : ℕ) (x : X) → old ≡ drop session xs
-    → session < length xs → x ≡ get_or old 0 x → new ≡ drop 1 old
-    → (slice_get xs session ≡ Some x) × (new ≡ drop (session + 1) xs)
-first_left {X} xs old new session x left below first rest =
-    let parts : old ≡ get_or xs session x ∷ drop (session + 1) xs = left ∙ drop_more xs session x below in
-    let is : x ≡ get_or xs session x = first ∙ ap (λ (l : List X). get_or l 0 x) parts in (
-      slice_get-get_or xs session x below ∙ ap (λ (y : X). Some y) (sym is),
-      rest ∙ ap (drop 1) parts,
+pub first_left : {X : Type 0} (xs rest : List X) (session : ℕ) (x : X)
+    → drop session xs ≡ x ∷ rest
+    → (slice_get xs session ≡ Some x) × (rest ≡ drop (session + 1) xs)
+first_left {X} xs rest session x is =
+    let below : session < length xs =
+    omega (arith, ap length is, length-drop session xs) in
+    let parts : get_or xs session x ∷ drop (session + 1) xs ≡ x ∷ rest =
+    sym (drop_more xs session x below) ∙ is in (
+      slice_get-get_or xs session x below
+          ∙ ap (λ (y : X). Some y) (ap (λ (l : List X). get_or l 0 x) parts),
+      sym (ap (drop 1) parts),
     )
+
+-- what is taken from the front
+pub taken_first : {X : Type 0} (xs rest : List X) (x : X) → 1 ≤ length xs → x ≡ get_or xs 0 x
+    → rest ≡ drop 1 xs → xs ≡ x ∷ rest
+taken_first [] rest x some is left = absurd (omega (arith, some))
+taken_first (y ∷ xs) rest x some is left = ap (λ z. z ∷ xs) (sym is) ∙ ap (λ l. x ∷ l) (sym left)
 
 -- what stands at a place in two lists one after the other
 pub at_place : {X : Type 0} (front back : List X) (index : ℕ) (x : X)
