@@ -32,3 +32,4 @@ pub mod ScriptedReads
 pub mod Sources
 pub mod InTrees
 pub mod SessionSteps
+pub mod NextSource
