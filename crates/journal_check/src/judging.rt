@@ -173,6 +173,48 @@ fn judge<S: Source>(
     }
 }
 
+/// The same with screens as they come.
+fn judge_read<S: Source>(
+    alloc: Global,
+    limits: &Limits,
+    journal: &Journal,
+    sources: Vec<S>,
+    screens: Vec<Vec<Box<dyn Screen + Send>>>,
+) -> CheckDone<S>
+    requires few { length sources.items ≤ SESSIONS }
+    requires screens { length sources.items ≤ length screens.items }
+    requires bytes { 2 + count_all (map (λ own. own.items) journal.now.acts.items)
+        + count_all (map (λ own. own.items) journal.now.lines.items) < 2 ^ 32 }
+    requires sound { IsSound (map (λ own. own.items) journal.now.acts.items)
+        (map (λ own. own.items) journal.now.lines.items) }
+    ensures yes { result.answer ≡ Checked.Yes → AreTold (map S.left sources.items)
+        → (text : List ℕ) → HasNoFault
+        (case_of limits.now text (map S.left sources.items)
+        (map (λ own. map (λ b. (Screen-box b).meaning b.value) own.items) screens.items))
+        (map (λ own. own.items) journal.now.acts.items)
+        (map (λ own. own.items) journal.now.lines.items) }
+    ensures worth { result.answer ≡ Checked.Yes → AreTold (map S.left sources.items)
+        → (text : List ℕ) → AreWorth
+        (case_of limits.now text (map S.left sources.items)
+        (map (λ own. map (λ b. (Screen-box b).meaning b.value) own.items) screens.items))
+        (map (λ own. own.items) journal.now.acts.items)
+        (map (λ own. own.items) journal.now.lines.items) }
+    ensures no { IfNo result.answer (λ fault. (5 ≤ fault.kind → AreTold (map S.left sources.items))
+        → (text : List ℕ) → IsFirstKind
+        (case_of limits.now text (map S.left sources.items)
+        (map (λ own. map (λ b. (Screen-box b).meaning b.value) own.items) screens.items))
+        (map (λ own. own.items) journal.now.acts.items)
+        (map (λ own. own.items) journal.now.lines.items) fault.kind fault.row) }
+    ensures read_fault { result.answer ≡ Checked.ReadFault
+        → SomeRose S.faults sources.items result.sources.items }
+    ensures back { AreBack S.faults S.name sources.items result.sources.items }
+{
+    match screen_sets(alloc, screens) {
+        Ok(sets) => judge(alloc, limits, journal, sources, sets),
+        Err(_) => answered(Checked::Memory, sources),
+    }
+}
+
 /// Judges a journal by its limits, the input of each of its sessions, and each session's screens.
 pub fn check<S: Source>(
     alloc: Global,
@@ -202,10 +244,7 @@ pub fn check<S: Source>(
         return answered(Checked::No(CheckFault { row: 0, kind: 1 }), sources);
     }
     match read_journal(alloc, journal) {
-        Ok(told) => match screen_sets(alloc, screens) {
-            Ok(sets) => judge(alloc, limits, &told, sources, sets),
-            Err(_) => answered(Checked::Memory, sources),
-        },
+        Ok(told) => judge_read(alloc, limits, &told, sources, screens),
         Err(JournalFault::Row(row)) => {
             answered(Checked::No(CheckFault { row, kind: 1 }), sources)
         }
