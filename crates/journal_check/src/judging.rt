@@ -13,7 +13,7 @@ ghost use Rattle.journal_check.specs.TreeFaults.{IsTreeFault, AreRightAll};
 ghost use Rattle.journal_check.specs.Worth.{IsWorth, AreWorth};
 
 use crate::rows_first::first_row_fault;
-use crate::screen_sets::{ScreenSet, screen_sets};
+use crate::screen_sets::SessionScreens;
 use crate::session_acts::{ActsFound, compare_all};
 use crate::tree_faults::first_tree_fault;
 use gate_ports::Source;
@@ -87,12 +87,12 @@ fn judge_trees(alloc: Global, journal: &Journal, last: u32) -> Checked
 }
 
 /// Judges a journal that has no fault by its rows alone: by its sessions, and by its trees.
-fn judge_sessions<S: Source>(
+fn judge_sessions<S: Source, K: SessionScreens>(
     alloc: Global,
     limits: &Limits,
     journal: &Journal,
     sources: Vec<S>,
-    screens: Vec<ScreenSet<Box<dyn Screen + Send>>>,
+    screens: Vec<K>,
 ) -> CheckDone<S>
     requires few { length sources.items ≤ SESSIONS }
     requires screens { length sources.items ≤ length screens.items }
@@ -105,17 +105,17 @@ fn judge_sessions<S: Source>(
         (map (λ own. own.items) journal.now.lines.items) }
     ensures yes { result.answer ≡ Checked.Yes → AreTold (map S.left sources.items)
         → (text : List ℕ) → HasNoFault
-        (case_of limits.now text (map S.left sources.items) screens.items)
+        (case_of limits.now text (map S.left sources.items) (map K.meaning screens.items))
         (map (λ own. own.items) journal.now.acts.items)
         (map (λ own. own.items) journal.now.lines.items) }
     ensures worth { result.answer ≡ Checked.Yes → AreTold (map S.left sources.items)
         → (text : List ℕ) → AreWorth
-        (case_of limits.now text (map S.left sources.items) screens.items)
+        (case_of limits.now text (map S.left sources.items) (map K.meaning screens.items))
         (map (λ own. own.items) journal.now.acts.items)
         (map (λ own. own.items) journal.now.lines.items) }
     ensures no { IfNo result.answer (λ fault. (5 ≤ fault.kind → AreTold (map S.left sources.items))
         → (text : List ℕ) → IsFirstKind
-        (case_of limits.now text (map S.left sources.items) screens.items)
+        (case_of limits.now text (map S.left sources.items) (map K.meaning screens.items))
         (map (λ own. own.items) journal.now.acts.items)
         (map (λ own. own.items) journal.now.lines.items) fault.kind fault.row) }
     ensures read_fault { result.answer ≡ Checked.ReadFault
@@ -135,12 +135,12 @@ fn judge_sessions<S: Source>(
 }
 
 /// Judges a journal that was read: by its rows, by its sessions, and by its trees.
-fn judge<S: Source>(
+fn judge<S: Source, K: SessionScreens>(
     alloc: Global,
     limits: &Limits,
     journal: &Journal,
     sources: Vec<S>,
-    screens: Vec<ScreenSet<Box<dyn Screen + Send>>>,
+    screens: Vec<K>,
 ) -> CheckDone<S>
     requires few { length sources.items ≤ SESSIONS }
     requires screens { length sources.items ≤ length screens.items }
@@ -150,17 +150,17 @@ fn judge<S: Source>(
         (map (λ own. own.items) journal.now.lines.items) }
     ensures yes { result.answer ≡ Checked.Yes → AreTold (map S.left sources.items)
         → (text : List ℕ) → HasNoFault
-        (case_of limits.now text (map S.left sources.items) screens.items)
+        (case_of limits.now text (map S.left sources.items) (map K.meaning screens.items))
         (map (λ own. own.items) journal.now.acts.items)
         (map (λ own. own.items) journal.now.lines.items) }
     ensures worth { result.answer ≡ Checked.Yes → AreTold (map S.left sources.items)
         → (text : List ℕ) → AreWorth
-        (case_of limits.now text (map S.left sources.items) screens.items)
+        (case_of limits.now text (map S.left sources.items) (map K.meaning screens.items))
         (map (λ own. own.items) journal.now.acts.items)
         (map (λ own. own.items) journal.now.lines.items) }
     ensures no { IfNo result.answer (λ fault. (5 ≤ fault.kind → AreTold (map S.left sources.items))
         → (text : List ℕ) → IsFirstKind
-        (case_of limits.now text (map S.left sources.items) screens.items)
+        (case_of limits.now text (map S.left sources.items) (map K.meaning screens.items))
         (map (λ own. own.items) journal.now.acts.items)
         (map (λ own. own.items) journal.now.lines.items) fault.kind fault.row) }
     ensures read_fault { result.answer ≡ Checked.ReadFault
@@ -170,48 +170,6 @@ fn judge<S: Source>(
     match first_row_fault(journal, sources.len(), limits.halt_tree()) {
         Some(fault) => answered(Checked::No(fault), sources),
         None => judge_sessions(alloc, limits, journal, sources, screens),
-    }
-}
-
-/// The same with screens as they come.
-fn judge_read<S: Source>(
-    alloc: Global,
-    limits: &Limits,
-    journal: &Journal,
-    sources: Vec<S>,
-    screens: Vec<Vec<Box<dyn Screen + Send>>>,
-) -> CheckDone<S>
-    requires few { length sources.items ≤ SESSIONS }
-    requires screens { length sources.items ≤ length screens.items }
-    requires bytes { 2 + count_all (map (λ own. own.items) journal.now.acts.items)
-        + count_all (map (λ own. own.items) journal.now.lines.items) < 2 ^ 32 }
-    requires sound { IsSound (map (λ own. own.items) journal.now.acts.items)
-        (map (λ own. own.items) journal.now.lines.items) }
-    ensures yes { result.answer ≡ Checked.Yes → AreTold (map S.left sources.items)
-        → (text : List ℕ) → HasNoFault
-        (case_of limits.now text (map S.left sources.items)
-        (map (λ own. map (λ b. (Screen-box b).meaning b.value) own.items) screens.items))
-        (map (λ own. own.items) journal.now.acts.items)
-        (map (λ own. own.items) journal.now.lines.items) }
-    ensures worth { result.answer ≡ Checked.Yes → AreTold (map S.left sources.items)
-        → (text : List ℕ) → AreWorth
-        (case_of limits.now text (map S.left sources.items)
-        (map (λ own. map (λ b. (Screen-box b).meaning b.value) own.items) screens.items))
-        (map (λ own. own.items) journal.now.acts.items)
-        (map (λ own. own.items) journal.now.lines.items) }
-    ensures no { IfNo result.answer (λ fault. (5 ≤ fault.kind → AreTold (map S.left sources.items))
-        → (text : List ℕ) → IsFirstKind
-        (case_of limits.now text (map S.left sources.items)
-        (map (λ own. map (λ b. (Screen-box b).meaning b.value) own.items) screens.items))
-        (map (λ own. own.items) journal.now.acts.items)
-        (map (λ own. own.items) journal.now.lines.items) fault.kind fault.row) }
-    ensures read_fault { result.answer ≡ Checked.ReadFault
-        → SomeRose S.faults sources.items result.sources.items }
-    ensures back { AreBack S.faults S.name sources.items result.sources.items }
-{
-    match screen_sets(alloc, screens) {
-        Ok(sets) => judge(alloc, limits, journal, sources, sets),
-        Err(_) => answered(Checked::Memory, sources),
     }
 }
 
@@ -244,7 +202,7 @@ pub fn check<S: Source>(
         return answered(Checked::No(CheckFault { row: 0, kind: 1 }), sources);
     }
     match read_journal(alloc, journal) {
-        Ok(told) => judge_read(alloc, limits, &told, sources, screens),
+        Ok(told) => judge(alloc, limits, &told, sources, screens),
         Err(JournalFault::Row(row)) => {
             answered(Checked::No(CheckFault { row, kind: 1 }), sources)
         }

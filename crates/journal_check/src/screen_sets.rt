@@ -1,5 +1,5 @@
-//! The screens of each session as one value.
-ghost use Rattle.std.specs.Prelude.{◌≡◌, ◌≤◌, map, All, IfOk, IfSome, ℕ, ◌<◌, length};
+//! The screens of a session, with which it is run again.
+ghost use Rattle.std.specs.Prelude.{◌≡◌, ◌≤◌, ◌<◌, ℕ, List, length, map, All, IfSome};
 ghost use Rattle.fold_law.specs.declared.limits.TheConstants.{LEAF};
 ghost use Rattle.gate_ports.specs.Faults.{Rose};
 ghost use Rattle.limit_table.specs.Trees.{halt_tree};
@@ -10,70 +10,58 @@ ghost use Rattle.journal_check.specs.SameActs.{IsInTrees};
 ghost use Rattle.journal_check.specs.SessionActs.{IsOwnSession, DiffersAt};
 
 use crate::replay::{Compared, Likeness, compare};
-use fold_law::Memory;
 use gate_ports::Source;
 use limit_table::Limits;
 use risk_journal::Act;
 use screen_kit::Screen;
 use std::alloc::Global;
-use std::marker::Model;
 
-/// The screens of a session, which contracts see as what they mean.
-#[derive(Drop)]
-pub(crate) struct ScreenSet<K: Screen> {
-    screens: Vec<K>,
-}
-
-impl<K: Screen> Model for ScreenSet<K> {
-    ghost use Rattle.std.specs.Prelude.{List, map};
+/// The screens of a session, with which it can be run again.
+pub(crate) trait SessionScreens: Drop {
+    ghost use Rattle.std.specs.Prelude.{List};
     ghost use Rattle.screen_kit.specs.Screens.{ScreenValue};
 
-    ghost Value = { List ScreenValue };
+    /// What the screens mean, in their order.
+    ghost meaning: { Self → List ScreenValue };
 
-    ghost view = { λ a. map K.meaning a.screens.items };
+    /// Runs a session again and compares its acts with these.
+    fn rerun<S: Source>(
+        self,
+        alloc: Global,
+        limits: &Limits,
+        session: u32,
+        source: S,
+        acts: &[Act],
+    ) -> Compared<S>
+        requires ended { HasEnded acts.now }
+        requires trees { All (IsInTrees (halt_tree limits.now)) acts.now }
+        ensures alike { result.likeness ≡ Likeness.Alike → IfSome (S.left source) (λ bytes.
+            IsOwnSession limits.now (armed_for limits.now (meaning self)) bytes acts.now) }
+        ensures capped { result.likeness ≡ Likeness.Alike → All (PostsAtMost LEAF) acts.now }
+        ensures apart { (index : ℕ) → result.likeness ≡ Likeness.Apart index
+            → IfSome (S.left source) (λ bytes. DiffersAt limits.now
+            (armed_for limits.now (meaning self)) bytes acts.now index) }
+        ensures inside { (index : ℕ) → result.likeness ≡ Likeness.Apart index
+            → index < length acts.now }
+        ensures read_fault { result.likeness ≡ Likeness.ReadFault
+            → Rose (S.faults source) (S.faults result.source) }
+        ensures later { S.faults source ≤ S.faults result.source }
+        ensures name { S.name result.source ≡ S.name source };
 }
 
-/// Each session's screens as one value.
-pub(crate) fn screen_sets(
-    alloc: Global,
-    screens: Vec<Vec<Box<dyn Screen + Send>>>,
-) -> Result<Vec<ScreenSet<Box<dyn Screen + Send>>>, Memory>
-    ensures { IfOk result (λ sets. sets.items
-        ≡ map (λ own. map (λ b. (Screen-box b).meaning b.value) own.items) screens.items) }
-{
-    match screens
-        .into_iter()
-        .map(|screens| ScreenSet { screens })
-        .collect(alloc)
-    {
-        Ok(sets) => Ok(sets),
-        Err(_) => Err(Memory),
+impl SessionScreens for Vec<Box<dyn Screen + Send>> {
+    ghost use Rattle.std.specs.Prelude.{map};
+
+    ghost meaning = { λ a. map (λ b. (Screen-box b).meaning b.value) a.items };
+
+    fn rerun<S: Source>(
+        self,
+        alloc: Global,
+        limits: &Limits,
+        session: u32,
+        source: S,
+        acts: &[Act],
+    ) -> Compared<S> {
+        compare(alloc, limits, session, self, source, acts)
     }
-}
-
-/// Runs a session again and compares its acts with these.
-pub(crate) fn compare_with<S: Source>(
-    alloc: Global,
-    limits: &Limits,
-    session: u32,
-    set: ScreenSet<Box<dyn Screen + Send>>,
-    source: S,
-    acts: &[Act],
-) -> Compared<S>
-    requires ended { HasEnded acts.now }
-    requires trees { All (IsInTrees (halt_tree limits.now)) acts.now }
-    ensures alike { result.likeness ≡ Likeness.Alike → IfSome (S.left source) (λ bytes.
-        IsOwnSession limits.now (armed_for limits.now set) bytes acts.now) }
-    ensures capped { result.likeness ≡ Likeness.Alike → All (PostsAtMost LEAF) acts.now }
-    ensures apart { (index : ℕ) → result.likeness ≡ Likeness.Apart index
-        → IfSome (S.left source) (λ bytes. DiffersAt limits.now (armed_for limits.now set) bytes
-        acts.now index) }
-    ensures inside { (index : ℕ) → result.likeness ≡ Likeness.Apart index
-        → index < length acts.now }
-    ensures read_fault { result.likeness ≡ Likeness.ReadFault
-        → Rose (S.faults source) (S.faults result.source) }
-    ensures later { S.faults source ≤ S.faults result.source }
-    ensures name { S.name result.source ≡ S.name source }
-{
-    compare(alloc, limits, session, set.screens, source, acts)
 }

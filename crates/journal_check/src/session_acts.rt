@@ -13,11 +13,10 @@ ghost use Rattle.journal_check.specs.TakingNext.{TakesNext};
 ghost use Rattle.journal_check.specs.Tables.{AreCapped};
 
 use crate::replay::Likeness;
-use crate::screen_sets::{ScreenSet, compare_with};
+use crate::screen_sets::SessionScreens;
 use gate_ports::Source;
 use limit_table::Limits;
 use risk_journal::Act;
-use screen_kit::Screen;
 use std::alloc::Global;
 
 /// How the acts of all sessions compare with those of their inputs.
@@ -41,14 +40,17 @@ pub(crate) struct ActsDone<S: Source> {
 
 /// Sources that came back, and the sources and the screens of the sessions that wait.
 #[derive(Drop)]
-struct Progress<S: Source> {
+struct Progress<S: Source, K: SessionScreens> {
     back: Vec<S>,
     rest: Vec<S>,
-    screens: Vec<ScreenSet<Box<dyn Screen + Send>>>,
+    screens: Vec<K>,
 }
 
 /// The answer, with the sources that came back and those that weren't called.
-fn with_rest<S: Source>(found: ActsFound, progress: Progress<S>) -> ActsDone<S>
+fn with_rest<S: Source, K: SessionScreens>(
+    found: ActsFound,
+    progress: Progress<S, K>,
+) -> ActsDone<S>
     requires { vec_len progress.back + vec_len progress.rest ≤ vec_capacity progress.back }
     ensures found { result.found ≡ found }
     ensures sources { result.sources.items ≡ progress.back.items ++ progress.rest.items }
@@ -66,11 +68,11 @@ fn with_rest<S: Source>(found: ActsFound, progress: Progress<S>) -> ActsDone<S>
 }
 
 /// Compares the acts of the next session with those of its input. Its source comes back.
-fn compare_next<S: Source>(
+fn compare_next<S: Source, K: SessionScreens>(
     alloc: Global,
     limits: &Limits,
     session: u32,
-    progress: &mut Progress<S>,
+    progress: &mut Progress<S, K>,
     acts: &[Act],
 ) -> Likeness
     requires source { 1 ≤ length progress.old.rest.items }
@@ -81,9 +83,9 @@ fn compare_next<S: Source>(
     requires trees { All (IsInTrees (halt_tree limits.now)) acts.now }
     ensures next { TakesNext S.left S.faults S.name limits.now acts.now
         (record { back = progress.old.back.items; rest = progress.old.rest.items;
-          screens = progress.old.screens.items })
+          screens = map K.meaning progress.old.screens.items })
         (record { back = progress.new.back.items; rest = progress.new.rest.items;
-          screens = progress.new.screens.items })
+          screens = map K.meaning progress.new.screens.items })
         result }
     ensures capped { result ≡ Likeness.Alike → All (PostsAtMost LEAF) acts.now }
     ensures inside { (index : ℕ) → result ≡ Likeness.Apart index → index < length acts.now }
@@ -92,7 +94,7 @@ fn compare_next<S: Source>(
 {
     let set = progress.screens.remove(0);
     let source = progress.rest.remove(0);
-    let compared = compare_with(alloc, limits, session, set, source, acts);
+    let compared = set.rerun(alloc, limits, session, source, acts);
     progress.back.push_reserved(compared.source);
     compared.likeness
 }
@@ -100,12 +102,12 @@ fn compare_next<S: Source>(
 /// Compares the acts of each session with those of its input, up to the first session that differs, or
 /// cannot be compared. All sources come back. What this takes of memory for the list of them is taken
 /// before the first is called.
-pub(crate) fn compare_all<S: Source>(
+pub(crate) fn compare_all<S: Source, K: SessionScreens>(
     alloc: Global,
     limits: &Limits,
     acts: &[Vec<Act>],
     sources: Vec<S>,
-    screens: Vec<ScreenSet<Box<dyn Screen + Send>>>,
+    screens: Vec<K>,
 ) -> ActsDone<S>
     requires count { length acts.now ≡ length sources.items }
     requires few { length sources.items ≤ SESSIONS }
@@ -115,12 +117,12 @@ pub(crate) fn compare_all<S: Source>(
     requires trees { All (λ own. All (IsInTrees (halt_tree limits.now)) own)
         (map (λ own. own.items) acts.now) }
     ensures alike { result.found ≡ ActsFound.Alike
-        → AreAlike limits.now (map S.left sources.items) screens.items
+        → AreAlike limits.now (map S.left sources.items) (map K.meaning screens.items)
         (map (λ own. own.items) acts.now) (length acts.now) }
     ensures capped { result.found ≡ ActsFound.Alike
         → AreCapped LEAF (map (λ own. own.items) acts.now) }
     ensures apart { (row : ℕ) → result.found ≡ ActsFound.Apart row
-        → IsFirstApart limits.now (map S.left sources.items) screens.items
+        → IsFirstApart limits.now (map S.left sources.items) (map K.meaning screens.items)
         (map (λ own. own.items) acts.now) row }
     ensures read_fault { result.found ≡ ActsFound.ReadFault
         → SomeRose S.faults sources.items result.sources.items }

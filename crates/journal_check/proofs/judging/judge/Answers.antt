@@ -17,7 +17,7 @@ returns-in-Some-clause-no g c =
     let count : c.len.result ≡ length left =
     omega (arith, c.len.ensures, length-map c.args.sources.items g.S.Source.left) in
     rw c.answered.ensures.answer
-    (λ need text. row_first c.args.limits.now text left c.args.screens.items acts lines c.in-Some.fault
+    (λ need text. row_first c.args.limits.now text left (map g.K.SessionScreens.meaning c.args.screens.items) acts lines c.in-Some.fault
     (subst (λ (n : ℕ). IsRowFault n (halt_tree c.args.limits.now) acts lines c.in-Some.fault) count
     (subst (λ (t : ℕ). IsRowFault c.len.result t acts lines c.in-Some.fault) c.halt_tree.ensures.tree
     c.in-Some.ensures.found)))

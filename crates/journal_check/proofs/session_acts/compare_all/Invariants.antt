@@ -13,13 +13,15 @@ abbrev pub invariant-loop-session : goal.invariant-loop-session
 invariant-loop-session g l = record {
   count : length l.progress.back.items ≡ l.session;
   rest : l.progress.rest.items ≡ drop l.session l.initial.progress.rest.items;
-  screens : l.progress.screens.items ≡ drop l.session l.initial.progress.screens.items;
+  screens : map g.K.SessionScreens.meaning l.progress.screens.items
+      ≡ drop l.session (map g.K.SessionScreens.meaning l.initial.progress.screens.items);
   room : vec_len l.progress.back + vec_len l.progress.rest ≤ vec_capacity l.progress.back;
   back : AreBackSoFar g.S.Source.faults g.S.Source.name l.initial.progress.rest.items
       l.progress.back.items;
   row : l.row ≡ 2 + count_all (take l.session (map (λ own. own.items) l.acts));
   alike : AreAlike l.limits (map g.S.Source.left l.initial.progress.rest.items)
-      l.initial.progress.screens.items (map (λ own. own.items) l.acts) l.session;
+      (map g.K.SessionScreens.meaning l.initial.progress.screens.items)
+      (map (λ own. own.items) l.acts) l.session;
   capped : (session : ℕ) (own : List Act) → session < l.session
       → slice_get (map (λ own. own.items) l.acts) session ≡ Some own → All (PostsAtMost LEAF) own;
 }
