@@ -127,8 +127,15 @@ module _ (limits : LimitsValue) (text : List ℕ) (left : List (Option (List ℕ
             (λ (high : first.session < other.session).
             let long : length (get_or acts first.session []) ≡ length first.own =
             ap length (get_or_from_slice_get acts first.session first.own [] first.of_session) in
-            absurd (omega (arith, count_later acts first.session other.session high, long, less,
-            first.row_is, other.row_is, first.inside)))
+            absurd (omega (
+              arith,
+              count_later acts first.session other.session high,
+              long,
+              less,
+              first.row_is,
+              other.row_is,
+              first.inside,
+            )))
             (le_or_lt other.session first.session))
             (same_or other.session first.session);
       }

@@ -82,10 +82,16 @@ fn compare_next<S: Source, K: SessionScreens>(
     requires ended { HasEnded acts.now }
     requires trees { All (IsInTrees (halt_tree limits.now)) acts.now }
     ensures next { TakesNext S.left S.faults S.name limits.now acts.now
-        (record { back = progress.old.back.items; rest = progress.old.rest.items;
-          screens = map K.meaning progress.old.screens.items })
-        (record { back = progress.new.back.items; rest = progress.new.rest.items;
-          screens = map K.meaning progress.new.screens.items })
+        (record {
+          back = progress.old.back.items;
+          rest = progress.old.rest.items;
+          screens = map K.meaning progress.old.screens.items;
+        })
+        (record {
+          back = progress.new.back.items;
+          rest = progress.new.rest.items;
+          screens = map K.meaning progress.new.screens.items;
+        })
         result }
     ensures capped { result ≡ Likeness.Alike → All (PostsAtMost LEAF) acts.now }
     ensures inside { (index : ℕ) → result ≡ Likeness.Apart index → index < length acts.now }

@@ -16,8 +16,11 @@ use Rattle.journal_check.proofs.judging.check.Goals as goal
 
 pub judge-requires-clause-bytes : goal.judge-requires-clause-bytes
 judge-requires-clause-bytes g c =
-    omega (arith, rows_within c.args.journal.now (kept c.in-Ok.told.acts.items)
-    (kept c.in-Ok.told.lines.items) c.in-Ok.ensures.read)
+    omega (
+      arith,
+      rows_within c.args.journal.now (kept c.in-Ok.told.acts.items)
+          (kept c.in-Ok.told.lines.items) c.in-Ok.ensures.read,
+    )
 
 pub judge-requires-clause-sound : goal.judge-requires-clause-sound
 judge-requires-clause-sound g c = c.in-Ok.ensures.read.sound

@@ -39,16 +39,27 @@ loop-session-init g c =
 pub compare_next-requires-clause-source : goal.compare_next-requires-clause-source
 compare_next-requires-clause-source g c =
     let long = ap length c.loop-session.invariant.rest in
-    omega (arith, long, length-drop c.loop-session.session c.args.sources.items, c.requires.count,
-    c.loop-session-test.true)
+    omega (
+      arith,
+      long,
+      length-drop c.loop-session.session c.args.sources.items,
+      c.requires.count,
+      c.loop-session-test.true,
+    )
 
 pub compare_next-requires-clause-set : goal.compare_next-requires-clause-set
 compare_next-requires-clause-set g c =
     let long = ap length c.loop-session.invariant.screens in
-    omega (arith, long, length-drop c.loop-session.session (map g.K.SessionScreens.meaning c.args.screens.items),
-    c.requires.count, c.requires.screens, c.loop-session-test.true,
-    length-map c.args.screens.items g.K.SessionScreens.meaning,
-    length-map c.loop-session.progress.screens.items g.K.SessionScreens.meaning)
+    omega (
+      arith,
+      long,
+      length-drop c.loop-session.session (map g.K.SessionScreens.meaning c.args.screens.items),
+      c.requires.count,
+      c.requires.screens,
+      c.loop-session-test.true,
+      length-map c.args.screens.items g.K.SessionScreens.meaning,
+      length-map c.loop-session.progress.screens.items g.K.SessionScreens.meaning,
+    )
 
 pub compare_next-requires-clause-ended : goal.compare_next-requires-clause-ended
 compare_next-requires-clause-ended g c =
@@ -76,23 +87,38 @@ pub overflow_add-row : goal.overflow_add-row
 overflow_add-row g c =
     let own_is = ap length (kept_own c.args.acts.now c.loop-session.session c.index-acts-session.result
     c.loop-session-test.true c.index-acts-session.is ∙ sym c.as_slice-own.ensures.value) in
-    omega (arith, c.requires.rows, c.loop-session.invariant.row, own_is,
-    count_own (kept c.args.acts.now) c.loop-session.session)
+    omega (
+      arith,
+      c.requires.rows,
+      c.loop-session.invariant.row,
+      own_is,
+      count_own (kept c.args.acts.now) c.loop-session.session,
+    )
 
 pub overflow_cast-index : goal.overflow_cast-index
 overflow_cast-index g c =
     let own_is = ap length (kept_own c.args.acts.now c.loop-session.session c.index-acts-session.result
     c.loop-session-test.true c.index-acts-session.is ∙ sym c.as_slice-own.ensures.value) in
-    omega (arith, c.requires.rows, own_is, count_own (kept c.args.acts.now) c.loop-session.session,
-    c.compare_next.ensures.inside c.in-Apart.index c.in-Apart.is)
+    omega (
+      arith,
+      c.requires.rows,
+      own_is,
+      count_own (kept c.args.acts.now) c.loop-session.session,
+      c.compare_next.ensures.inside c.in-Apart.index c.in-Apart.is,
+    )
 
 pub overflow_add-row-in-Apart : goal.overflow_add-row-in-Apart
 overflow_add-row-in-Apart g c =
     let own_is = ap length (kept_own c.args.acts.now c.loop-session.session c.index-acts-session.result
     c.loop-session-test.true c.index-acts-session.is ∙ sym c.as_slice-own.ensures.value) in
-    omega (arith, c.requires.rows, c.loop-session.invariant.row, own_is,
-    count_own (kept c.args.acts.now) c.loop-session.session,
-    c.compare_next.ensures.inside c.in-Apart.index c.in-Apart.is)
+    omega (
+      arith,
+      c.requires.rows,
+      c.loop-session.invariant.row,
+      own_is,
+      count_own (kept c.args.acts.now) c.loop-session.session,
+      c.compare_next.ensures.inside c.in-Apart.index c.in-Apart.is,
+    )
 
 pub loop-session-preserved : goal.loop-session-preserved
 loop-session-preserved g c =
@@ -193,8 +219,12 @@ returns-clause-alike g c = λ is.
 pub returns-clause-capped : goal.returns-clause-capped
 returns-clause-capped g c = λ is session own at.
     c.loop-session.invariant.capped session own
-    (omega (arith, slice_get_within (kept c.args.acts.now) session own at, kept_count c.args.acts.now,
-    c.loop-session-test.false)) at
+    (omega (
+      arith,
+      slice_get_within (kept c.args.acts.now) session own at,
+      kept_count c.args.acts.now,
+      c.loop-session-test.false,
+    )) at
 
 pub returns-clause-back : goal.returns-clause-back
 returns-clause-back g c =
