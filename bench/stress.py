@@ -50,12 +50,13 @@ def made(number):
     return limits, [loads.session(dice, session, messages) for session in range(sessions)]
 
 
-def call(program, folder, limits, inputs, **more):
-    """Runs the program in a folder. Gives the call that is done, and the folder of its outputs."""
+def call(program, folder, limits, inputs, command="run", **more):
+    """Runs a command of the program in a folder. Gives the call that is done, and the folder of its
+    outputs."""
     out = os.path.join(folder, "out")
     os.mkdir(out)
     names = [write(folder, f"s{number:02}.fix", data) for number, data in enumerate(inputs)]
-    words = [program, "run", write(folder, "limits.csv", limits.encode()), out] + names
+    words = [program, command, write(folder, "limits.csv", limits.encode()), out] + names
     return subprocess.run(words, capture_output=True, check=False, **more), out
 
 
