@@ -22,6 +22,7 @@ from collections import Counter
 import broken
 import loads
 from model.cross_judge import judge_run
+from model.frames import Frame, next_frame
 from model.judge import Wrong
 from model.judge import judge_run as judge_gate
 from rows import base
@@ -43,6 +44,16 @@ def limits_of(dice):
     return base(100_000, *rows)
 
 
+def with_second(dice, data):
+    """An input in which some messages are of the second symbol."""
+    frames = broken.split(data)
+    for place, frame in enumerate(frames):
+        found = next_frame(frame, 0)
+        if isinstance(found, Frame) and b"\x0155=XYZ\x01" in found.body and dice.random() < 0.5:
+            frames[place] = broken.with_value(frame, 55, b"ABC")
+    return b"".join(frames)
+
+
 def made(number):
     """The limit file and the inputs of a run."""
     dice = random.Random(number)
@@ -52,7 +63,7 @@ def made(number):
     for session in range(sessions):
         data = loads.session(dice, session, messages)
         if dice.random() < 0.5:
-            data = data.replace(b"\x0155=XYZ\x01", b"\x0155=ABC\x01", dice.randint(0, 5))
+            data = with_second(dice, data)
         for _ in range(dice.choice((0, 0, 0, 1, 2))):
             data, _ = broken.change(dice, data)
         inputs.append(data)

@@ -8,6 +8,7 @@ import random
 import unittest
 
 import loads
+from boards import Board, OnBoard, journal_of, take_next, whole
 from model.cross import CrossSession, HALF, TOP, is_clear, join, level, run_cross, value_of
 from model.cross_judge import judge_run
 from model.frames import framed, next_frame
@@ -67,33 +68,12 @@ class Values(unittest.TestCase):
                 self.assertLess(*prices)
 
 
-class Board:
-    """Plain arrays that sessions use in turn: lines by tree, and the root of all."""
-
-    def __init__(self, sessions, trees):
-        self.lines, self.arrays = [[] for _ in range(trees)], [[0] * sessions for _ in range(trees)]
-
-
-class Turn(CrossSession):
+class Turn(OnBoard, CrossSession):
     """A session over a board."""
 
     def __init__(self, limits, number, board):
         super().__init__(limits, [])
         self.number, self.board = number, board
-
-    def post(self, tree, value):
-        super().post(tree, value)
-        self.board.lines[tree].append((self.number, self.posts[tree], value))
-        self.board.arrays[tree][self.number] = value
-
-    def read(self, tree):
-        place, value = len(self.board.lines[tree]), self.root(tree)
-        self.acts.append(("read", tree, place, place, value))
-        return value
-
-    def root(self, tree):
-        """What all sessions have."""
-        return join(*self.board.arrays[tree])
 
 
 class Lonely(Turn):
@@ -116,41 +96,31 @@ class Late(Turn):
         return None
 
 
-def cells(session, act):
-    """A row of an act."""
-    kind, *numbers = act
-    numbers = ["" if number is None else number for number in numbers]
-    return ",".join(map(str, [kind, session, *numbers, "", "", "", ""][:6])) + "\n"
+def board_for(limits, sessions):
+    """A board with the trees of these limits."""
+    return Board(sessions, [(lambda array: join(*array), 0)] * max(1, len(limits.symbols)))
 
 
 def played(limit_text, inputs, kind=Turn, dice=None):
     """A run of sessions over one board, frame by frame in turn or as the dice fall: what
     `judge_run` takes."""
     limits = Limits(limit_text)
-    board = Board(len(inputs), max(1, len(limits.symbols)))
+    board = board_for(limits, len(inputs))
     sessions = [kind(limits, number, board) for number in range(len(inputs))]
     places = [0] * len(inputs)
     while any(place < len(data) for place, data in zip(places, inputs)):
         for number, data in enumerate(inputs):
-            if places[number] == len(data) or dice and dice.random() < 0.5:
-                continue
-            found = next_frame(data, places[number])
-            sessions[number].take(data[found.start:found.end], found.fields)
-            sessions[number].frame += 1
-            places[number] = found.end
-    rows = "".join(cells(number, act) for number, session in enumerate(sessions)
-                   for act in [*session.acts, ("ended", 0, None)])
-    rows += "".join(f"line,{session},{tree},{place},{index},{value}\n"
-                    for tree, lines in enumerate(board.lines)
-                    for place, (session, index, value) in enumerate(lines, 1))
+            if places[number] < len(data) and not (dice and dice.random() < 0.5):
+                places[number] = take_next(data, places[number], sessions[number].take)
+                sessions[number].frame += 1
+    acts = [session.acts + [("ended", 0, None)] for session in sessions]
     return (limit_text, inputs, [session.passed for session in sessions],
-            [session.client.data for session in sessions], "kind,session,a,b,c,d\n" + rows,
-            "status 0\n", 0)
+            [session.client.data for session in sessions], journal_of(board, acts), "status 0\n", 0)
 
 
 def alone(*frames, limits=LIMITS):
     """A session by itself: what it posts, and what is told of its frames: 0 where one is sent."""
-    session = Turn(Limits(limits), 0, Board(1, 1))
+    session = Turn(Limits(limits), 0, board_for(Limits(limits), 1))
     for data in frames:
         session.take(data, next_frame(data, 0).fields)
         session.frame += 1
@@ -234,29 +204,19 @@ class Sessions(unittest.TestCase):
 
 
 def random_inputs(seed, sessions):
-    """Limits and sessions whose orders often cross."""
+    """Limits and sessions of whole frames, whose orders often cross."""
     dice = random.Random(seed)
     limits = loads.limits(dice)
-    return limits, [loads.session(dice, number, 40) for number in range(sessions)], dice
+    return limits, [whole(loads.session(dice, number, 40)) for number in range(sessions)], dice
 
 
 class Runs(unittest.TestCase):
     """Runs of several sessions over boards, judged."""
 
-    def whole(self, seed, sessions):
-        """A run whose sessions are frames to their end."""
-        limits, inputs, dice = random_inputs(seed, sessions)
-        for number, data in enumerate(inputs):
-            end = 0
-            while hasattr(found := next_frame(data, end), "end"):
-                end = found.end
-            inputs[number] = data[:end]
-        return limits, inputs, dice
-
     def test_each_way_in_which_turns_fall_is_taken(self):
         refused = 0
         for seed in range(30):
-            limits, inputs, dice = self.whole(seed, 1 + seed % 5)
+            limits, inputs, dice = random_inputs(seed, 1 + seed % 5)
             acts = judge_run(*played(limits, inputs, dice=dice))
             refused += sum(act[0] == "refused" and act[2] == 17 for own in acts for act in own)
         self.assertGreater(refused, 100)
