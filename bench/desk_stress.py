@@ -8,7 +8,8 @@ A run has 1 to 8 officers and 1 to 56 sessions over one account and one symbol; 
 file has something wrong. Each tree has to be legal, the limit trees and the halt tree too; each
 officer's acts have to be those of its rows, each session's acts and streams those of the plain model
 in `model/desk.py` over its input and its reads, and the status and the fault of an officer's file too.
-It prints what it ran and saw, and ends with status 1 at the first run that is wrong, whose files it leaves in FOLDER, where one is given.
+It prints what it ran and saw, and ends with status 1 at the first run that is wrong, whose files it
+leaves in FOLDER, where one is given.
 """
 import argparse
 import os
