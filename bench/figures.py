@@ -121,7 +121,7 @@ def stress_cells(counts):
 
 def judged(asked, runs):
     """What the scripts that judge runs are asked."""
-    return SimpleNamespace(gate=asked.gate, runs=runs, seed=1, keep=None, only=None,
+    return SimpleNamespace(gate=asked.gate, runs=runs, seed=1, check=False, keep=None, only=None,
                            jobs=len(os.sched_getaffinity(0)))
 
 
