@@ -25,7 +25,7 @@ import broken
 import loads
 from model.desk_judge import judge_run
 from model.judge import Wrong
-from stress import PROGRAM, count, overlaps, read, write
+from stress import PROGRAM, count, read, write
 
 ROWS = ("firm,", "firm,", "account,ACC", "symbol,XYZ")
 VALUES = ("0", "100", "500", "2000", "9000", "none", "none", "274877906942", "000000000700")
@@ -86,7 +86,6 @@ def judge(asked, folder, number, counts):
     counts["faults"] += not acts
     counts["officers"] += len(officers)
     count(counts, acts)
-    counts["met in the firm"] += overlaps(acts)
 
 
 def arguments():
@@ -112,7 +111,7 @@ def main():
                 sys.exit(1)
     causes = ", ".join(f"{code}: {counts['refused', code]:,}" for code in range(1, 19))
     print(f"{counts['runs']:,} runs with {counts['officers']:,} officers, of which {counts['faults']:,} "
-          f"runs had a wrong officer's file; sessions met in {counts['met in the firm']:,}, "
+          f"runs had a wrong officer's file; sessions met in {counts['met']:,}, "
           f"{time.monotonic() - start:.0f} s")
     print(f"posts {counts['post']:,}, reads {counts['read']:,}, sent {counts['sent']:,}, "
           f"refused {counts['refused']:,}, noted {counts['noted']:,}")
