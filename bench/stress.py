@@ -1,14 +1,14 @@
 #!/usr/bin/env python3
 """Runs the built program over random sessions that share an account and a symbol, and judges it.
 
-usage: stress.py [--runs N] [--seed N] [--check] [--gate PATH] [--keep FOLDER]    2,000 runs, seed 1
+usage: stress.py [--runs N] [--seed N] [--sessions N] [--check] [--gate PATH] [--keep FOLDER]
 
-A run has 2 to 64 sessions. Its journal has to be legal and to admit within the limits at every
-place; each session's acts and both streams, the totals and the status have to be those of the plain
-model in `model` over its input and its reads. With `--check` the program's own `check` has to call
-each journal lawful too. It prints what it ran and saw, and in how many runs sessions met: the places
-of their reads in the firm's tree overlap. It ends with status 1 at the first run that is wrong, whose
-files it leaves in FOLDER, where one is given.
+2,000 runs, seed 1. A run has 2 to 64 sessions, or as many as are asked for. Its journal has to be
+legal and to admit within the limits at every place; each session's acts and both streams, the totals
+and the status have to be those of the plain model in `model` over its input and its reads. With
+`--check` the program's own `check` has to call each journal lawful too. It prints what it ran and
+saw, and in how many runs sessions met: the places of their reads in the firm's tree overlap. It ends
+with status 1 at the first run that is wrong, whose files it leaves in FOLDER, where one is given.
 """
 import argparse
 import os
@@ -44,11 +44,11 @@ def read(folder, name):
         return file.read()
 
 
-def made(number):
+def made(number, sessions=None):
     """The limit file and the inputs of a run."""
     dice = random.Random(number)
     limits = loads.limits(dice)
-    sessions = dice.choice((2, 2, 3, 4, 5, 8, 8, 16, 32, 64))
+    sessions = sessions or dice.choice((2, 2, 3, 4, 5, 8, 8, 16, 32, 64))
     messages = dice.choice((5, 20, 60, 200)) if sessions <= 8 else dice.choice((5, 20, 60))
     return limits, [loads.session(dice, session, messages) for session in range(sessions)]
 
@@ -110,6 +110,7 @@ def arguments():
     parser = argparse.ArgumentParser()
     parser.add_argument("--runs", type=int, default=2_000)
     parser.add_argument("--seed", type=int, default=1)
+    parser.add_argument("--sessions", type=int)
     parser.add_argument("--check", action="store_true")
     parser.add_argument("--gate", default=PROGRAM)
     parser.add_argument("--keep")
@@ -133,7 +134,7 @@ def run_all(asked):
     """Judges all runs. Gives the counts, or ends with status 1 at the first run that is wrong."""
     counts = Counter()
     for number in range(asked.runs):
-        limits, inputs = made(asked.seed * 1_000_003 + number)
+        limits, inputs = made(asked.seed * 1_000_003 + number, asked.sessions)
         with tempfile.TemporaryDirectory() as folder:
             try:
                 done, out = call(asked.gate, folder, limits, inputs)
