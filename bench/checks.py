@@ -10,10 +10,8 @@ at the first journal of which the two say something else; its files are left in 
 given.
 """
 import argparse
-import os
 import random
 import shutil
-import subprocess
 import sys
 import tempfile
 from collections import Counter
@@ -24,26 +22,17 @@ from model.check import first_fault
 from model.judge import Wrong, demand
 from model.limits import Limits
 from model.limits import first_fault as fault_of_limits
-from stress import PROGRAM, call, read, write
+from stress import LAWFUL, PROGRAM, call, check, read
 
-LAWFUL, FAULTY = 0, 7
+FAULTY = 7
 
 
 def wanted(limits, journal, inputs):
     """The status and the text that a check has to give."""
     found = first_fault(Limits(limits), journal, inputs)
     if found is None:
-        return LAWFUL, b"LAWFUL\n"
+        return LAWFUL
     return FAULTY, b"check fault %d row %d\n" % found
-
-
-def check(program, folder, journal, sessions):
-    """The status and the text of a check of a journal over a run's own files."""
-    names = [os.path.join(folder, f"s{number:02}.fix") for number in range(sessions)]
-    words = [program, "check", os.path.join(folder, "limits.csv"),
-             write(folder, "journal.csv", journal)]
-    done = subprocess.run(words + names, capture_output=True, check=False)
-    return done.returncode, done.stdout
 
 
 def judge(asked, number, counts):

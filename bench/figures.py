@@ -121,8 +121,8 @@ def stress_cells(counts):
 
 def judged(asked, runs):
     """What the scripts that judge runs are asked."""
-    return SimpleNamespace(gate=asked.gate, runs=runs, seed=1, keep=None, only=None,
-                           jobs=len(os.sched_getaffinity(0)))
+    return SimpleNamespace(gate=asked.gate, runs=runs, seed=1, sessions=None, check=False, keep=None,
+                           only=None, jobs=len(os.sched_getaffinity(0)))
 
 
 def stress_rows(asked):

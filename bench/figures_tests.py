@@ -127,6 +127,8 @@ class Rows(unittest.TestCase):
     def test_the_name_and_the_speed_of_the_processors(self):
         self.assertEqual(machine.model("model name\t: Some(R) One\ncpu MHz\t\t: 2699.9\n"),
                          "Some One at 2.7 GHz")
+        self.assertEqual(machine.model("model name\t: Some @ 2.50GHz\ncpu MHz\t\t: 2499.9\n"),
+                         "Some at 2.5 GHz")
         self.assertEqual(machine.model(""), "unknown")
 
 

@@ -13,7 +13,8 @@ def model(told):
     name = re.search(r"^model name\s*:\s*(.+)$", told, re.M)
     speed = re.search(r"^cpu MHz\s*:\s*([0-9.]+)$", told, re.M)
     at = f" at {float(speed[1]) / 1000:.1f} GHz" if speed else ""
-    return (name[1].replace("(R)", "").replace("(TM)", "") if name else "unknown") + at
+    plain = re.sub(r"\(R\)|\(TM\)| @ .*", "", name[1]) if name else "unknown"
+    return plain + at
 
 
 def processors():

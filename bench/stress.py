@@ -1,13 +1,14 @@
 #!/usr/bin/env python3
 """Runs the built program over random sessions that share an account and a symbol, and judges it.
 
-usage: stress.py [--runs N] [--seed N] [--gate PATH] [--keep FOLDER]      2,000 runs, seed 1
+usage: stress.py [--runs N] [--seed N] [--sessions N] [--check] [--gate PATH] [--keep FOLDER]
 
-A run has 2 to 64 sessions. Its journal has to be legal and to admit within the limits at every
-place; each session's acts and both streams, the totals and the status have to be those of the plain
-model in `model` over its input and its reads. It prints what it ran and saw, and in how many runs
-sessions met: the places of their reads in the firm's tree overlap. It ends with status 1 at the
-first run that is wrong, whose files it leaves in FOLDER, where one is given.
+2,000 runs, seed 1. A run has 2 to 64 sessions, or as many as are asked for. Its journal has to be
+legal and to admit within the limits at every place; each session's acts and both streams, the totals
+and the status have to be those of the plain model in `model` over its input and its reads. With
+`--check` the program's own `check` has to call each journal lawful too. It prints what it ran and
+saw, and in how many runs sessions met: the places of their reads in the firm's tree overlap. It ends
+with status 1 at the first run that is wrong, whose files it leaves in FOLDER, where one is given.
 """
 import argparse
 import os
@@ -21,10 +22,12 @@ import time
 from collections import Counter
 
 import loads
-from model.judge import Wrong, judge_run
+from model.judge import Wrong, demand, judge_run
 
 HERE = os.path.dirname(os.path.abspath(__file__))
 PROGRAM = os.path.join(HERE, "..", "crates", "gate_program", "out", "gate_program")
+# What a check of a lawful journal ends with and prints.
+LAWFUL = 0, b"LAWFUL\n"
 
 
 def write(folder, name, data):
@@ -41,22 +44,32 @@ def read(folder, name):
         return file.read()
 
 
-def made(number):
+def made(number, sessions=None):
     """The limit file and the inputs of a run."""
     dice = random.Random(number)
     limits = loads.limits(dice)
-    sessions = dice.choice((2, 2, 3, 4, 5, 8, 8, 16, 32, 64))
+    sessions = sessions or dice.choice((2, 2, 3, 4, 5, 8, 8, 16, 32, 64))
     messages = dice.choice((5, 20, 60, 200)) if sessions <= 8 else dice.choice((5, 20, 60))
     return limits, [loads.session(dice, session, messages) for session in range(sessions)]
 
 
-def call(program, folder, limits, inputs, **more):
-    """Runs the program in a folder. Gives the call that is done, and the folder of its outputs."""
+def call(program, folder, limits, inputs, command="run", **more):
+    """Runs a command of the program in a folder. Gives the call that is done, and the folder of its
+    outputs."""
     out = os.path.join(folder, "out")
     os.mkdir(out)
     names = [write(folder, f"s{number:02}.fix", data) for number, data in enumerate(inputs)]
-    words = [program, "run", write(folder, "limits.csv", limits.encode()), out] + names
+    words = [program, command, write(folder, "limits.csv", limits.encode()), out] + names
     return subprocess.run(words, capture_output=True, check=False, **more), out
+
+
+def check(program, folder, journal, sessions):
+    """The status and the text of a check of a journal over a run's own files."""
+    names = [os.path.join(folder, f"s{number:02}.fix") for number in range(sessions)]
+    words = [program, "check", os.path.join(folder, "limits.csv"),
+             write(folder, "journal.csv", journal)]
+    done = subprocess.run(words + names, capture_output=True, check=False)
+    return done.returncode, done.stdout
 
 
 def results(done, out, sessions):
@@ -97,6 +110,8 @@ def arguments():
     parser = argparse.ArgumentParser()
     parser.add_argument("--runs", type=int, default=2_000)
     parser.add_argument("--seed", type=int, default=1)
+    parser.add_argument("--sessions", type=int)
+    parser.add_argument("--check", action="store_true")
     parser.add_argument("--gate", default=PROGRAM)
     parser.add_argument("--keep")
     return parser.parse_args()
@@ -119,11 +134,15 @@ def run_all(asked):
     """Judges all runs. Gives the counts, or ends with status 1 at the first run that is wrong."""
     counts = Counter()
     for number in range(asked.runs):
-        limits, inputs = made(asked.seed * 1_000_003 + number)
+        limits, inputs = made(asked.seed * 1_000_003 + number, asked.sessions)
         with tempfile.TemporaryDirectory() as folder:
             try:
                 done, out = call(asked.gate, folder, limits, inputs)
-                count(counts, judge_run(limits, inputs, *results(done, out, len(inputs))))
+                found = results(done, out, len(inputs))
+                count(counts, judge_run(limits, inputs, *found))
+                if asked.check:
+                    told = check(asked.gate, folder, found[2].encode(), len(inputs))
+                    demand(told == LAWFUL, "its own check", told)
             except (Wrong, OSError) as wrong:
                 if asked.keep:
                     shutil.copytree(folder, asked.keep)
