@@ -8,3 +8,11 @@ pub mod Places
 pub mod Rested
 pub mod Values
 pub mod Covered
+pub mod CallsTold
+pub mod ToldSteps
+pub mod Asked
+pub mod Contents
+pub mod Taking
+pub mod TookFrames
+pub mod Stopping
+pub mod SymbolPlaces

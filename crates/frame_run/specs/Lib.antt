@@ -3,3 +3,5 @@ pub mod Ends
 pub mod Frames
 pub mod Sinks
 pub mod Taking
+pub mod Ended
+pub mod Giving

@@ -18,3 +18,4 @@ mod Rows
 pub mod SymbolPrices
 pub mod TreeLimits
 pub mod Quotas
+pub mod NamePlaces

@@ -1,0 +1,100 @@
+//! A session from its first frame to its end.
+ghost use Rattle.std.specs.Prelude.{◌≡◌, ◌^◌, ◌<◌, [], ◌∷◌, ◌++◌, length, vec_capacity};
+ghost use Rattle.frame_run.specs.Ended.{EndsAs, EndsWith, IsSourceDone};
+ghost use Rattle.frame_run.specs.Sinks.{sink_of};
+ghost use Rattle.limit_table.specs.Trees.{LimitsValue};
+ghost use Rattle.risk_journal.specs.ActLists.{calls_of};
+ghost use Rattle.cross_guard.specs.Crossing.{IsOpened};
+ghost use Rattle.cross_guard.specs.Follows.{Follows};
+ghost use Rattle.cross_guard.specs.Lasting.{AreSinksDone};
+ghost use Rattle.cross_guard.specs.Told.{IsCrossHand, IsFresh};
+
+use crate::orders::RestingOrders;
+use crate::session::CrossSession;
+use crate::told::{ToldEnd, ToldHand};
+use fix_fields::Writer;
+use frame_run::take_input;
+use gate_ports::{Sink, Source};
+use limit_table::Limits;
+use risk_board::Hand;
+use risk_journal::{Act, End};
+use std::alloc::Global;
+
+/// A session that has ended.
+#[derive(Drop)]
+pub struct CrossDone<H: Hand, S: Source, P: Sink, C: Sink> {
+    pub hand: H,
+    pub acts: Vec<Act>,
+    pub end: End,
+    pub source: S,
+    pub pass: P,
+    pub client: C,
+}
+
+/// Filters a session, whose number counts from 0, up to its end, over at most 33,554,432 bytes of its
+/// source. Each order and replace of a known symbol is put to the guard of the symbol's tree: sent, its
+/// frame is passed on as it is, and refused, the client is told so. All other frames are passed on, and
+/// reports post what the session's orders rest as where that is less.
+pub fn run_cross<H: Hand, S: Source, P: Sink, C: Sink>(
+    alloc: Global,
+    _session: u32,
+    limits: &Limits,
+    hand: H,
+    mut source: S,
+    pass: P,
+    client: C,
+) -> CrossDone<H, S, P, C>
+    requires hand { IsCrossHand limits.now (H.meaning hand) }
+    requires idle { (H.meaning hand).calls ≡ [] }
+    ensures origin { H.SameOrigin hand result.hand }
+    ensures calls { (H.meaning result.hand).calls ≡ calls_of result.acts.items }
+    ensures follows { Follows limits.now (S.left source) (S.left result.source)
+        result.acts.items result.end
+        (sink_of P.held P.faults P.name pass) (sink_of P.held P.faults P.name result.pass)
+        (sink_of C.held C.faults C.name client) (sink_of C.held C.faults C.name result.client) }
+    ensures source { IsSourceDone S.left S.faults S.name S.is_ended source result.source result.end }
+    ensures sinks { AreSinksDone (sink_of P.held P.faults P.name pass)
+        (sink_of P.held P.faults P.name result.pass) (sink_of C.held C.faults C.name client)
+        (sink_of C.held C.faults C.name result.client) result.end }
+    ensures ends { EndsAs result.acts.items result.end }
+    ensures no_room { result.acts.items ≡ [] → vec_capacity result.acts ≡ 0 }
+    ensures few { length result.acts.items < 2 ^ 32 }
+{
+    let told = match ToldHand::open(alloc, limits, hand) {
+        Ok(told) => told,
+        Err(ended) => {
+            return CrossDone {
+                hand: ended.hand,
+                acts: ended.acts,
+                end: End::Memory,
+                source,
+                pass,
+                client,
+            };
+        }
+    };
+    let mut session = CrossSession {
+        alloc,
+        limits,
+        told,
+        orders: RestingOrders::new(alloc),
+        writer: Writer::new(),
+        frames: 0,
+        refused: 0,
+        pass,
+        client,
+    };
+    let end = take_input(alloc, &mut session, &mut source);
+    let CrossSession {
+        told, pass, client, ..
+    } = session;
+    let ToldEnd { hand, acts } = told.end(end);
+    CrossDone {
+        hand,
+        acts,
+        end,
+        source,
+        pass,
+        client,
+    }
+}
