@@ -12,6 +12,7 @@ It ends with status 1 where a group ended with something wrong, and 2 where it c
 """
 import argparse
 import contextlib
+import math
 import os
 import shutil
 import statistics
@@ -39,12 +40,13 @@ from table import table, with_part
 
 README = os.path.join(sessions.HERE, "README.md")
 # Sessions, and the orders of each.
-LOADS = ((1, 40_000), (4, 2_000), (8, 1_000), (8, 2_000), (8, 5_000), (32, 2_000))
+LOADS = ((1, 40_000), (4, 2_000), (8, 1_000), (8, 2_000), (8, 5_000), (32, 2_000),
+         (64, 2_000))
 STRESS_RUNS, FUZZ_RUNS = 2_000, 24_000
 # What the refusals for a field fault have as their code, and how many codes there are.
 FIELD_FAULT, REFUSALS, NOTES = 16, 16, 6
 # Trees, posts of each pass in each, and the works: 2,048,000 posts each time.
-RECORDS = ((4, 16_000, replay.WORKS), (500, 128, replay.WORKS[:2]))
+RECORDS = ((4, 8_000, replay.WORKS), (500, 64, replay.WORKS[:2]))
 # The programs of `forests.py` in the order of the columns.
 SHARED = ("forest", "kept mutex", "kept tree", "bare mutex", "bare tree")
 
@@ -71,6 +73,23 @@ def session_rows(asked):
     """A row for each load."""
     return [session_cells(sessions.measure(asked.gate, count, orders, asked.runs))
             for count, orders in LOADS]
+
+
+def power(points):
+    """The k with which y grows as the power x^k, by least squares on logarithms."""
+    logarithms = [(math.log(x), math.log(y)) for x, y in points]
+    return statistics.linear_regression(*zip(*logarithms)).slope
+
+
+def growth(rows):
+    """How the seconds on all processors grow, by the rows of loads: with sessions of as many orders,
+    and with the orders of as many sessions."""
+    seconds = [(int(row[0]), int(row[1].replace(",", "")), float(row[2].split()[0])) for row in rows]
+    sessions_grow = [(count, own) for count, orders, own in seconds if orders == 2_000]
+    orders_grow = [(orders, own) for count, orders, own in seconds if count == 8]
+    return (f"The seconds on all processors grow as the power {power(sessions_grow):.2f} of the "
+            f"sessions, where each has 2,000 orders, and {power(orders_grow):.2f} of the orders, where "
+            f"there are 8 sessions.\n")
 
 
 def most_cells(seen):
@@ -223,19 +242,22 @@ def message_rows(asked):
 @dataclass(frozen=True)
 class Group:
     """Figures of one table: its name, its columns, what measures its rows, which programs that
-    needs, whether it takes seconds, and whether each figure is of several runs."""
+    needs, whether it takes seconds, whether each figure is of several runs, and what says more of
+    the rows, if anything does."""
     name: str
     head: tuple
     rows: Callable
     needs: tuple = ()
     is_quick: bool = False
     is_repeated: bool = True
+    more: Callable = None
 
 
 ON_TREES = ("forest", "mutex", "steps", "bare mutex", "bare steps")
 GROUPS = (
     Group("sessions", ("Sessions", "Orders each", "On all processors", "On one", "Times as fast",
-                       "Memory at most", "Read", "Written"), session_rows, is_quick=True),
+                       "Memory at most", "Read", "Written"), session_rows, is_quick=True,
+          more=growth),
     Group("most", ("Session", "Seconds", "Memory at most", "Bytes read", "Bytes written"),
           most_rows, is_quick=True),
     Group("stress", ("What", "How many"), stress_rows, is_repeated=False),
@@ -280,7 +302,8 @@ def measured(group, asked):
     many = "" if asked.runs == 1 else "s"
     runs = f"{asked.runs} run{many}; " if group.is_repeated else ""
     where = f"{place(asked)}; {runs}load {before} before and {machine.load()} after."
-    return f"{where}\n\n{table(group.head, rows)}"
+    more = "\n" + group.more(rows) if group.more else ""
+    return f"{where}\n\n{table(group.head, rows)}{more}"
 
 
 def put(name, part):

@@ -60,6 +60,14 @@ class Rows(unittest.TestCase):
             "8", "2,000", "0.030 s (0.020 to 0.040)", "0.060 s (0.040 to 0.120)", "2.00", "18 MB",
             "2.3 MB", "16 MB"))
 
+    def test_how_seconds_grow(self):
+        """As the power 1 of the sessions and 0.5 of the orders; a load of other ones doesn't count."""
+        rows = [(count, orders, f"{seconds} s (0 to 9)") for count, orders, seconds in (
+            ("4", "2,000", "0.020"), ("8", "2,000", "0.040"), ("64", "2,000", "0.320"),
+            ("8", "500", "0.020"), ("1", "40,000", "9.000"))]
+        self.assertTrue(" 1.00 of the sessions" in figures.growth(rows))
+        self.assertTrue(" 0.50 of the orders" in figures.growth(rows))
+
     def test_a_session_of_the_most_bytes(self):
         seen = most.Figures("Heartbeats", 467_576, [0.05], 1_700_000, 33_554_367, 34)
         self.assertEqual(figures.most_cells(seen), (
@@ -152,7 +160,7 @@ class Command(unittest.TestCase):
         put.assert_not_called()
 
     def test_what_is_printed_is_what_is_written(self):
-        group = figures.Group("live", ("One",), lambda asked: [("1",)])
+        group = figures.Group("live", ("One",), lambda asked: [("1",)], more=lambda rows: "More.\n")
         told = io.StringIO()
         with tempfile.TemporaryDirectory() as folder:
             path = os.path.join(folder, "README.md")
@@ -163,6 +171,7 @@ class Command(unittest.TestCase):
             with open(path, encoding="utf-8") as file:
                 part = part_of(file.read(), "live")
         self.assertEqual(read_table(part), (["One"], [["1"]]))
+        self.assertTrue(part.endswith("|\n\nMore.\n"))
         self.assertEqual(told.getvalue(), f"## live\n\n{part}\n")
 
     def test_each_group_has_its_table_in_the_readme(self):

@@ -72,7 +72,7 @@ def wrong_of(program, limits, inputs, counts, keep=None):
             else:
                 acts = judge_run(limits, inputs, *results(done, out, len(inputs)))
                 count(counts, acts)
-                see(counts, Limits(limits), inputs, acts)
+                see(counts, Limits(limits).counted(len(inputs)), inputs, acts)
             return None
         except (Wrong, OSError, ValueError) as wrong:
             if keep:

@@ -17,6 +17,7 @@ import broken
 import fuzz
 import hostile
 import inputs
+import orders
 import refuse
 from model.book import LEAF_MOST
 from model.frames import framed, next_frame
@@ -26,7 +27,8 @@ from model.screens import own_screens
 from model.session import Session, run_session, take_frames
 from rows import (FIRST, ROUND, ROWS, base, buy, one, order, repeats, replace, text, trade,
                   version_2)
-from stress import PROGRAM
+from sessions import LIMITS
+from stress import PROGRAM, call
 
 GATE = os.environ.get("GATE_PROGRAM", PROGRAM)
 # Two orders of which the second is refused: its posts, its reads and the verdict's posts.
@@ -203,6 +205,26 @@ class Versions(unittest.TestCase):
         self.assertEqual(set(seen), {0, 1, 2})
 
 
+# A quota, or None where no row gives one; how many sessions a run has; and what the quota counts as.
+COUNTED = (
+    (200_000, 32, 200_000), (200_000, 33, 100_000), (100_001, 33, 100_000), (100_001, 32, 100_001),
+    (100_000, 33, 100_000), (99_999, 33, 99_999), (200_000, 64, 100_000), (1, 64, 1),
+    (None, 64, 50_000), (200_000, 1, 200_000),
+)
+
+
+class Counted(unittest.TestCase):
+    """What a quota counts as in a run of many sessions."""
+
+    def test_above_32_sessions_a_quota_counts_as_100_000_at_most(self):
+        for quota, sessions, wanted in COUNTED:
+            with self.subTest(quota, sessions=sessions):
+                limits = Limits(base(1_000, *([f"quota,,{quota},,,"] if quota else [])))
+                given = limits.quota
+                self.assertEqual(limits.counted(sessions).quota, wanted)
+                self.assertEqual(limits.quota, given)
+
+
 class Hostile(unittest.TestCase):
     """Reports of every kind on orders in every state, and orders worth a limit."""
 
@@ -300,6 +322,27 @@ class Program(unittest.TestCase):
         for at in range(0, len(fronts), 32):
             inputs = fronts[at:at + 32]
             self.assertIsNone(fuzz.wrong_of(GATE, base(1_000), inputs, Counter()), inputs)
+
+    def test_sessions_at_their_most(self):
+        """33 that are empty, and 64; one more is malformed."""
+        for sessions in (33, 64):
+            with tempfile.TemporaryDirectory() as folder:
+                done, _ = call(GATE, folder, base(1_000), [b""] * sessions)
+            wanted = [f"session {number} whole sent 0 refused 0 noted 0" for number in range(sessions)]
+            told = done.stdout.decode().splitlines()
+            self.assertEqual((done.returncode, told[:sessions]), (0, wanted))
+        with tempfile.TemporaryDirectory() as folder:
+            self.assertEqual(call(GATE, folder, base(1_000), [b""] * 65)[0].returncode, 2)
+
+    def test_the_counted_quota(self):
+        """A session of 100,001 orders, each with a post in the firm's tree, beside empty ones: an
+        order for which two posts aren't left is refused."""
+        data = "".join(map(orders.order, range(1, 100_002))).encode()
+        for sessions, sent, refused in ((32, 100_001, 0), (33, 99_999, 2)):
+            with tempfile.TemporaryDirectory() as folder:
+                done, _ = call(GATE, folder, LIMITS, [data] + [b""] * (sessions - 1))
+            self.assertTrue(done.stdout.decode().startswith(
+                f"session 0 whole sent {sent} refused {refused} noted 0\n"))
 
     @unittest.skipUnless(shutil.which("cc"), "there is no C compiler")
     def test_refused_allocations(self):

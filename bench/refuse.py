@@ -96,7 +96,7 @@ def judge_refused(worked, done):
         return None
     if sum(act[0] == "post" for own in acts for act in own) != sum(map(len, lines.values())):
         return None
-    limits, ended = Limits(worked.limits), 0
+    limits, ended = Limits(worked.limits).counted(len(worked.inputs)), 0
     judge_journal(done.journal(), limits)
     for number, (data, own) in enumerate(zip(worked.inputs, acts)):
         if own[-1] == ENDED_BY_MEMORY:

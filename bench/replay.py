@@ -2,11 +2,11 @@
 """Measures how long the histories of all trees of a record take, and how much memory.
 
 usage: replay.py [TREES [POSTS [REPETITIONS [WORK ..]]]]
-4 trees, 16,000 posts, 3 repetitions and all works where no more is said
+4 trees, 8,000 posts, 3 repetitions and all works where no more is said
 
-The record is that of a forest of `f_array` with so many trees and 32 passes, each of them on a thread of its own,
-that makes so many posts in each tree. A post ascends five levels and wins at most one install at each. So by the
-numbers above there are 2,048,000 posts, and about 10 million installs, in memory. There are three works:
+The record is that of a forest of `f_array` with so many trees and 64 passes, each of them on a thread of its own,
+that makes so many posts in each tree. A post ascends six levels and wins at most one install at each. So by the
+numbers above there are 2,048,000 posts, and about 12 million installs, in memory. There are three works:
 
 record      the posts, and the close that gives the record; no history is made.
 prepared    the same, then `Prepared::of` once, and `replay_of` for each tree.
@@ -30,7 +30,7 @@ BENCH = os.path.dirname(os.path.abspath(__file__))
 CRATES = ("fold_law", "fork_all", "risk_board", "stamp_word", "node_rule", "double_refresh", "f_array", "trail_replay")
 USED = ("fold_law", "stamp_word", "node_rule", "f_array", "trail_replay", "risk_board", "atomic_table")
 WORKS = ("record", "prepared", "each")
-PASSES = 32
+PASSES = 64
 
 
 def build(folder):
@@ -59,7 +59,7 @@ def run(program, work, trees, posts):
 
 def main():
     trees = int(sys.argv[1]) if len(sys.argv) > 1 else 4
-    posts = int(sys.argv[2]) if len(sys.argv) > 2 else 16_000
+    posts = int(sys.argv[2]) if len(sys.argv) > 2 else 8_000
     repetitions = int(sys.argv[3]) if len(sys.argv) > 3 else 3
     works = sys.argv[4:] or WORKS
     with tempfile.TemporaryDirectory() as folder:

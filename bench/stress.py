@@ -3,7 +3,7 @@
 
 usage: stress.py [--runs N] [--seed N] [--gate PATH] [--keep FOLDER]      2,000 runs, seed 1
 
-A run has 2 to 32 sessions. Its journal has to be legal and to admit within the limits at every
+A run has 2 to 64 sessions. Its journal has to be legal and to admit within the limits at every
 place; each session's acts and both streams, the totals and the status have to be those of the plain
 model in `model` over its input and its reads. It prints what it ran and saw, and in how many runs
 sessions met: the places of their reads in the firm's tree overlap. It ends with status 1 at the
@@ -45,7 +45,7 @@ def made(number):
     """The limit file and the inputs of a run."""
     dice = random.Random(number)
     limits = loads.limits(dice)
-    sessions = dice.choice((2, 2, 3, 4, 5, 8, 8, 16, 32))
+    sessions = dice.choice((2, 2, 3, 4, 5, 8, 8, 16, 32, 64))
     messages = dice.choice((5, 20, 60, 200)) if sessions <= 8 else dice.choice((5, 20, 60))
     return limits, [loads.session(dice, session, messages) for session in range(sessions)]
 

@@ -14,11 +14,11 @@ from report.run import read_run
 
 USAGE = "usage: gate report LIMITS OUT SESSION..."
 DONE, NO_FORM, UNREADABLE, APART = 0, 2, 3, 4
-SESSIONS_MOST = 99
+SESSIONS_MOST = 64
 
 
 def is_form(words: list[str]) -> bool:
-    """A limit file, a folder and at least one session, none of them empty or like an option."""
+    """A limit file, a folder and as many sessions as a run takes, none empty or like an option."""
     return 3 <= len(words) <= 2 + SESSIONS_MOST and all(
         word and not word.startswith("-") for word in words)
 

@@ -12,7 +12,7 @@ REFUSALS = {
     ACCOUNT: ("ACCOUNT", "the account's limit would be exceeded"),
     SYMBOL: ("SYMBOL", "the symbol's limit would be exceeded"),
     HALT: ("HALT", "a session has halted the firm"),
-    QUOTA: ("QUOTA", "the session's posts are used up"),
+    QUOTA: ("QUOTA", "the session's posts are used up; beyond 32 sessions at 100,000 in a tree"),
     CAP: ("CAP", "the value is too large to be posted"),
     DUPLICATE: ("DUPLICATE", "the ClOrdID was used before"),
     NO_ACCOUNT: ("UNKNOWN ACCOUNT", "the limit file has no such account"),

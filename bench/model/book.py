@@ -1,7 +1,7 @@
 """The book of a session: the orders that it sent, and what they may cost."""
 from collections import namedtuple
 
-LEAF_MOST = 2 ** 35 - 1
+LEAF_MOST = 4_294_967_295
 BUY = b"1"
 # Of a pair of account and symbol, in ten-thousandths: what was filled of its buys, what of their
 # leaves may cost, and the same of its sells.

@@ -122,7 +122,7 @@ def first_fault(limits, data, inputs, screens=None):
         return TEXT, fault.args[0]
     if len(acts) != len(inputs):
         return COUNT, 0
-    journal = Journal(limits, acts, lines)
+    journal = Journal(limits.counted(len(inputs)), acts, lines)
     kinds = ((EARLY, early(journal)), (TREE, far(journal)),
              (ACTS, other_acts(journal, inputs, screens)), (LINES, wrong_lines(journal)),
              (READ, wrong_reads(journal)))

@@ -130,7 +130,7 @@ def totals_of(limits, acts, lines, ends, status):
 
 def judge_run(limit_text, inputs, venues, clients, journal, told, status):
     """Raises `Wrong` where a run isn't the model's. Gives the sessions' acts."""
-    limits = Limits(limit_text)
+    limits = Limits(limit_text).counted(len(inputs))
     acts, lines = judge_journal(journal, limits)
     demand(len(acts) == len(inputs), "how many sessions", len(acts))
     ends = [judge_session(number, limits, *one)

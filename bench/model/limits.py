@@ -1,5 +1,6 @@
 """A limit file of either version: its rows and the trees that they make; of a text that is none, its
 first fault."""
+import copy
 import csv
 import re
 from collections import namedtuple
@@ -8,6 +9,8 @@ from .messages import Form, Range, read_id, read_price
 
 Symbol = namedtuple("Symbol", "limit low high size")
 QUOTA = 50_000
+# In a run of more sessions than these a quota above the most counts as that.
+SESSIONS_OF_ANY_QUOTA, COUNTED_MOST = 32, 100_000
 MOST_BYTES = 1_048_576
 SHAPE, KIND, NUMBER, NAME, REPEATED, NO_FIRM, TOO_MANY, BAND = range(1, 9)
 # Of each kind: whether it has a name, whether it has a band and a size, its limit's least and most,
@@ -110,6 +113,13 @@ class Limits:
                 self.nets.add(name.encode())
         self.account_places = {name: place for place, name in enumerate(self.accounts)}
         self.symbol_places = {name: place for place, name in enumerate(self.symbols)}
+
+    def counted(self, sessions):
+        """The limits as a run of so many sessions counts them."""
+        limits = copy.copy(self)
+        if sessions > SESSIONS_OF_ANY_QUOTA:
+            limits.quota = min(self.quota, COUNTED_MOST)
+        return limits
 
     def take(self, kind, name, limit, low, high, size):
         """Takes a row."""

@@ -205,7 +205,8 @@ class Apart(unittest.TestCase):
 
     def test_words(self):
         """Words that are no form, and files that aren't there."""
-        for words in ([], ["l"], ["l", "o"], ["l", "o", ""], ["l", "--all", "s"]):
+        many = [f"s{session}" for session in range(65)]
+        for words in ([], ["l"], ["l", "o"], ["l", "o", ""], ["l", "--all", "s"], ["l", "o", *many]):
             self.words = words
             self.expect(str(words), NO_FORM, "usage: gate report LIMITS OUT SESSION...")
         for gone in ("journal.csv", "s01.venue"):

@@ -10,7 +10,7 @@ from launcher.processes import hand_on
 from launcher.reasons import reasons
 from launcher.say import name, put, say
 from launcher.usage import HELP, USAGE, version
-from launcher.words import read_run
+from launcher.words import SESSIONS, read_run
 
 DONE, NO_PROGRAM, MALFORMED, UNREAD = 0, 1, 2, 5
 
@@ -19,7 +19,7 @@ def main(top, words):
     """Does what the words ask for; the status of the call."""
     try:
         if {"--help", "-h"}.intersection(words[:2]):
-            return put(HELP.format(top=top), DONE)
+            return put(HELP.format(top=top, sessions=SESSIONS), DONE)
         if words and words[0] == "--version":
             return put(version(top), DONE)
         if words and words[0] == "report":

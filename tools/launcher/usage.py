@@ -13,12 +13,12 @@ usage: gate run LIMITS OUT SESSION...
        gate report LIMITS OUT SESSION...
        gate --help | --version
 
-Reads a limit file and 1 to 32 session files in FIX 4.4, sends each order on or refuses it, and
+Reads a limit file and 1 to {sessions} session files in FIX 4.4, sends each order on or refuses it, and
 writes OUT/s00.venue and OUT/s00.client for the first session, s01 for the second and so on, and
-OUT/journal.csv. OUT is made where it isn't there. The program is proved and built first, where that
-has to be.
+OUT/journal.csv. OUT is made where it isn't there. In a run of more than 32 sessions a quota above
+100,000 counts as 100,000. The program is proved and built first, where that has to be.
 
-`make` makes a load from a NUMBER below 4,294,967,296, of 1 to 32 SESSIONS with 1 to 10,000 ORDERS
+`make` makes a load from a NUMBER below 4,294,967,296, of 1 to {sessions} SESSIONS with 1 to 10,000 ORDERS
 each, and runs it in memory: it reads no file, and writes the outputs into the folder load. Then it
 compares what every session read with a walk along each tree's history, and tells what it found. It
 ends with 0, 1, 2, 6 or 8 alone.

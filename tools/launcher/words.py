@@ -5,7 +5,7 @@ import re
 from launcher.files import first_pair, identity
 from launcher.say import counted, listed, name
 
-SESSIONS = 32
+SESSIONS = 64
 
 
 class Run:

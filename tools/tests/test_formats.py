@@ -4,6 +4,7 @@ import unittest
 
 from launcher.limit_file import KINDS, MODES
 from launcher.usage import HELP
+from launcher.words import SESSIONS
 from tests.sources import sources, text, uses
 
 # An arm of a match over refusals, and what it answers.
@@ -69,6 +70,30 @@ class Formats(unittest.TestCase):
             self.assertEqual(prices == "prices", kind == "`symbol`")
             self.assertEqual(size, "1 to 1,000,000,000" if kind == "`symbol`" else "empty")
         self.assertEqual(told, KINDS)
+
+
+    def test_the_numbers_are_those_that_words_and_trees_are_built_for(self):
+        built = {
+            name: int(value.replace("_", ""))
+            for name, value in re.findall(
+                r"^pub const (\w+): \w+ = ([\d_]+);", text("crates/fold_law/src/limits.rt"), re.M
+            )
+        }
+        self.assertEqual(built["SESSIONS"], SESSIONS)
+        for path, told in (
+            ("README.md", f"1 to {SESSIONS} session files"),
+            ("README.md", f"| sessions in a run | {SESSIONS} |"),
+            ("README.md", f"in one tree | {built['LEAF']:,} currency units |"),
+            ("docs/FORMATS.md", f"1 to {SESSIONS} session files"),
+            ("docs/FORMATS.md", f"from 1 to {SESSIONS} and from 1 to 10,000"),
+            ("docs/FORMATS.md", f"its value is above {built['LEAF']:,} |"),
+            ("docs/GLOSSARY.md", f"a stamp of {built['STAMPS'].bit_length() - 1} bits and a value of "
+             f"{built['VALUES'].bit_length() - 1} |"),
+            ("report/__main__.py", f"SESSIONS_MOST = {SESSIONS}\n"),
+            ("bench/model/book.py", f"LEAF_MOST = {built['LEAF']:_}\n"),
+        ):
+            with self.subTest(path, told=told):
+                self.assertIn(told, text(path))
 
 
 def matched(function, value):

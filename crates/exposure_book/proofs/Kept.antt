@@ -16,7 +16,7 @@ use Rattle.exposure_book.specs.declared.answer.Proposal.{Proposal}
 use Rattle.exposure_book.specs.declared.answer.Terms3.{Terms3}
 use Rattle.exposure_book.specs.declared.pair_sums.PairSums.{PairSums}
 use Rattle.exposure_book.specs.declared.pair_table.TreeSums.{TreeSums}
-use Rattle.exposure_book.specs.Orders.{exposure_of, left_of, is_buy}
+use Rattle.exposure_book.specs.Orders.{worth_of, left_of, is_buy}
 use Rattle.exposure_book.specs.Pairs.{is_of, pair_of, plus, minus, Has, all_of, exposure_of_pair}
 use Rattle.exposure_book.specs.Pairs.{no_sums}
 use Rattle.exposure_book.specs.PairTables.{TableValue, pair_at, exposure_at, in_firm, in_account}
@@ -258,8 +258,8 @@ module _ (orders : List Order) (table : TableValue) (has : HasPairs orders table
         (record { in_accounts = next_placed.account; in_symbols = next_placed.symbol }))
 
     -- the sums of the pair are no more than what all orders count for
-    changed_fits : (more : ℕ) → exposure_of next ≤ exposure_of old + more
-        → all_of changed_pair ≤ sum_by exposure_of orders + more
+    changed_fits : (more : ℕ) → worth_of next ≤ worth_of old + more
+        → all_of changed_pair ≤ sum_by worth_of orders + more
     changed_fits more less =
         let all = all_of-le-sum next.account next.symbol (set orders place next) in
         let here = has_set.pairs next.account next.symbol next_placed.account next_placed.symbol in
@@ -331,13 +331,13 @@ kept_none nets symbols table is =
 module _ (orders : List Order) (ids : List (List ℕ × ℕ)) (table : TableValue)
     (kept : AreKept orders ids table) where
   -- what all orders count for is far below what 128 bits hold
-  pub orders_fit : sum_by exposure_of orders + most_left < 2 ^ 119
+  pub orders_fit : sum_by worth_of orders + most_left < 2 ^ 119
   orders_fit = let held = kept.held in let few = kept.few in omega (arith, held, few)
 
   pub order_fits : (place : ℕ) (o : Order) → slice_get orders place ≡ Some o
-      → exposure_of o < 2 ^ 120
+      → worth_of o < 2 ^ 120
   order_fits place o found =
-      let part = part-le-sum exposure_of orders place o found in
+      let part = part-le-sum worth_of orders place o found in
       let all = orders_fit in
       omega (arith, part, all)
 
@@ -349,7 +349,7 @@ module _ (orders : List Order) (ids : List (List ℕ × ℕ)) (table : TableValu
   module _ (place : ℕ) (old next : Order) (found : slice_get orders place ≡ Some old)
       (same_account : next.account ≡ old.account) (same_symbol : next.symbol ≡ old.symbol)
       (side : next.side ≡ old.side) (more : ℕ) (small : more ≤ most_left)
-      (less : exposure_of next ≤ exposure_of old + more)
+      (less : worth_of next ≤ worth_of old + more)
       (capped_after : firm_sum (book_of table (set orders place next) ids) ≤ most_exposure) where
     pub set_fits : all_of (changed_pair orders table kept.has place old next found same_account
         same_symbol side) < 2 ^ 120
@@ -359,9 +359,9 @@ module _ (orders : List Order) (ids : List (List ℕ × ℕ)) (table : TableValu
         let fit = orders_fit in
         omega (arith, all, fit, small)
 
-    pub next_fits : exposure_of next < 2 ^ 124
+    pub next_fits : worth_of next < 2 ^ 124
     next_fits =
-        let part = part-le-sum exposure_of orders place old found in
+        let part = part-le-sum worth_of orders place old found in
         let fit = orders_fit in
         omega (arith, part, fit, small, less)
 
@@ -396,7 +396,7 @@ module _ (orders : List Order) (ids : List (List ℕ × ℕ)) (table : TableValu
           let held = kept.held in
           let many : length (ids ++ (id, place) ∷ []) ≡ length ids + 1 =
           length-append ids ((id, place) ∷ []) in
-          subst (λ n. sum_by exposure_of (set orders place next) ≤ most_left * n) (sym many)
+          subst (λ n. sum_by worth_of (set orders place next) ≤ most_left * n) (sym many)
           (omega (arith, sum, held, small));
       few = few;
       named = rw length-set
@@ -413,13 +413,13 @@ module _ (orders : List Order) (ids : List (List ℕ × ℕ)) (table : TableValu
         left-push (book_of table orders ids) o unfilled placed.account placed.symbol firm_capped
         capped_after
 
-    sum_more : sum_by exposure_of (orders ++ o ∷ []) ≤ sum_by exposure_of orders + most_left
+    sum_more : sum_by worth_of (orders ++ o ∷ []) ≤ sum_by worth_of orders + most_left
     sum_more =
-        let push = sum_by_push exposure_of orders o in
+        let push = sum_by_push worth_of orders o in
         let left = small_left in
         omega (arith, push, left, unfilled)
 
-    pub push_next_fits : exposure_of o < 2 ^ 120
+    pub push_next_fits : worth_of o < 2 ^ 120
     push_next_fits = let left = small_left in omega (arith, left, unfilled)
 
     pub push_fits : all_of (plus o (pair_at table o.account o.symbol)) < 2 ^ 120
@@ -452,7 +452,7 @@ module _ (orders : List Order) (ids : List (List ℕ × ℕ)) (table : TableValu
           let held = kept.held in
           let many : length (ids ++ (id, length orders) ∷ []) ≡ length ids + 1 =
           length-append ids ((id, length orders) ∷ []) in
-          subst (λ n. sum_by exposure_of (orders ++ o ∷ []) ≤ most_left * n) (sym many)
+          subst (λ n. sum_by worth_of (orders ++ o ∷ []) ≤ most_left * n) (sym many)
           (omega (arith, sum, held));
       few = few;
       named =

@@ -10,7 +10,7 @@ use Rattle.fix_orders.specs.declared.message.Report.{Report}
 use Rattle.fix_orders.specs.declared.message.CancelReject.{CancelReject}
 use Rattle.exposure_book.specs.declared.order.Order.{Order}
 use Rattle.exposure_book.specs.declared.pair_sums.PairSums.{PairSums}
-use Rattle.exposure_book.specs.Orders.{exposure_of, left_of, is_buy, Lowers}
+use Rattle.exposure_book.specs.Orders.{worth_of, left_of, is_buy, Lowers}
 use Rattle.exposure_book.specs.Pairs.{is_of, pair_of, exposure_of_pair}
 use Rattle.exposure_book.specs.Books.{BookValue, units_up, firm_sum, is_net, pair_exposure}
 use Rattle.exposure_book.specs.Books.{with_orders, proposal_of}
@@ -82,13 +82,13 @@ module _ (book : BookValue) (place : ℕ) (old next : Order)
   pub pair-set_le : Lowers old next → (a s : ℕ) → pair_exposure changed a s ≤ pair_exposure book a s
   pair-set_le lowers a s =
       exposure-set_le book.orders place old next found account symbol side (is_net book.nets a) a s
-      lowers.filled lowers.exposure
+      lowers.filled lowers.worth
 
   -- that counts for no less
   pub pair-set_ge : Lowers next old → (a s : ℕ) → pair_exposure book a s ≤ pair_exposure changed a s
   pair-set_ge lowers a s =
       exposure-set_ge book.orders place old next found account symbol side (is_net book.nets a) a s
-      lowers.filled lowers.exposure
+      lowers.filled lowers.worth
 
   -- another pair
   pub pair-set_other : (a s : ℕ) → (a ≡ next.account → s ≡ next.symbol → ⊥)
@@ -176,11 +176,11 @@ module _ (book : BookValue) (o : Order) where
 
 -- what all orders count for, with one in place of another
 pub sum-changed : (orders : List Order) (place : ℕ) (old next : Order) (more : ℕ)
-    → slice_get orders place ≡ Some old → exposure_of next ≤ exposure_of old + more
-    → sum_by exposure_of (set orders place next) ≤ sum_by exposure_of orders + more
+    → slice_get orders place ≡ Some old → worth_of next ≤ worth_of old + more
+    → sum_by worth_of (set orders place next) ≤ sum_by worth_of orders + more
 sum-changed orders place old next more found less =
-    let changed = sum-set exposure_of orders place old found next in
-    let part = part-le-sum exposure_of orders place old found in
+    let changed = sum-set worth_of orders place old found next in
+    let part = part-le-sum worth_of orders place old found in
     omega (arith, changed, part, less)
 
 -- where a leaf can hold the sum, it can hold it after

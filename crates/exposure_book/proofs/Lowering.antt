@@ -10,7 +10,7 @@ use Rattle.exposure_book.specs.declared.order.Order.{Order}
 use Rattle.exposure_book.specs.declared.pending.Pending.{Pending}
 use Rattle.exposure_book.specs.declared.pending.Pending.TheVariants as pending
 use Rattle.exposure_book.specs.Pendings.{is_same_id, pending_total, pending_price, has_id_pending}
-use Rattle.exposure_book.specs.Orders.{Lowers, open_total, leaves_of, reserve_of, exposure_of}
+use Rattle.exposure_book.specs.Orders.{Lowers, open_total, leaves_of, reserve_of, worth_of}
 use Rattle.exposure_book.specs.Reports.{ended_order, without_pending, without_request}
 use Rattle.exposure_book.specs.Reports.{rejected_order, replaced_by, traded_order, is_covered}
 use Rattle.exposure_book.specs.Reports.{order_after}
@@ -22,7 +22,7 @@ lowers_itself o = record {
   symbol = refl;
   side = refl;
   filled = omega arith;
-  exposure = omega arith;
+  worth = omega arith;
 }
 
 -- leaves by a total, a quantity filled and whether the order has ended
@@ -46,7 +46,7 @@ lowers_ended o = record {
   symbol = refl;
   side = refl;
   filled = omega arith;
-  exposure = counts_less o.notional 0 (leaves_of o) (max o.price 0) (reserve_of o) (omega arith)
+  worth = counts_less o.notional 0 (leaves_of o) (max o.price 0) (reserve_of o) (omega arith)
       (omega arith);
 }
 
@@ -56,7 +56,7 @@ lowers_without_pending o = record {
   symbol = refl;
   side = refl;
   filled = omega arith;
-  exposure = counts_less o.notional (leaves_by o.ended (max o.total 0) o.filled) (leaves_of o)
+  worth = counts_less o.notional (leaves_by o.ended (max o.total 0) o.filled) (leaves_of o)
       (max o.price 0) (reserve_of o)
       (leaves_by-le o.ended (max o.total 0) (open_total o) o.filled (omega arith)) (omega arith);
 }
@@ -64,7 +64,7 @@ lowers_without_pending o = record {
 -- with the terms of a replace that was pending on it, an order counts for no more
 replaced_counts_less : (o : Order) (total price : ℕ) → pending_total o.pending ≡ total
     → pending_price o.pending ≡ price
-    → o.notional + leaves_by o.ended (max total 0) o.filled * max price 0 ≤ exposure_of o
+    → o.notional + leaves_by o.ended (max total 0) o.filled * max price 0 ≤ worth_of o
 replaced_counts_less o total price of_total of_price =
     counts_less o.notional (leaves_by o.ended (max total 0) o.filled) (leaves_of o)
     (max price 0) (reserve_of o)
@@ -80,7 +80,7 @@ replaced_if o own total price of_total of_price true = record {
   symbol = refl;
   side = refl;
   filled = omega arith;
-  exposure = replaced_counts_less o total price of_total of_price;
+  worth = replaced_counts_less o total price of_total of_price;
 }
 replaced_if o own total price of_total of_price false = lowers_itself o
 
@@ -131,7 +131,7 @@ lowers_traded o quantity price few cheap = record {
   symbol = refl;
   side = refl;
   filled = omega arith;
-  exposure = fill_counts_less o.notional quantity price
+  worth = fill_counts_less o.notional quantity price
       (leaves_by o.ended (open_total o) (o.filled + quantity)) (leaves_of o) (reserve_of o)
       (leaves_by-fill o.ended (open_total o) o.filled quantity few) cheap;
 }
@@ -164,7 +164,7 @@ lowers_with_cancel o id = record {
   symbol = refl;
   side = refl;
   filled = omega arith;
-  exposure = counts_less o.notional (leaves_by o.ended (max o.total 0) o.filled) (leaves_of o)
+  worth = counts_less o.notional (leaves_by o.ended (max o.total 0) o.filled) (leaves_of o)
       (max o.price 0) (reserve_of o)
       (leaves_by-le o.ended (max o.total 0) (open_total o) o.filled (omega arith)) (omega arith);
 }

@@ -5,7 +5,7 @@ use Rattle.std.specs.Prelude.{◌==◌, ◌&&◌}
 use Rattle.std.proofs.lemmas.List.Sums.{sum_by_push, sum_by-cons}
 use Rattle.exposure_book.specs.declared.order.Order.{Order}
 use Rattle.exposure_book.specs.declared.pair_sums.PairSums.{PairSums}
-use Rattle.exposure_book.specs.Orders.{left_of, exposure_of, is_buy, Lowers}
+use Rattle.exposure_book.specs.Orders.{left_of, worth_of, is_buy, Lowers}
 use Rattle.exposure_book.specs.Pairs.{is_of, of_buy, of_sell, pair_of, all_of, exposure_of_pair}
 use Rattle.exposure_book.specs.Pairs.{plus, minus, no_sums, Has}
 use Rattle.exposure_book.proofs.Sums.{part-le-sum, sum-set}
@@ -168,7 +168,7 @@ sells_lower false b s l r s' r' n k m j filled left more less = omega arith
 -- a pair with one of its orders replaced by one that counts for no more
 replaced_lowers : (net : Bool) (pair : PairSums) (old new : Order) (buys : Bool) → is_buy old ≡ buys
     → is_buy new ≡ buys → Has old pair → old.notional ≤ new.notional
-    → exposure_of new ≤ exposure_of old
+    → worth_of new ≤ worth_of old
     → exposure_of_pair net (plus new (minus old pair)) ≤ exposure_of_pair net pair
 replaced_lowers net pair old new true was is has filled less =
     let within = rw was at has in
@@ -186,7 +186,7 @@ replaced_lowers net pair old new false was is has filled less =
 -- a pair with one of its orders replaced by one that counts for no less
 replaced_raises : (net : Bool) (pair : PairSums) (old new : Order) (buys : Bool) → is_buy old ≡ buys
     → is_buy new ≡ buys → Has old pair → new.notional ≤ old.notional
-    → exposure_of old ≤ exposure_of new
+    → worth_of old ≤ worth_of new
     → exposure_of_pair net pair ≤ exposure_of_pair net (plus new (minus old pair))
 replaced_raises net pair old new true was is has filled less =
     let within = rw was at has in
@@ -216,7 +216,7 @@ module _ (orders : List Order) (place : ℕ) (old new : Order)
   same_side = ap (λ x. x == 49) side
 
   lowers_by : (own : Bool) → is_of a s old ≡ own → old.notional ≤ new.notional
-      → exposure_of new ≤ exposure_of old
+      → worth_of new ≤ worth_of old
       → exposure_of_pair net (pair_of a s (set orders place new))
       ≤ exposure_of_pair net (pair_of a s orders)
   lowers_by true own filled less =
@@ -231,7 +231,7 @@ module _ (orders : List Order) (place : ℕ) (old new : Order)
       (sym (pair_of-set_other orders place old new found a s other same)) (omega arith)
 
   raises_by : (own : Bool) → is_of a s old ≡ own → new.notional ≤ old.notional
-      → exposure_of old ≤ exposure_of new
+      → worth_of old ≤ worth_of new
       → exposure_of_pair net (pair_of a s orders)
       ≤ exposure_of_pair net (pair_of a s (set orders place new))
   raises_by true own filled less =
@@ -246,13 +246,13 @@ module _ (orders : List Order) (place : ℕ) (old new : Order)
       (sym (pair_of-set_other orders place old new found a s other same)) (omega arith)
 
   -- that counts for no more
-  pub exposure-set_le : old.notional ≤ new.notional → exposure_of new ≤ exposure_of old
+  pub exposure-set_le : old.notional ≤ new.notional → worth_of new ≤ worth_of old
       → exposure_of_pair net (pair_of a s (set orders place new))
       ≤ exposure_of_pair net (pair_of a s orders)
   exposure-set_le filled less = lowers_by (is_of a s old) refl filled less
 
   -- that counts for no less
-  pub exposure-set_ge : new.notional ≤ old.notional → exposure_of old ≤ exposure_of new
+  pub exposure-set_ge : new.notional ≤ old.notional → worth_of old ≤ worth_of new
       → exposure_of_pair net (pair_of a s orders)
       ≤ exposure_of_pair net (pair_of a s (set orders place new))
   exposure-set_ge filled less = raises_by (is_of a s old) refl filled less
@@ -296,10 +296,10 @@ exposure-le-all false pair = omega arith
 
 -- one order more adds no more to a pair than it counts for
 module _ (a s : ℕ) (o : Order) (orders : List Order)
-    (rest : all_of (pair_of a s orders) ≤ sum_by exposure_of orders) where
+    (rest : all_of (pair_of a s orders) ≤ sum_by worth_of orders) where
   add_all : (n m l k : ℕ) → of_buy notional_of a s o ≡ n → of_sell notional_of a s o ≡ m
-      → of_buy left_of a s o ≡ l → of_sell left_of a s o ≡ k → n + m + l + k ≤ exposure_of o
-      → all_of (pair_of a s (o ∷ orders)) ≤ sum_by exposure_of (o ∷ orders)
+      → of_buy left_of a s o ≡ l → of_sell left_of a s o ≡ k → n + m + l + k ≤ worth_of o
+      → all_of (pair_of a s (o ∷ orders)) ≤ sum_by worth_of (o ∷ orders)
   add_all n m l k bought sold to_buy to_sell few =
       omega (
         arith,
@@ -313,11 +313,11 @@ module _ (a s : ℕ) (o : Order) (orders : List Order)
         sum_by-cons (of_sell notional_of a s) o orders,
         sum_by-cons (of_buy left_of a s) o orders,
         sum_by-cons (of_sell left_of a s) o orders,
-        sum_by-cons exposure_of o orders,
+        sum_by-cons worth_of o orders,
       )
 
   add_by : (own : Bool) → is_of a s o ≡ own → (buys : Bool) → is_buy o ≡ buys
-      → all_of (pair_of a s (o ∷ orders)) ≤ sum_by exposure_of (o ∷ orders)
+      → all_of (pair_of a s (o ∷ orders)) ≤ sum_by worth_of (o ∷ orders)
   add_by true own true is =
       let n = buy_adds notional_of a s o own is in
       let l = buy_adds left_of a s o own is in
@@ -333,7 +333,7 @@ module _ (a s : ℕ) (o : Order) (orders : List Order)
 
 -- a pair has no more than all orders count for
 pub all_of-le-sum : (a s : ℕ) (orders : List Order)
-    → all_of (pair_of a s orders) ≤ sum_by exposure_of orders
+    → all_of (pair_of a s orders) ≤ sum_by worth_of orders
 all_of-le-sum a s [] = omega arith
 all_of-le-sum a s (o ∷ orders) =
     add_by a s o orders (all_of-le-sum a s orders) (is_of a s o) refl (is_buy o) refl

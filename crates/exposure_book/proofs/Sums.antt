@@ -6,7 +6,7 @@ use Rattle.std.proofs.Common.{get_or-set_same, get_or-set_other, sum_by, ◌≢�
 use Rattle.std.proofs.lemmas.List.Sums.{sum_by-set, sum_by_push, sum_by-cons, get_or-le-sum_by}
 use Rattle.std.proofs.lemmas.Option.{slice_get_within, slice_get-get_or}
 use Rattle.exposure_book.specs.declared.order.Order.{Order}
-use Rattle.exposure_book.specs.Orders.{exposure_of}
+use Rattle.exposure_book.specs.Orders.{worth_of}
 
 -- the item that `slice_get` finds is the one at its place
 pub item_at : {X : Type 0} (xs : List X) (i : ℕ) (x : X) → slice_get xs i ≡ Some x → get_or xs i x

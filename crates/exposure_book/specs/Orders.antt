@@ -32,9 +32,9 @@ is_closed order = leaves_of order == 0
 abbrev pub left_of : Order → ℕ
 left_of order = leaves_of order * reserve_of order
 
--- exposure in ten-thousandths, exact: what was filled, and the reserve
-abbrev pub exposure_of : Order → ℕ
-exposure_of order = order.notional + left_of order
+-- what an order is worth in ten-thousandths, exact: what was filled, and the reserve
+abbrev pub worth_of : Order → ℕ
+worth_of order = order.notional + left_of order
 
 -- the order is a buy: every other side is a sell
 abbrev pub is_buy : Order → Bool
@@ -47,4 +47,4 @@ pub record Lowers (old new : Order) : Type 0 where
   pub symbol : new.symbol ≡ old.symbol
   pub side : new.side ≡ old.side
   pub filled : old.notional ≤ new.notional
-  pub exposure : exposure_of new ≤ exposure_of old
+  pub worth : worth_of new ≤ worth_of old

@@ -4,7 +4,7 @@ use Rattle.std.specs.Prelude.{slice_get}
 use Rattle.fold_law.specs.declared.limits.TheConstants.{LEAF}
 use Rattle.exposure_book.specs.declared.order.Order.{Order}
 use Rattle.exposure_book.specs.declared.price.TheConstants.{UNIT}
-use Rattle.exposure_book.specs.Orders.{exposure_of}
+use Rattle.exposure_book.specs.Orders.{worth_of}
 use Rattle.exposure_book.specs.Pairs.{pair_of}
 use Rattle.exposure_book.specs.PairTables.{TableValue, pair_at, in_firm, most_exposure}
 use Rattle.exposure_book.specs.Books.{BookValue, firm_sum}
@@ -21,7 +21,7 @@ pub record IsPlaced (accounts symbols : ℕ) (order : Order) : Type 0 where
 
 -- each of so many ids added at most the largest reserve to what all orders count for
 abbrev pub IsHeld : List Order → ℕ → Type 0
-IsHeld orders ids = sum_by exposure_of orders ≤ most_left * ids
+IsHeld orders ids = sum_by worth_of orders ≤ most_left * ids
 
 -- the table is of whole rows and has the sums of each pair, and each order has its account and symbol
 pub record HasPairs (orders : List Order) (table : TableValue) : Type 0 where
@@ -44,7 +44,7 @@ pub record AreKept (orders : List Order) (ids : List (List ℕ × ℕ)) (table :
 pub record IsOrderAt (book : BookValue) (place : ℕ) (order : Order) : Type 0 where
   pub found : slice_get book.orders place ≡ Some order
   pub placed : IsPlaced book.accounts book.symbols order
-  pub fits : exposure_of order < 2 ^ 120
+  pub fits : worth_of order < 2 ^ 120
   pub whole : firm_sum book ≤ most_exposure
 
 -- the order has other terms: it keeps its account, symbol and side, and what was filled

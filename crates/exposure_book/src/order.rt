@@ -1,6 +1,6 @@
 //! One order of a book, and what a report makes of it.
 ghost use Rattle.std.specs.Prelude.{◌≡◌, ◌+◌, ◌^◌, ◌<◌, [], IfSome};
-ghost use Rattle.exposure_book.specs.Orders.{leaves_of, reserve_of, left_of, exposure_of, is_closed};
+ghost use Rattle.exposure_book.specs.Orders.{leaves_of, reserve_of, left_of, worth_of, is_closed};
 ghost use Rattle.exposure_book.specs.Orders.{is_buy, Lowers};
 ghost use Rattle.exposure_book.specs.Reports.{ended_order, without_request, rejected_order};
 ghost use Rattle.exposure_book.specs.Reports.{replaced_by, order_after, is_covered, traded_order};
@@ -78,7 +78,7 @@ impl Order {
 
     /// The order after a report with this id. None where it trades beyond the reserve.
     pub(crate) fn after(&self, id: &Id, exec: Exec) -> Option<Order>
-        requires { exposure_of self.now < 2 ^ 120 }
+        requires { worth_of self.now < 2 ^ 120 }
         ensures value { result ≡ order_after id.now exec self.now }
         ensures lowers { IfSome result (Lowers self.now) }
     {
@@ -160,7 +160,7 @@ impl Order {
 
     /// So much was filled at this price, unless that is beyond the reserve.
     fn traded(&self, quantity: u64, price: u64) -> Option<Order>
-        requires { exposure_of self.now < 2 ^ 120 }
+        requires { worth_of self.now < 2 ^ 120 }
         ensures { result ≡ order_after [] (Exec.Trade quantity price) self.now }
     {
         if quantity > self.leaves() || price > self.reserve() {

@@ -1,6 +1,6 @@
 //! What the orders of an account in a symbol come to.
 ghost use Rattle.std.specs.Prelude.{◌≡◌, ◌+◌, ◌≤◌, ◌<◌, ◌^◌};
-ghost use Rattle.exposure_book.specs.Orders.{exposure_of};
+ghost use Rattle.exposure_book.specs.Orders.{worth_of};
 ghost use Rattle.exposure_book.specs.Pairs.{all_of, exposure_of_pair, no_sums, plus, minus, Has};
 
 use crate::order::Order;
@@ -51,7 +51,7 @@ impl PairSums {
 
     /// The sums with one order more.
     pub fn with(&self, order: &Order) -> PairSums
-        requires { all_of self.now + exposure_of order.now < 2 ^ 127 }
+        requires { all_of self.now + worth_of order.now < 2 ^ 127 }
         ensures { result ≡ plus order.now self.now }
     {
         if order.is_buy() {

@@ -1,6 +1,6 @@
 //! The sums of each pair of an account and a symbol, and running totals of the trees beside them.
 ghost use Rattle.std.specs.Prelude.{◌≡◌, ◌+◌, ◌-◌, ◌*◌, ◌≤◌, ◌<◌, ◌^◌, length, IfOk, replicate};
-ghost use Rattle.exposure_book.specs.Orders.{exposure_of};
+ghost use Rattle.exposure_book.specs.Orders.{worth_of};
 ghost use Rattle.exposure_book.specs.Pairs.{all_of, no_sums, plus, minus, Has};
 ghost use Rattle.exposure_book.specs.PairTables.{pair_at, sums_at, with_pair, in_firm, IsPair};
 ghost use Rattle.exposure_book.specs.PairTables.{IsPartOf, most_exposure};
@@ -171,7 +171,7 @@ impl PairTable {
     pub fn changed(&self, old: &Order, next: &Order) -> PairSums
         requires pair { IsPair self.now next.now.account next.now.symbol }
         requires has { Has old.now (pair_at self.now next.now.account next.now.symbol) }
-        requires fits { exposure_of next.now < 2 ^ 124 }
+        requires fits { worth_of next.now < 2 ^ 124 }
         ensures value { result ≡ plus next.now (minus old.now
             (pair_at self.now next.now.account next.now.symbol)) }
         ensures fits { all_of result < 2 ^ 126 }
@@ -183,7 +183,7 @@ impl PairTable {
     pub fn change(&mut self, old: &Order, next: &Order)
         requires pair { IsPair self.old next.now.account next.now.symbol }
         requires has { Has old.now (pair_at self.old next.now.account next.now.symbol) }
-        requires next { exposure_of next.now < 2 ^ 124 }
+        requires next { worth_of next.now < 2 ^ 124 }
         requires fits { all_of (plus next.now (minus old.now
             (pair_at self.old next.now.account next.now.symbol))) < 2 ^ 120 }
         requires capped { in_firm (with_pair next.now.account next.now.symbol (plus next.now

@@ -368,12 +368,12 @@ pub(crate) const SEQUENCES: [(&str, &[(Step, Want)]); 41] = [
     (
         "the most that a leaf holds",
         &[
-            (Buy(b"a1", 1000000000, 343597), All(34359700000)),
-            (Buy(b"a2", 38367, 10000), All(34359738367)),
+            (Buy(b"a1", 1000000000, 42949), All(4294900000)),
+            (Buy(b"a2", 67295, 10000), All(4294967295)),
             (Buy(b"a3", 1, 1), Refused(BookFault::Cap)),
-            (Replace(b"b1", b"a2", 38368, 10000), Refused(BookFault::Cap)),
-            (Report(b"a2", Exec::Canceled), All(34359700000)),
-            (Buy(b"a3", 1, 1), All(34359700001)),
+            (Replace(b"b1", b"a2", 67296, 10000), Refused(BookFault::Cap)),
+            (Report(b"a2", Exec::Canceled), All(4294900000)),
+            (Buy(b"a3", 1, 1), All(4294900001)),
         ],
     ),
     (

@@ -19,7 +19,8 @@ use Rattle.gate_program.specs.declared.names.Outputs.{Outputs}
 use Rattle.gate_program.specs.declared.status.Status.{Status}
 use Rattle.gate_program.specs.declared.status.Status.TheVariants as status
 use Rattle.gate_program.specs.CommandOf.{IsAsked}
-use Rattle.gate_program.specs.Loads.{LoadWent, counts_of, input_of, load_folder, load_run}
+use Rattle.gate_program.specs.Loads.{HasLoadLimits, LoadWent, counts_of, input_of, load_folder}
+use Rattle.gate_program.specs.Loads.{load_run}
 use Rattle.gate_program.specs.Names.{AreNames}
 use Rattle.gate_program.specs.Finish.{HasEnded}
 use Rattle.gate_program.specs.Objects.{ObjectsValue, HasCreated}
@@ -251,7 +252,7 @@ pub run_went : {S : Type 0} (faults : S → ℕ) → ((s : S) → faults s ≡ 0
     → length objects ≡ asked.sessions
     → ((session : ℕ) (own : ObjectsValue) → slice_get objects session ≡ Some own
     → own.left ≡ Some (input_of asked session))
-    → IsLimitFile limit_text limits → AdmissionLaws
+    → HasLoadLimits asked.sessions limits → AdmissionLaws
     → (status ≡ 8) ⊎ HasEnded faults (told_of what limits) limits sets run (silent t1 r1 w1)
     (silent t2 r2 w2) objects text status
     → (status ≡ 8) ⊎ LoadWent asked (shown t0 r0 w0 []) (shown t2 r2 w2 text) status

@@ -9,9 +9,8 @@ use Rattle.fix_fields.specs.Found.{Splits}
 use Rattle.fix_fields.specs.declared.frame.Found.TheVariants as found
 use Rattle.gate_ports.specs.Faults.{Rose}
 use Rattle.gate_ports.specs.Names.{Texts}
-use Rattle.limit_table.specs.Files.{IsLimitFile}
 use Rattle.limit_table.specs.declared.limits.Limits.{Limits}
-use Rattle.make_load.specs.Loads.{limit_text, session_text}
+use Rattle.make_load.specs.Loads.{session_text}
 use Rattle.make_load.specs.declared.summary.Asked.{Asked}
 use Rattle.risk_journal.specs.declared.acts.Act.{Act}
 use Rattle.risk_journal.specs.declared.acts.End.{End}
@@ -22,7 +21,8 @@ use Rattle.session_engine.specs.Session.{armed_for}
 use Rattle.gate_program.specs.declared.told.Told.TheVariants as told
 use Rattle.gate_program.specs.CommandOf.{IsAsked}
 use Rattle.gate_program.specs.Finish.{HasEnded}
-use Rattle.gate_program.specs.Loads.{HasMade, LoadWent, counts_of, input_of, load_run}
+use Rattle.gate_program.specs.Loads.{HasLoadLimits, HasMade, LoadWent, counts_of, input_of}
+use Rattle.gate_program.specs.Loads.{load_run}
 use Rattle.gate_program.specs.Objects.{ObjectsValue, HasCreated, HasDone}
 use Rattle.gate_program.specs.Run.{EndHolds, is_cut_short, is_memory, is_read_fault}
 use Rattle.gate_program.specs.Run.{set_of}
@@ -197,7 +197,7 @@ module _ {S : Type 0} (faults : S → ℕ) (none : (s : S) → faults s ≡ 0) (
       limits sets t0 r0 w0 t1 r1 w1 t2 r2 w2 objects text status created ended session one.own
       one.now acts end one.is_own one.is_now one.done))
 
-  has_made : IsLimitFile limit_text limits → AdmissionLaws → list_any is_memory ended.ends ≡ false
+  has_made : HasLoadLimits asked.sessions limits → AdmissionLaws → list_any is_memory ended.ends ≡ false
       → length (load_run asked).sessions ≡ asked.sessions
       → HasMade asked (shown t0 r0 w0 []) (shown t2 r2 w2 text) status
   has_made limits_are laws remembered count = record {
@@ -230,7 +230,7 @@ module _ {S : Type 0} (faults : S → ℕ) (none : (s : S) → faults s ≡ 0) (
   }
 
   -- a load whose sessions ended went its way
-  pub load_went : IsLimitFile limit_text limits → AdmissionLaws
+  pub load_went : HasLoadLimits asked.sessions limits → AdmissionLaws
       → length (load_run asked).sessions ≡ asked.sessions
       → (status ≡ 8) ⊎ LoadWent asked (shown t0 r0 w0 []) (shown t2 r2 w2 text) status
   load_went limits_are laws count =

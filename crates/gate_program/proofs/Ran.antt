@@ -24,7 +24,7 @@ use Rattle.gate_program.specs.Words.{output_names}
 use Rattle.gate_program.specs.Run.{PortsValue, ReadRose, WriteRose, OutputRose, EndHolds, is_memory}
 use Rattle.gate_program.specs.Run.{standing_of}
 use Rattle.gate_program.specs.Run.{FollowsText, StopsText, session_name, set_of}
-use Rattle.gate_program.specs.Gate.{HasRun, HasJournal, AreInputs, HasLimits}
+use Rattle.gate_program.specs.Gate.{HasRun, HasJournal, AreInputs, HasCounted}
 use Rattle.gate_program.specs.Totals.{totals_of}
 use Rattle.gate_program.specs.Objects.{ObjectsValue, AreNew, AreFresh, ChangesOutputs, HasDone}
 use Rattle.gate_program.specs.Objects.{HasOpened, HasCreated, venue_of, client_of}
@@ -401,7 +401,7 @@ module _ {S : Type 0} (faults : S → ℕ) (run : RunWords) (limits : Limits)
     (ended : HasEnded faults (totals_of limits) limits sets run (silent t1 r1 w1) (silent t2 r2 w2)
     objects text status) where
   -- what the run did
-  pub has_run : HasLimits t0 run.limits limits → AdmissionLaws
+  pub has_run : HasCounted t0 run.limits (length run.sessions) limits → AdmissionLaws
       → list_any is_memory ended.ends ≡ false
       → HasRun run sets (shown t0 r0 w0 []) (shown t2 r2 w2 text) status
   has_run limits_are laws remembered = record {

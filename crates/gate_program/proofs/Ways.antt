@@ -17,7 +17,7 @@ use Rattle.session_engine.specs.Session.{armed_for}
 use Rattle.gate_program.specs.Words.{RunWords, Command, journal_name}
 use Rattle.gate_program.specs.Run.{PortsValue, EndHolds, StopsText, set_of, is_memory, standing_of}
 use Rattle.gate_program.specs.Commands.{CommandWent}
-use Rattle.gate_program.specs.Gate.{RunWent, SessionsWent, HasJournal, HasLimits}
+use Rattle.gate_program.specs.Gate.{RunWent, SessionsWent, HasCounted, HasJournal, HasLimits}
 use Rattle.gate_program.specs.Gate.{IsTold}
 use Rattle.gate_program.specs.Stages.{Went, HasLimitsFault, HasUnopened}
 use Rattle.gate_program.specs.Objects.{ObjectsValue, HasOpened}
@@ -210,7 +210,8 @@ pub ended_went : {S : Type 0} (faults : S → ℕ) (run : RunWords) (limits : Li
     (t1 : Option Texts) (r1 w1 : List ℕ → ℕ) (t2 : Option Texts) (r2 w2 : List ℕ → ℕ)
     (objects : List ObjectsValue) (text : List ℕ) (n : ℕ)
     → HasOpened run (silent t0 r0 w0) (silent t1 r1 w1) objects
-    → length objects ≡ length run.sessions → HasLimits t0 run.limits limits → AdmissionLaws
+    → length objects ≡ length run.sessions → HasCounted t0 run.limits (length run.sessions) limits
+    → AdmissionLaws
     → (n ≡ 8) ⊎ HasEnded faults (totals_of limits) limits sets run (silent t1 r1 w1) (silent t2 r2 w2) objects text n
     → (n ≡ 8) ⊎ SessionsWent run sets (shown t0 r0 w0 []) (shown t2 r2 w2 text) n
 ended_went faults run limits sets t0 r0 w0 t1 r1 w1 t2 r2 w2 objects text n opened many limits_are laws

@@ -7,6 +7,7 @@ use Rattle.std.specs.Io.KnownBytes.{Appends}
 use Rattle.gate_ports.specs.Faults.{Rose}
 use Rattle.gate_ports.specs.Bytes.{AppendsFront}
 use Rattle.gate_ports.specs.Names.{Texts}
+use Rattle.limit_table.specs.Counted.{counted_for}
 use Rattle.limit_table.specs.Files.{IsFirstFault, IsLimitFile}
 use Rattle.limit_table.specs.declared.fault.LimitFault.{LimitFault}
 use Rattle.risk_board.specs.declared.hand.Line.{Line}
@@ -61,6 +62,13 @@ write_fault_text = codes "write fault" ++ 10 ∷ []
 abbrev pub HasLimits : Option Texts → List ℕ → Limits → Type 0
 HasLimits told name limits =
     IfSome told (λ texts. (text : List ℕ) × (texts name ≡ Some text) × IsLimitFile text limits)
+
+-- The limits with which so many sessions run: those of the name's text, with the quota that counts.
+pub record HasCounted (told : Option Texts) (name : List ℕ) (sessions : ℕ) (limits : Limits) : Type 0
+  where
+    pub file : Limits
+    pub file_is : HasLimits told name file
+    pub counted : limits ≡ counted_for sessions file
 
 -- the name's text is no limit file, for this fault, where the folder tells it
 abbrev pub IsRefused : Option Texts → List ℕ → LimitFault → Type 0
@@ -130,8 +138,9 @@ abbrev pub AreInputs : Option Texts → List (List ℕ) → List (List ℕ) → 
 AreInputs told names inputs =
     IfSome told (λ texts. map texts names ≡ map (λ bytes. Some bytes) inputs)
 
--- The sessions were run: each did, with its own set of these screens, what its end says, all
--- together have one legal history in each tree, and the journal tells it.
+-- The sessions were run, with the limits that count for so many: each did, with its own set of these
+-- screens, what its end says, all together have one legal history in each tree, and the journal tells
+-- it.
 pub record HasRun (run : RunWords) (sets : List (List ScreenValue)) (before after : PortsValue)
     (status : ℕ) : Type 0 where
   pub limits : Limits
@@ -141,7 +150,7 @@ pub record HasRun (run : RunWords) (sets : List (List ScreenValue)) (before afte
   pub lines : List (List Line)
   -- whether the journal could not be written
   pub refused : Bool
-  pub limits_are : HasLimits before.texts run.limits limits
+  pub limits_are : HasCounted before.texts run.limits (length run.sessions) limits
   -- a session that wanted memory gives 8, which stands by itself
   pub remembered : list_any is_memory ends ≡ false
   pub inputs_are : AreInputs before.texts run.sessions inputs

@@ -2,6 +2,7 @@
 use Rattle.std.specs.Prelude.{◌≡◌, ℕ, ◌<◌, List, [], length, map, slice_get, sum_by, codes}
 use Rattle.std.specs.Prelude.{Some, IsSome, Bool, false, ◌⊎◌}
 use Rattle.std.specs.List.{list_any, range_with_len}
+use Rattle.limit_table.specs.Counted.{counted_for}
 use Rattle.limit_table.specs.Files.{IsLimitFile}
 use Rattle.limit_table.specs.declared.limits.Limits.{Limits}
 use Rattle.make_load.specs.Loads.{count_in_load, limit_text, session_text, session_texts}
@@ -50,6 +51,13 @@ counts_of asked = record {
   reads = 0;
 }
 
+-- The limits with which a load of so many sessions runs: those of its limit file, with the quota that
+-- counts.
+pub record HasLoadLimits (sessions : ℕ) (limits : Limits) : Type 0 where
+  pub file : Limits
+  pub file_is : IsLimitFile limit_text file
+  pub counted : limits ≡ counted_for sessions file
+
 -- An output of a session could not be created. No session ran.
 pub record HasRefusedLoadOutput (asked : Asked) (before after : PortsValue) (status : ℕ) : Type 0
   where
@@ -70,7 +78,7 @@ pub record HasMade (asked : Asked) (before after : PortsValue) (status : ℕ) : 
   pub lines : List (List Line)
   -- whether the journal could not be written
   pub refused : Bool
-  pub limits_are : IsLimitFile limit_text limits
+  pub limits_are : HasLoadLimits asked.sessions limits
   -- a session that wanted memory gives 8, which stands by itself
   pub remembered : list_any is_memory ends ≡ false
   pub no_read_fault : list_any is_read_fault ends ≡ false

@@ -7,7 +7,7 @@ ghost use Rattle.gate_program.specs.Commands.{GateRun};
 ghost use Rattle.gate_program.specs.Loads.{LoadWent};
 ghost use Rattle.gate_program.specs.Finish.{HasEnded, HasKept};
 ghost use Rattle.gate_program.specs.Forests.{HaveRun};
-ghost use Rattle.gate_program.specs.Gate.{HasLimits, RunWent, SessionsWent, ports_of};
+ghost use Rattle.gate_program.specs.Gate.{HasCounted, RunWent, SessionsWent, ports_of};
 ghost use Rattle.gate_program.specs.Names.{AreNames};
 ghost use Rattle.gate_program.specs.Objects.{objects_of, EachOwn};
 ghost use Rattle.gate_program.specs.Room.{HasNone, HasSpare};
@@ -180,7 +180,7 @@ pub(crate) fn run_opened<R: Threads + Sync, D: Folder, I: Inputs<D>, G: Gate>(
     }
 }
 
-/// Runs the sessions of a run whose limits were read.
+/// Runs the sessions of a run with the limits that count for it.
 fn run_limited<R: Threads + Sync, D: Folder, G: Gate>(
     rt: &R,
     alloc: Global,
@@ -191,7 +191,8 @@ fn run_limited<R: Threads + Sync, D: Folder, G: Gate>(
     folder: &mut D,
 ) -> Answer
     requires run { IsTrue (is_run (run_value run.now)) }
-    requires limits { HasLimits (D.texts folder.old) run.now.limits.now limits.now }
+    requires limits { HasCounted (D.texts folder.old) run.now.limits.now
+        (length run.now.sessions.now) limits.now }
     requires sets { length screens.items ≡ session_most }
     ensures { (answer_number result ≡ 8) ⊎ SessionsWent (run_value run.now)
         (map (λ set. map (λ b. (Screen-box b).meaning b.value) set.items) screens.items)
@@ -240,7 +241,10 @@ fn run_words<R: Threads + Sync, D: Folder, G: Gate>(
         (answer_number result) }
 {
     match read_limits(alloc, run.limits, folder) {
-        Ok(limits) => run_limited(rt, alloc, run, &limits, gate, screens, folder),
+        Ok(limits) => {
+            let limits = limits.counted_for(run.sessions.len() as u32);
+            run_limited(rt, alloc, run, &limits, gate, screens, folder)
+        }
         Err(status) => Answer::Stopped(status),
     }
 }

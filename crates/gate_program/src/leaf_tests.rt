@@ -4,11 +4,11 @@ use std::test::Fail;
 
 #[test]
 fn names_the_outputs(rt: HostRuntime) -> Result<(), Fail> {
-    let names = names_in(rt.alloc(), "out", 32).ok().ok_or("memory")?;
-    assert_eq!(rt; names.sessions.len(), 32);
+    let names = names_in(rt.alloc(), "out", 64).ok().ok_or("memory")?;
+    assert_eq!(rt; names.sessions.len(), 64);
     assert_eq!(rt; names.sessions[0].venue.as_str(), "out/s00.venue");
     assert_eq!(rt; names.sessions[0].client.as_str(), "out/s00.client");
-    assert_eq!(rt; names.sessions[31].venue.as_str(), "out/s31.venue");
+    assert_eq!(rt; names.sessions[63].venue.as_str(), "out/s63.venue");
     assert_eq!(rt; names.journal.as_str(), "out/journal.csv");
     Ok(())
 }

@@ -21,6 +21,8 @@ mod load;
 mod make;
 #[cfg(test)]
 mod make_tests;
+#[cfg(test)]
+mod many_tests;
 mod names;
 #[cfg(test)]
 mod net_rows;

@@ -1,11 +1,10 @@
 //! A load that is made and run.
 ghost use Rattle.std.specs.Prelude.{◌≡◌, ◌*◌, ◌⊎◌, ◌≤◌, [], length, map, sum_by, codes};
 ghost use Rattle.std.specs.List.{AllByRecursion};
-ghost use Rattle.limit_table.specs.Files.{IsLimitFile};
-ghost use Rattle.make_load.specs.Loads.{limit_text, session_texts};
+ghost use Rattle.make_load.specs.Loads.{session_texts};
 ghost use Rattle.make_load.specs.declared.load.Load.{Load};
 ghost use Rattle.gate_program.specs.CommandOf.{IsAsked};
-ghost use Rattle.gate_program.specs.Loads.{counts_of, LoadWent};
+ghost use Rattle.gate_program.specs.Loads.{counts_of, HasLoadLimits, LoadWent};
 ghost use Rattle.gate_program.specs.Stages.{folder_with};
 ghost use Rattle.gate_program.specs.Statuses.{answer_number, answer_text};
 ghost use Rattle.gate_program.specs.Words.{session_most};
@@ -51,7 +50,7 @@ fn run_load<R: Threads + Sync, D: Folder, G: Gate>(
     folder: &mut D,
 ) -> Answer
     requires asked { IsAsked asked.now }
-    requires limits { IsLimitFile limit_text limits.now }
+    requires limits { HasLoadLimits asked.now.sessions limits.now }
     requires told { told.now ≡ told_as.Summary asked.now (counts_of asked.now) }
     requires files { map (λ own. own.items) files.items
         ≡ session_texts asked.now.number asked.now.sessions asked.now.orders }
@@ -113,16 +112,19 @@ pub(crate) fn make_words<R: Threads + Sync, D: Folder, G: Gate>(
     };
     let told = Told::Summary(*asked, counts);
     match limits_from(alloc, &load.limits) {
-        Ok(limits) => run_load(
-            rt,
-            alloc,
-            asked,
-            &limits,
-            &told,
-            gate,
-            load.sessions,
-            folder,
-        ),
+        Ok(limits) => {
+            let limits = limits.counted_for(asked.sessions);
+            run_load(
+                rt,
+                alloc,
+                asked,
+                &limits,
+                &told,
+                gate,
+                load.sessions,
+                folder,
+            )
+        }
         Err(status) => Answer::Stopped(status),
     }
 }

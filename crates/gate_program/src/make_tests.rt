@@ -47,11 +47,36 @@ tree 12 symbol S7 LEGAL WITHIN LIMITS\n\
 tree 13 halt LEGAL\n\
 status 0\n";
 
+/// What is told of 100 orders of each of 64 sessions, whose counts were worked in the same way.
+const MANY: &[u8] = b"make 7 64 100\n\
+new 6400 cancel 1601 report 9604 bytes 2486519\n\
+reads 25600\n\
+tree 0 firm LEGAL WITHIN LIMITS\n\
+tree 1 account A0 LEGAL WITHIN LIMITS\n\
+tree 2 account A1 LEGAL WITHIN LIMITS\n\
+tree 3 account A2 LEGAL WITHIN LIMITS\n\
+tree 4 account A3 LEGAL WITHIN LIMITS\n\
+tree 5 symbol S0 LEGAL WITHIN LIMITS\n\
+tree 6 symbol S1 LEGAL WITHIN LIMITS\n\
+tree 7 symbol S2 LEGAL WITHIN LIMITS\n\
+tree 8 symbol S3 LEGAL WITHIN LIMITS\n\
+tree 9 symbol S4 LEGAL WITHIN LIMITS\n\
+tree 10 symbol S5 LEGAL WITHIN LIMITS\n\
+tree 11 symbol S6 LEGAL WITHIN LIMITS\n\
+tree 12 symbol S7 LEGAL WITHIN LIMITS\n\
+tree 13 halt LEGAL\n\
+status 0\n";
+
 /// The words of a load, the status and what is told.
-const LOADS: [(&str, [&str; 4], &[u8]); 3] = [
+const LOADS: [(&str, [&str; 4], &[u8]); 4] = [
     ("one order", ["make", "0", "1", "1"], ONE),
     ("a large load", ["make", "7", "8", "2000"], LARGE),
     ("the same again", ["make", "7", "8", "2000"], LARGE),
+    (
+        "a load of the most sessions",
+        ["make", "7", "64", "100"],
+        MANY,
+    ),
 ];
 
 /// Words that ask for no load.
@@ -62,7 +87,7 @@ const MALFORMED: [(&str, &[&str]); 8] = [
     ("a plus", &["make", "+7", "8", "20"]),
     ("a number above a u32", &["make", "4294967296", "8", "20"]),
     ("no session", &["make", "7", "0", "20"]),
-    ("33 sessions", &["make", "7", "33", "20"]),
+    ("65 sessions", &["make", "7", "65", "20"]),
     ("10,001 orders", &["make", "7", "8", "10001"]),
 ];
 

@@ -353,7 +353,7 @@ fn each_session_takes_its_own_screens_and_all_are_dropped(rt: HostRuntime) -> Re
         drops: Arc::try_clone(&drops)?,
     };
     screens[0].push(Box::new(alloc, taken)?)?;
-    screens[31].push(Box::new(alloc, left)?)?;
+    screens[63].push(Box::new(alloc, left)?)?;
     let mut stage = stage_of(alloc, &FIRMS, 65_536)?;
     let status = gate(
         &rt,

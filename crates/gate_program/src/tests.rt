@@ -275,9 +275,9 @@ fn stops_before_a_session(rt: HostRuntime) -> Result<(), Fail> {
 }
 
 #[test]
-fn a_run_has_at_most_32_sessions(rt: HostRuntime) -> Result<(), Fail> {
+fn a_run_has_at_most_64_sessions(rt: HostRuntime) -> Result<(), Fail> {
     let alloc = rt.alloc();
-    for (count, want) in [(32, 5), (33, 2)] {
+    for (count, want) in [(64, 5), (65, 2)] {
         let mut words = words_of(alloc, &["run", "limits", "out"])?;
         for session in 0..count {
             words.push(format!(in alloc; "session{session}")?)?;

@@ -12,3 +12,4 @@ pub mod Ranges
 pub mod FileLimits
 pub mod Value
 pub mod Trees
+pub mod Counted

@@ -8,6 +8,7 @@
 #![tactic(auto)]
 
 mod columns;
+mod counted;
 mod entry;
 mod fault;
 mod kind;
@@ -23,6 +24,7 @@ mod reading;
 mod so_far;
 mod version;
 
+pub use counted::{FEW_SESSIONS, QUOTA_OF_MANY};
 pub use fault::LimitFault;
 pub use kind::{AccountRow, OffRow, SymbolRow};
 pub use limit_law::{held_limits_stand, one_answer_stands};

@@ -342,6 +342,35 @@ fn limits_are_those_of_the_rows(rt: HostRuntime) -> Result<(), Fail> {
     Ok(())
 }
 
+/// A quota in a file, how many sessions run with it, and the quota that counts.
+const COUNTED: [(&[u8], u32, u32); 8] = [
+    (b"200000", 1, 200_000),
+    (b"200000", 32, 200_000),
+    (b"200000", 33, 100_000),
+    (b"200000", 64, 100_000),
+    (b"100001", 32, 100_001),
+    (b"100001", 33, 100_000),
+    (b"100000", 33, 100_000),
+    (b"1", 64, 1),
+];
+
+#[test]
+fn a_quota_counts_by_the_sessions(rt: HostRuntime) -> Result<(), Fail> {
+    for (quota, sessions, counted) in COUNTED {
+        let mut text = Vec::from_slice(rt.alloc(), b"firm,,7,,,\naccount,A,1,,,\nquota,,")?;
+        text.extend_from_slice(quota)?;
+        text.extend_from_slice(b",,,\n")?;
+        let Ok(limits) = read_limits(rt.alloc(), text.as_slice()) else {
+            panic!(rt; "no limits");
+        };
+        let limits = limits.counted_for(sessions);
+        assert_eq!(rt; limits.quota(), counted, "{sessions} sessions");
+        assert_eq!(rt; limits.firm(), 7);
+        assert_eq!(rt; limits.accounts().len(), 1);
+    }
+    Ok(())
+}
+
 #[test]
 fn names_have_places(rt: HostRuntime) -> Result<(), Fail> {
     let text = b"account,\"A,\"\"B\",7,,,\nsymbol, S ,1,1,1,1\nfirm,,1,,,\naccount,#,8,,,\n\

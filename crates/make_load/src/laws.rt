@@ -57,13 +57,13 @@ pub fn worked_draws()
     } }
 
     // The largest number and the last session.
-    ensures last { draws_from (first_state 4294967295 31) ≡ record {
+    ensures last { draws_from (first_state 4294967295 63) ≡ record {
       account = 0;
       symbol = 7;
-      side = 1;
-      quantity = 50;
+      side = 2;
+      quantity = 31;
       price = 87;
       fate = fate.Left;
-      state = 16520827156645948525;
+      state = 17790936818891455373;
     } }
 {}

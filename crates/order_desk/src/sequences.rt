@@ -89,9 +89,9 @@ symbol,ABC,5000,1,20,100000
 ";
 
 /// Limits at what a leaf can hold.
-const HUGE: &[u8] = b"firm,,34359738367,,,
-account,ACC,34359738367,,,
-symbol,XYZ,34359738367,1,999999.9999,1000000000
+const HUGE: &[u8] = b"firm,,4294967295,,,
+account,ACC,4294967295,,,
+symbol,XYZ,4294967295,1,999999.9999,1000000000
 ";
 
 /// The sequences. Another session has halted in the last of them alone.
@@ -442,13 +442,13 @@ pub(crate) const SEQUENCES: [Sequence; 20] = [
         limits: HUGE,
         halted: false,
         turns: &[
-            (Buy(b"a1", 1000000000, 343598), Refused(Cap), 0, All(0)),
-            (Buy(b"a1", 1000000000, 343597), Sent, 7, All(34359700000)),
+            (Buy(b"a1", 1000000000, 42950), Refused(Cap), 0, All(0)),
+            (Buy(b"a1", 1000000000, 42949), Sent, 7, All(4294900000)),
             (
-                Replace(b"b1", b"a1", 1000000000, 343598),
+                Replace(b"b1", b"a1", 1000000000, 42950),
                 Refused(Cap),
                 0,
-                All(34359700000),
+                All(4294900000),
             ),
         ],
     },

@@ -4,6 +4,8 @@ ghost use Rattle.fold_law.specs.declared.limits.TheConstants.{SESSIONS};
 ghost use Rattle.stamp_word.specs.declared.limits.TheConstants.{LEVELS, TREES};
 ghost use Rattle.stamp_word.specs.Places.{IsShape, IsLeast, place_of, leaf_of};
 
+use crate::limits::LEVELS;
+
 /// The levels above the leaves of each tree, and the number of trees. Trees and sessions are
 /// counted from 0, the nodes of a tree from 1; node 0 is no node, and its word is never written.
 #[derive(Clone, Copy, Debug, PartialEq, Eq)]
@@ -73,12 +75,10 @@ fn levels_for(sessions: u32) -> u32
     ensures least { IsLeast sessions result }
     ensures within { result ≤ LEVELS }
 {
-    match sessions {
-        0..=1 => 0,
-        2 => 1,
-        3..=4 => 2,
-        5..=8 => 3,
-        9..=16 => 4,
-        _ => 5,
+    for levels in 0..LEVELS {
+        if sessions <= 1 << levels {
+            return levels;
+        }
     }
+    LEVELS
 }

@@ -186,6 +186,8 @@ fn threads_hold_all_their_calls(rt: HostRuntime) -> Result<(), Fail> {
     assert_eq!(rt; eight, Some((8000, 40)), "eight sessions on one tree");
     let many = run_forest(&rt, rt.alloc(), 8, 13, 50);
     assert_eq!(rt; many, Some((10400, 40)), "eight sessions on 13 trees");
+    let most = run_forest(&rt, rt.alloc(), 64, 1, 50);
+    assert_eq!(rt; most, Some((6400, 320)), "as many sessions as there may be");
     let one = run_forest(&rt, rt.alloc(), 1, 2, 10);
     assert_eq!(rt; one, Some((40, 5)), "one session");
     Ok(())

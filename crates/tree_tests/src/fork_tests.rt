@@ -5,7 +5,7 @@ use std::test::*;
 
 #[test]
 fn gives_each_square_in_its_place(rt: HostRuntime) -> Result<(), Fail> {
-    for count in [0, 1, 2, 5, 32] {
+    for count in [0, 1, 2, 5, 64] {
         let items: Vec<u64> = (0..count).collect(rt.alloc())?;
         let square = |item: u64| item.wrapping_mul(item);
         let Ok(squares) = map_all(&rt, rt.alloc(), items, &square) else {

@@ -6,19 +6,40 @@ use std::test::*;
 fn words_have_worked_numbers(rt: HostRuntime) -> Result<(), Fail> {
     const WORDS: [(&str, u32, u64, u64); 3] = [
         ("nothing", 0, 0, 0),
-        ("the first stamp", 1, 1000, 1_099_511_628_776),
-        (
-            "both at their ends",
-            16_777_215,
-            1_099_511_627_775,
-            u64::MAX,
-        ),
+        ("the first stamp", 1, 1000, 274_877_907_944),
+        ("both at their ends", 67_108_863, 274_877_906_943, u64::MAX),
     ];
     for (name, stamp, value, word) in WORDS {
         assert_eq!(rt; pack(stamp, value), word, "{name}");
         assert_eq!(rt; stamp_of(word), stamp, "{name}");
         assert_eq!(rt; value_of(word), value, "{name}");
         each_word_is_one_pair(word);
+    }
+    Ok(())
+}
+
+#[test]
+fn shapes_have_the_fewest_levels(rt: HostRuntime) -> Result<(), Fail> {
+    const LEVELS: [(u32, u32); 12] = [
+        (1, 0),
+        (2, 1),
+        (3, 2),
+        (4, 2),
+        (5, 3),
+        (8, 3),
+        (9, 4),
+        (16, 4),
+        (17, 5),
+        (32, 5),
+        (33, 6),
+        (64, 6),
+    ];
+    for (sessions, levels) in LEVELS {
+        assert_eq!(rt;
+            Shape::of(sessions, 1).levels,
+            levels,
+            "{sessions} sessions"
+        );
     }
     Ok(())
 }

@@ -4,7 +4,7 @@ use Rattle.std.specs.Cmp.Lexicographic.{pointwise}
 use Rattle.indexmap.specs.IndexMap.{get, spare}
 use Rattle.exposure_book.specs.declared.pair_sums.PairSums.{PairSums}
 use Rattle.exposure_book.specs.Books.{BookInMemory, firm_sum, with_orders, place_of}
-use Rattle.exposure_book.specs.Orders.{exposure_of}
+use Rattle.exposure_book.specs.Orders.{worth_of}
 use Rattle.exposure_book.specs.Pairs.{all_of, plus}
 use Rattle.exposure_book.specs.PairTables.{in_firm, pair_at, with_pair, most_exposure}
 use Rattle.exposure_book.specs.Totals.{IsPlaced}

@@ -6,7 +6,7 @@ use Rattle.std.specs.Cmp.Lexicographic.{pointwise}
 use Rattle.indexmap.specs.IndexMap.{get, spare}
 use Rattle.exposure_book.specs.declared.order.Order.{Order}
 use Rattle.exposure_book.specs.Books.{BookInMemory, firm_sum, with_orders, place_of}
-use Rattle.exposure_book.specs.Orders.{exposure_of, left_of}
+use Rattle.exposure_book.specs.Orders.{worth_of, left_of}
 use Rattle.exposure_book.specs.PairTables.{most_exposure}
 use Rattle.exposure_book.specs.Totals.{most_left}
 use Rattle.exposure_book.proofs.Inserted.{entries-insert}
@@ -20,7 +20,7 @@ itself : most_left ≤ most_left
 itself = omega arith
 
 asked_more : (old next : Order) → next.notional ≡ old.notional → left_of next ≤ most_left
-    → exposure_of next ≤ exposure_of old + most_left
+    → worth_of next ≤ worth_of old + most_left
 asked_more old next filled left = omega (arith, filled, left)
 
 pub change-requires-clause-has : goal.change-requires-clause-has
@@ -51,7 +51,7 @@ change-requires-clause-next c =
     (subst (λ n. n < c.args.self.now.value.accounts) (sym asks.account) placed.account)
     (subst (λ n. n < c.args.self.now.value.symbols) (sym asks.symbol) placed.symbol)
     c.requires.order.whole c.requires.capped in
-    let less : exposure_of c.args.next.now ≤ exposure_of c.args.old.now + most_left =
+    let less : worth_of c.args.next.now ≤ worth_of c.args.old.now + most_left =
     asked_more c.args.old.now c.args.next.now asks.filled left in
     let after : firm_sum (book_of table (set orders c.args.place c.args.next.now) ids) ≤ most_exposure =
     subst (λ (b : BookInMemory).
@@ -76,7 +76,7 @@ change-requires-clause-fits c =
     (subst (λ n. n < c.args.self.now.value.accounts) (sym asks.account) placed.account)
     (subst (λ n. n < c.args.self.now.value.symbols) (sym asks.symbol) placed.symbol)
     c.requires.order.whole c.requires.capped in
-    let less : exposure_of c.args.next.now ≤ exposure_of c.args.old.now + most_left =
+    let less : worth_of c.args.next.now ≤ worth_of c.args.old.now + most_left =
     asked_more c.args.old.now c.args.next.now asks.filled left in
     let after : firm_sum (book_of table (set orders c.args.place c.args.next.now) ids) ≤ most_exposure =
     subst (λ (b : BookInMemory).
@@ -101,7 +101,7 @@ change-requires-clause-capped c =
     (subst (λ n. n < c.args.self.now.value.accounts) (sym asks.account) placed.account)
     (subst (λ n. n < c.args.self.now.value.symbols) (sym asks.symbol) placed.symbol)
     c.requires.order.whole c.requires.capped in
-    let less : exposure_of c.args.next.now ≤ exposure_of c.args.old.now + most_left =
+    let less : worth_of c.args.next.now ≤ worth_of c.args.old.now + most_left =
     asked_more c.args.old.now c.args.next.now asks.filled left in
     let after : firm_sum (book_of table (set orders c.args.place c.args.next.now) ids) ≤ most_exposure =
     subst (λ (b : BookInMemory).
@@ -153,7 +153,7 @@ invariant_of-self c =
     (subst (λ n. n < c.args.self.now.value.accounts) (sym asks.account) placed.account)
     (subst (λ n. n < c.args.self.now.value.symbols) (sym asks.symbol) placed.symbol)
     c.requires.order.whole c.requires.capped in
-    let less : exposure_of c.args.next.now ≤ exposure_of c.args.old.now + most_left =
+    let less : worth_of c.args.next.now ≤ worth_of c.args.old.now + most_left =
     asked_more c.args.old.now c.args.next.now asks.filled left in
     let after : firm_sum (book_of table (set orders c.args.place c.args.next.now) ids) ≤ most_exposure =
     subst (λ (b : BookInMemory).

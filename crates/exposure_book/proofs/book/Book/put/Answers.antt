@@ -1,7 +1,7 @@
 use Rattle.std.proofs.Common.{◌≡◌, ◌≤◌, ◌<◌, ◌+◌, ℕ, Some, refl, slice_get, set, subst, sym, arith, length}
 use Rattle.std.proofs.lemmas.Option.{slice_get_within}
 use Rattle.exposure_book.specs.Books.{BookInMemory, firm_sum}
-use Rattle.exposure_book.specs.Orders.{exposure_of}
+use Rattle.exposure_book.specs.Orders.{worth_of}
 use Rattle.exposure_book.specs.PairTables.{most_exposure}
 use Rattle.exposure_book.specs.Totals.{most_left}
 use Rattle.exposure_book.proofs.Kept.{book_of, firm_capped, pair_has, set_fits, set_capped}
@@ -39,8 +39,8 @@ change-requires-clause-next c =
     let after : firm_sum (book_of table (set orders c.args.place c.args.next.now) ids) ≤ most_exposure =
     lowered_capped (book_of table orders ids) c.args.place c.args.old.now c.args.next.now found low
     (firm_capped orders ids table c.self.invariant) in
-    let less : exposure_of c.args.next.now ≤ exposure_of c.args.old.now + 0 =
-    no_more (exposure_of c.args.next.now) (exposure_of c.args.old.now) low.exposure in
+    let less : worth_of c.args.next.now ≤ worth_of c.args.old.now + 0 =
+    no_more (worth_of c.args.next.now) (worth_of c.args.old.now) low.worth in
     next_fits orders ids table c.self.invariant c.args.place c.args.old.now c.args.next.now found
     low.account low.symbol low.side 0 none_left less after
 
@@ -56,8 +56,8 @@ change-requires-clause-fits c =
     let after : firm_sum (book_of table (set orders c.args.place c.args.next.now) ids) ≤ most_exposure =
     lowered_capped (book_of table orders ids) c.args.place c.args.old.now c.args.next.now found low
     (firm_capped orders ids table c.self.invariant) in
-    let less : exposure_of c.args.next.now ≤ exposure_of c.args.old.now + 0 =
-    no_more (exposure_of c.args.next.now) (exposure_of c.args.old.now) low.exposure in
+    let less : worth_of c.args.next.now ≤ worth_of c.args.old.now + 0 =
+    no_more (worth_of c.args.next.now) (worth_of c.args.old.now) low.worth in
     set_fits orders ids table c.self.invariant c.args.place c.args.old.now c.args.next.now found
     low.account low.symbol low.side 0 none_left less after
 
@@ -73,8 +73,8 @@ change-requires-clause-capped c =
     let after : firm_sum (book_of table (set orders c.args.place c.args.next.now) ids) ≤ most_exposure =
     lowered_capped (book_of table orders ids) c.args.place c.args.old.now c.args.next.now found low
     (firm_capped orders ids table c.self.invariant) in
-    let less : exposure_of c.args.next.now ≤ exposure_of c.args.old.now + 0 =
-    no_more (exposure_of c.args.next.now) (exposure_of c.args.old.now) low.exposure in
+    let less : worth_of c.args.next.now ≤ worth_of c.args.old.now + 0 =
+    no_more (worth_of c.args.next.now) (worth_of c.args.old.now) low.worth in
     set_capped orders ids table c.self.invariant c.args.place c.args.old.now c.args.next.now found
     low.account low.symbol low.side 0 none_left less after
 
@@ -102,7 +102,7 @@ invariant_of-self c =
     let after : firm_sum (book_of table (set orders c.args.place c.args.next.now) ids) ≤ most_exposure =
     lowered_capped (book_of table orders ids) c.args.place c.args.old.now c.args.next.now found low
     (firm_capped orders ids table c.self.invariant) in
-    let less : exposure_of c.args.next.now ≤ exposure_of c.args.old.now + 0 =
-    no_more (exposure_of c.args.next.now) (exposure_of c.args.old.now) low.exposure in
+    let less : worth_of c.args.next.now ≤ worth_of c.args.old.now + 0 =
+    no_more (worth_of c.args.next.now) (worth_of c.args.old.now) low.worth in
     rw c.change.ensures (kept_set orders ids table c.self.invariant c.args.place c.args.old.now c.args.next.now found
     low.account low.symbol low.side 0 none_left less after refl)

@@ -1,0 +1,79 @@
+//! Runs of more than 32 sessions. No clause says that memory isn't wanting.
+use crate::command::gate;
+use crate::rows::{SMALL, no_screens, words_of};
+use gate_ports::{MemFolder, MemSink, OpenGate};
+use std::alloc::Global;
+use std::test::*;
+
+/// What is told of the trees of sessions that did nothing.
+const TREES: &[u8] = b"tree 0 firm - posts 0 root 0 limit 1000\n\
+tree 1 account ACC posts 0 root 0 limit 100000\n\
+tree 2 symbol XYZ posts 0 root 0 limit 100000\n\
+tree 3 halt - posts 0 root 0 limit 0\n\
+status 0\n";
+
+/// Words and files of so many empty sessions, and what their run tells and writes in its journal.
+#[derive(Drop)]
+struct Empties {
+    words: Vec<String>,
+    folder: MemFolder,
+    told: String,
+    journal: String,
+}
+
+/// So many empty sessions.
+fn empty_sessions(alloc: Global, count: u32) -> Result<Empties, Fail> {
+    let mut words = words_of(alloc, &["run", "limits", "out"])?;
+    let mut folder = MemFolder::new(alloc, 65_536);
+    folder.put("limits", Vec::from_slice(alloc, SMALL)?)?;
+    let mut told = String::new(alloc);
+    let mut journal = String::from_str(alloc, "kind,session,a,b,c,d\n")?;
+    for session in 0..count {
+        let name = format!(in alloc; "session{session}")?;
+        folder.put(name.as_str(), Vec::new(alloc))?;
+        words.push(name)?;
+        let line = format!(in alloc; "session {session} whole sent 0 refused 0 noted 0\n")?;
+        told.push_str(line.as_str())?;
+        let row = format!(in alloc; "ended,{session},0,,,\n")?;
+        journal.push_str(row.as_str())?;
+    }
+    Ok(Empties {
+        words,
+        folder,
+        told,
+        journal,
+    })
+}
+
+#[test]
+fn many_empty_sessions_are_whole(rt: HostRuntime) -> Result<(), Fail> {
+    let alloc = rt.alloc();
+    for count in [33, 64] {
+        let Empties {
+            words,
+            mut folder,
+            told,
+            journal,
+        } = empty_sessions(alloc, count)?;
+        let mut out = MemSink::new(alloc, 65_536, Vec::new(alloc));
+        let screens = no_screens(alloc)?;
+        let status = gate(
+            &rt,
+            alloc,
+            &words,
+            &mut folder,
+            &mut out,
+            screens,
+            &OpenGate,
+        );
+        assert_eq!(rt; status, 0, "{count} sessions");
+        let mut wanted = told.into_bytes();
+        wanted.extend_from_slice(TREES)?;
+        assert_eq!(rt; out.bytes(), wanted.as_slice(), "{count} sessions");
+        let written = folder.get("out/journal.csv");
+        assert_eq!(rt; written, Some(journal.as_bytes()), "{count} sessions");
+        let last = format!(in alloc; "out/s{}.client", count - 1)?;
+        assert_eq!(rt; folder.get(last.as_str()), Some(b"".as_slice()), "{last}");
+    }
+    Ok(())
+}
