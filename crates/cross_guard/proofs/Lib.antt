@@ -16,3 +16,5 @@ pub mod Taking
 pub mod TookFrames
 pub mod Stopping
 pub mod SymbolPlaces
+pub mod Answered
+pub mod Readied

@@ -12,3 +12,4 @@ pub mod Passed
 pub mod OrderValues
 pub mod OrderHeads
 pub mod OrderRejects
+pub mod MessageKinds

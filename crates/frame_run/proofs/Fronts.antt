@@ -58,6 +58,18 @@ gives_front Says given held held_after piece none front says =
       says = says (with_piece held piece) would;
     }
 
+-- a piece was given, or a front of it
+pub gives_piece : (given : Type 0) (result : Result (Unit {0}) PortFault)
+    (held held_after : Option (List ℕ)) (piece : List ℕ) → (given → is_ok result ≡ true)
+    → OnOk result (Appends held held_after piece)
+    → OnErr result (AppendsFront held held_after piece)
+    → Gives given held held_after (λ whole. Appends held whole piece)
+gives_piece given (Ok done) held held_after piece is ok err =
+    gives_all (λ whole. Appends held whole piece) given held held_after piece ok ok
+gives_piece given (Err why) held held_after piece is ok err =
+    gives_front (λ whole. Appends held whole piece) given held held_after piece
+    (λ has. false≢true (is has)) err (λ whole appends. appends)
+
 -- what was written was given, or a front of it
 pub gives_written : (given : Type 0) (result : Result (Unit {0}) PortFault)
     (held held_after : Option (List ℕ)) (piece : List ℕ) (writer : Option (List ℕ))
