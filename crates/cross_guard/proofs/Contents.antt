@@ -33,7 +33,7 @@ use Rattle.cross_guard.specs.Session.{after_guarding, after_message, after_order
 use Rattle.cross_guard.specs.Session.{after_reporting, after_result, after_settling, after_verdict, at_place, code_of}
 use Rattle.cross_guard.specs.Session.{guarding, order_refusal, replace_refusal, symbol_place, told}
 use Rattle.cross_guard.specs.Session.{with_value}
-use Rattle.cross_guard.specs.Told.{AsksUnder}
+use Rattle.cross_guard.specs.Told.{Asks}
 use Rattle.cross_guard.specs.Answering.{settled_by}
 use Rattle.cross_guard.proofs.Places.{unknown_same}
 
@@ -193,23 +193,23 @@ module _ (limits : LimitsValue) (text : List ℕ) (session : CrossSession) where
         (why : CrossVerdict)
         (is : (more : List SeenAt) → after_content limits text (Some fields) (with_reads more session)
         ≡ guarded wording tree value orders (with_reads more session))
-        (asks : AsksUnder limits.quota (λ limits. guarding limits tree value) session.acts after why)
+        (asks : Asks (guarding limits tree value) session.acts after why)
         where
       asked_is : (more : List SeenAt)
-          → after_content limits text (Some fields) (with_reads ((asks limits refl).seen ++ more) session)
+          → after_content limits text (Some fields) (with_reads (asks.seen ++ more) session)
           ≡ after_verdict why wording text fields orders (told (tape after more) session)
       asked_is more =
-          is ((asks limits refl).seen ++ more)
+          is (asks.seen ++ more)
           ∙ ap (λ (g : Guarded). after_guarding g wording text fields orders session)
-          ((asks limits refl).asked more)
+          (asks.asked more)
 
       pub content_sent : why ≡ verdict.Sent
           → Content limits text (Some fields) session (after ++ Sent session.frames ∷ []) orders
           (Some text) None
       content_sent sent = record {
-        seen = (asks limits refl).seen;
+        seen = asks.seen;
         reads_are = reads_of-append after (Sent session.frames ∷ []) ∙ append-nil (reads_of after)
-            ∙ (asks limits refl).reads_are;
+            ∙ asks.reads_are;
         content_is = λ more. asked_is more
             ∙ ap (λ v. after_verdict v wording text fields orders (told (tape after more) session)) sent;
       }
@@ -219,9 +219,9 @@ module _ (limits : LimitsValue) (text : List ℕ) (session : CrossSession) where
           (after ++ Refused session.frames (code_of why) 0 0 ∷ []) session.orders None
           (Some (wording (length session.client + 1) fields why))
       content_refused other = record {
-        seen = (asks limits refl).seen;
+        seen = asks.seen;
         reads_are = reads_of-append after (Refused session.frames (code_of why) 0 0 ∷ [])
-            ∙ append-nil (reads_of after) ∙ (asks limits refl).reads_are;
+            ∙ append-nil (reads_of after) ∙ asks.reads_are;
         content_is = λ more. asked_is more ∙ verdict_refuses why other wording orders after more;
       }
 

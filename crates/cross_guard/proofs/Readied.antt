@@ -18,7 +18,7 @@ use Rattle.frame_run.specs.Taking.{StopsNext, TakesNext, TakesNone}
 use Rattle.frame_run.proofs.Stops.{stops_before, stops_within}
 use Rattle.cross_guard.specs.Crossing.{AreOfSymbols, Continues, Crossing, GivesOne, IsReady}
 use Rattle.cross_guard.specs.Crossing.{Kept, StandsAs, StoppedFrames, TakesFrom, TakesFront, TakesOrNone}
-use Rattle.cross_guard.specs.Crossing.{TakesSound, TookFrames, frame_acts, kept_of}
+use Rattle.cross_guard.specs.Crossing.{TakesSound, TookBy, TookFrames, frame_acts, kept_of}
 use Rattle.cross_guard.specs.Lasting.{continues_then, stopped_whole}
 use Rattle.cross_guard.specs.Resting.{RestingValue}
 use Rattle.cross_guard.specs.Session.{CrossSession, after_frame}
@@ -38,7 +38,10 @@ over_still {H} Same before now acts over continues =
     })
 
 module _ {H : Type 0} (Same : H → H → Type 0) (input : List ℕ) (start before : Crossing H)
-    (frames : List FrameValue) (took : TookFrames input start frames before) where
+    (frames : List FrameValue) (took_all : TookFrames input start frames before) where
+  abbrev took : TookBy (λ tree stamp. 0) input start frames before
+  took = took_all (λ tree stamp. 0)
+
   -- each order is of a symbol of the limits
   symbols : AreOfSymbols (length before.limits.symbols) before.orders
   symbols =
@@ -76,22 +79,23 @@ module _ {H : Type 0} (Same : H → H → Type 0) (input : List ℕ) (start befo
       }
 
   -- a session that keeps what it kept, as room is taken, took the same frames
-  pub took_kept : (now : Crossing H) (acts : ℕ) → Continues Same before now acts → kept_of now ≡ kept_of before
-      → TookFrames input start frames now
-  took_kept now acts continues same =
-      let P : Kept → Type 0 = λ k. Appends start.pass.held k.pass (concat took.session.passed) in
-      let C : Kept → Type 0 = λ k. Appends start.client.held k.client (concat took.session.client) in
+  pub took_kept : (now : Crossing H) (acts : ℕ) → Continues Same before now acts
+      → kept_of now ≡ kept_of before → TookFrames input start frames now
+  took_kept now acts continues same = λ place.
+      let own = took_all place in
+      let P : Kept → Type 0 = λ k. Appends start.pass.held k.pass (concat own.session.passed) in
+      let C : Kept → Type 0 = λ k. Appends start.client.held k.client (concat own.session.client) in
       record {
-        session = took.session;
-        reached = took.reached;
-        limits_are = continues.limits_are ∙ took.limits_are;
-        over = over_still Same before now acts took.over continues;
-        stands = subst (λ (k : Kept). StandsAs k took.session) (sym same) took.stands;
-        counted = took.counted;
-        pass_grows = subst P (sym same) took.pass_grows;
-        client_grows = subst C (sym same) took.client_grows;
-        pass_later = omega (arith, took.pass_later, continues.pass_is.faults_are);
-        client_later = omega (arith, took.client_later, continues.client_is.faults_are);
+        session = own.session;
+        reached = own.reached;
+        limits_are = continues.limits_are ∙ own.limits_are;
+        over = over_still Same before now acts own.over continues;
+        stands = subst (λ (k : Kept). StandsAs place k own.session) (sym same) own.stands;
+        counted = own.counted;
+        pass_grows = subst P (sym same) own.pass_grows;
+        client_grows = subst C (sym same) own.client_grows;
+        pass_later = omega (arith, own.pass_later, continues.pass_is.faults_are);
+        client_later = omega (arith, own.client_later, continues.client_is.faults_are);
       }
 
 -- what was given whole leads to what is kept
@@ -145,7 +149,7 @@ module _ {H : Type 0} (Same : H → H → Type 0) (next_same : (a b c : H) → S
   takes_next given failed front is = λ input start frames next frame_is took.
       let kept = took_kept Same input start before frames took reserved 0 room same in
       took_next input start reserved frames kept now next on.limits_are
-      (over_still Same reserved now frame_acts kept.over on) on.pass_is.faults_are
+      (over_still Same reserved now frame_acts (kept (λ tree stamp. 0)).over on) on.pass_is.faults_are
       on.client_is.faults_are
       (steps input next frame_is (kept_of reserved) (kept_of now)
       (whole_step step given failed reserved now front is))
@@ -158,7 +162,7 @@ module _ {H : Type 0} (Same : H → H → Type 0) (next_same : (a b c : H) → S
       stopped_next input start reserved now frames next front.pass front.client given failed kept
       (steps input next frame_is (kept_of reserved)
       (record (kept_of now) { pass = front.pass; client = front.client }) front.taken)
-      on.limits_are (over_still Same reserved now frame_acts kept.over on) front.frames_are
+      on.limits_are (over_still Same reserved now frame_acts (kept (λ tree stamp. 0)).over on) front.frames_are
       on.pass_is.faults_are on.client_is.faults_are why fails front.gives
 
   -- it was taken

@@ -3,7 +3,7 @@ use Rattle.std.proofs.Common.{◌≡◌, ℕ, ◌+◌, ◌≤◌, List, [], ◌�
 use Rattle.std.proofs.Common.{arith, inl, inr}
 use Rattle.std.specs.Prelude.{Option, ◌⊎◌}
 use Rattle.std.specs.List.{concat}
-use Rattle.std.proofs.lemmas.List.{append-nil, length-append, take_at}
+use Rattle.std.proofs.lemmas.List.{append-nil, length-append, map-append, take_at}
 use Rattle.fix_fields.specs.Frames.{FrameValue}
 use Rattle.gate_ports.specs.Faults.{Rose}
 use Rattle.gate_ports.specs.declared.ports.PortFault.{PortFault}
@@ -13,7 +13,7 @@ use Rattle.risk_journal.specs.declared.acts.Act.{Act}
 use Rattle.risk_journal.specs.declared.acts.Act.TheVariants.{Ended}
 use Rattle.risk_journal.specs.declared.acts.End.{End}
 use Rattle.risk_journal.specs.declared.acts.End.TheVariants as ending
-use Rattle.risk_journal.specs.ActLists.{SeenAt, reads_of}
+use Rattle.risk_journal.specs.ActLists.{SeenAt, placed_by, reads_of}
 use Rattle.admit_core.proofs.ActLemmas.{reads_of-append}
 use Rattle.frame_run.specs.Ends.{IsByInput, input_most}
 use Rattle.frame_run.specs.Frames.{text_of}
@@ -22,32 +22,32 @@ use Rattle.frame_run.specs.Sinks.{SinkValue}
 use Rattle.frame_run.specs.Taking.{SplitsTo, StopsBy, TakesSource}
 use Rattle.frame_run.proofs.Appending.{Got, appends_none, got_front, got_whole}
 use Rattle.frame_run.proofs.Fetches.{consumes_none}
-use Rattle.cross_guard.specs.Crossing.{Crossing, GivesOne, Kept, StoppedFrames, Takes, TakesFrom}
-use Rattle.cross_guard.specs.Crossing.{TookFrames, kept_of, with_reads}
+use Rattle.cross_guard.specs.Crossing.{Crossing, GivesOne, StoppedBy, StoppedFrames, Takes, TakesFrom}
+use Rattle.cross_guard.specs.Crossing.{TookBy, TookFrames, kept_of, with_reads}
 use Rattle.cross_guard.specs.Follows.{DoesNothing, FailsLast, Follows, HasGiven, StopsBehind}
 use Rattle.cross_guard.specs.Follows.{StopsSource, session_of, session_with}
 use Rattle.cross_guard.specs.Lasting.{session_by}
 use Rattle.cross_guard.specs.Session.{CrossSession, after_frame}
-use Rattle.cross_guard.specs.Told.{IsOver}
-use Rattle.cross_guard.proofs.TookFrames.{covers_frames, does_frames, follows_source, took_next}
+use Rattle.cross_guard.specs.Told.{IsOver, Placing, with_places}
+use Rattle.cross_guard.proofs.TookFrames.{covers_frames, does_frames, follows_source, took_by}
 
 -- a count that rose from a later one rose
 rose_later : (a b c : ℕ) → a ≤ b → Rose b c → Rose a c
 rose_later a b c later rose = omega (arith, later, rose)
 
 -- a frame more was taken, but for the end of its message
-module _ {H : Type 0} (input : List ℕ) (start now next : Crossing H) (frames : List FrameValue)
-    (frame : FrameValue) (pass client : Option (List ℕ)) (given failed : Type 0)
-    (took : TookFrames input start frames now)
+module _ {H : Type 0} (place : Placing) (input : List ℕ) (start now next : Crossing H)
+    (frames : List FrameValue) (frame : FrameValue) (pass client : Option (List ℕ))
+    (given failed : Type 0) (took : TookBy place input start frames now)
     (takes : TakesFrom (after_frame now.limits (text_of input frame) frame.fields) (kept_of now)
     (record (kept_of next) { pass = pass; client = client }))
     (limits_are : next.limits ≡ now.limits) (over : IsOver next.limits next.told)
     (frames_are : next.frames ≡ now.frames + 1) (pass_later : now.pass.faults ≤ next.pass.faults)
     (client_later : now.client.faults ≤ next.client.faults) where
   abbrev step : (then : CrossSession)
-      × Takes (after_frame now.limits (text_of input frame) frame.fields) took.session then
+      × Takes place (after_frame now.limits (text_of input frame) frame.fields) took.session then
       (kept_of now) (record (kept_of next) { pass = pass; client = client })
-  step = takes took.session took.stands
+  step = takes place took.session took.stands
 
   -- the session with all of its messages given
   abbrev ideal : Crossing H
@@ -56,22 +56,22 @@ module _ {H : Type 0} (input : List ℕ) (start now next : Crossing H) (frames :
     client = record (next.client) { held = client };
   }
 
-  abbrev took_ideal : TookFrames input start (frames ++ frame ∷ []) ideal
-  took_ideal = took_next input start now frames took ideal frame limits_are over pass_later
+  abbrev took_ideal : TookBy place input start (frames ++ frame ∷ []) ideal
+  took_ideal = took_by place input start now frames took ideal frame limits_are over pass_later
       client_later takes
 
   abbrev limits : LimitsValue
   limits = start.limits
 
   abbrev reads : List SeenAt
-  reads = reads_of next.told.acts
+  reads = reads_of (with_places place next.told.acts)
 
   after_by : session_with limits reads input (frames ++ frame ∷ []) ≡ with_reads [] took_ideal.session
-  after_by = session_by input start ideal (frames ++ frame ∷ []) took_ideal
+  after_by = session_by place input start ideal (frames ++ frame ∷ []) took_ideal
 
   before_by : session_with limits reads input (take (length frames) (frames ++ frame ∷ []))
       ≡ with_reads step.1.seen took.session
-  unfolding took_next
+  unfolding took_by
   before_by =
       ap (session_with limits reads input) (take_at frames (frame ∷ []) (length frames) refl)
       ∙ ap (λ rs. session_with limits rs input frames)
@@ -91,7 +91,7 @@ module _ {H : Type 0} (input : List ℕ) (start now next : Crossing H) (frames :
       → ((to_pass.text ≡ concat took_ideal.session.passed)
       ⊎ (to_client.text ≡ concat took_ideal.session.client))
       → (why ≡ fault.Failed → IsLastOf)
-      → StoppedFrames why input start (frames ++ frame ∷ []) next
+      → StoppedBy place why input start (frames ++ frame ∷ []) next
   stopped_by why to_pass to_client one fails = record {
     given = length frames;
     to_pass = to_pass.text;
@@ -161,18 +161,18 @@ module _ {H : Type 0} (input : List ℕ) (start now next : Crossing H) (frames :
       )
 
   -- one of the streams got a front of the message
-  pub stopped_next : (why : PortFault) → (why ≡ fault.Failed → failed)
+  stopped_one : (why : PortFault) → (why ≡ fault.Failed → failed)
       → GivesOne given failed now next pass client
-      → StoppedFrames why input start (frames ++ frame ∷ []) next
-  unfolding took_next
-  stopped_next why fails (inl (gives, other, same)) =
+      → StoppedBy place why input start (frames ++ frame ∷ []) next
+  unfolding took_by
+  stopped_one why fails (inl (gives, other, same)) =
       let to_pass = got_front given start.pass.held now.pass.held next.pass.held pass
       took.session.passed took_ideal.session.passed step.1.to_pass step.1.passed_is
       took.pass_grows step.1.pass_grows gives.front in
       let to_client = got_whole start.client.held next.client.held client took.session.client
       took_ideal.session.client step.1.to_client step.1.client_is took_ideal.client_grows other in
       stopped_by why to_pass to_client (inr refl) (λ is. inl (gives.rose (fails is), same))
-  stopped_next why fails (inr (gives, other, number)) =
+  stopped_one why fails (inr (gives, other, number)) =
       let to_client = got_front given start.client.held now.client.held next.client.held client
       took.session.client took_ideal.session.client step.1.to_client step.1.client_is
       took.client_grows step.1.client_grows gives.front in
@@ -180,62 +180,98 @@ module _ {H : Type 0} (input : List ℕ) (start now next : Crossing H) (frames :
       took_ideal.session.passed step.1.to_pass step.1.passed_is took_ideal.pass_grows other in
       stopped_by why to_pass to_client (inl refl) (λ is. inr (gives.rose (fails is), number))
 
-module _ {H : Type 0} (start now : Crossing H) (left left_after : Option (List ℕ)) where
-  reads_ended : (end : End) → reads_of (now.told.acts ++ Ended end ∷ []) ≡ reads_of now.told.acts
-  reads_ended end =
-      reads_of-append now.told.acts (Ended end ∷ []) ∙ append-nil (reads_of now.told.acts)
+-- one of the streams got a front of the message of a frame more, whatever the places of reads are
+pub stopped_next : {H : Type 0} (input : List ℕ) (start now next : Crossing H)
+    (frames : List FrameValue) (frame : FrameValue) (pass client : Option (List ℕ))
+    (given failed : Type 0) → TookFrames input start frames now
+    → TakesFrom (after_frame now.limits (text_of input frame) frame.fields) (kept_of now)
+    (record (kept_of next) { pass = pass; client = client }) → next.limits ≡ now.limits
+    → IsOver next.limits next.told → next.frames ≡ now.frames + 1
+    → now.pass.faults ≤ next.pass.faults → now.client.faults ≤ next.client.faults
+    → (why : PortFault) → (why ≡ fault.Failed → failed) → GivesOne given failed now next pass client
+    → StoppedFrames why input start (frames ++ frame ∷ []) next
+stopped_next input start now next frames frame pass client given failed took takes limits_are over
+    frames_are pass_later client_later why fails gives =
+    λ place. stopped_one place input start now next frames frame pass client given failed (took place)
+    takes limits_are over frames_are pass_later client_later why fails gives
 
-  abbrev behind : (why : PortFault) (end : End) (fetched : List ℕ) (frames : List FrameValue)
-      → length fetched ≤ input_most → SplitsTo fetched 0 frames
-      → (stopped : StoppedFrames why fetched start frames now)
-      → StopsBehind start.limits fetched (now.told.acts ++ Ended end ∷ []) end stopped.to_pass
-      stopped.to_client
-  behind why end fetched frames few split stopped =
+module _ {H : Type 0} (start now : Crossing H) (left left_after : Option (List ℕ)) where
+  -- the acts at the end, with these places
+  abbrev at_end : Placing → End → List Act
+  at_end place end = with_places place (now.told.acts ++ Ended end ∷ [])
+
+  ended_placed : (place : Placing) (end : End)
+      → at_end place end ≡ with_places place now.told.acts ++ Ended end ∷ []
+  ended_placed place end = map-append (placed_by place) now.told.acts (Ended end ∷ [])
+
+  reads_ended : (place : Placing) (end : End)
+      → reads_of (at_end place end) ≡ reads_of (with_places place now.told.acts)
+  reads_ended place end =
+      ap reads_of (ended_placed place end)
+      ∙ reads_of-append (with_places place now.told.acts) (Ended end ∷ [])
+      ∙ append-nil (reads_of (with_places place now.told.acts))
+
+  behind : (place : Placing) (why : PortFault) (end : End) (fetched : List ℕ)
+      (frames : List FrameValue) → length fetched ≤ input_most → SplitsTo fetched 0 frames
+      → (stopped : StoppedBy place why fetched start frames now)
+      → (own : StopsBehind start.limits fetched (at_end place end) end stopped.to_pass
+      stopped.to_client) × (own.frames ≡ frames) × (own.given ≡ stopped.given)
+  behind place why end fetched frames few split stopped =
       let limits = start.limits in
-      let same = sym (reads_ended end) in
-      record {
-        frames = frames;
-        given = stopped.given;
-        few = few;
-        split = split;
-        acts_are = ap (λ a. a ++ Ended end ∷ []) (stopped.acts_are
-            ∙ ap (λ rs. (session_with limits rs fetched frames).acts) same);
-        messages = subst (λ rs. HasGiven limits rs fetched frames stopped.given stopped.to_pass
-            stopped.to_client) same stopped.messages;
-        covered = λ count. covers_frames limits (reads_of (now.told.acts ++ Ended end ∷ [])) fetched
-            (take count frames);
-      }
+      let same = sym (reads_ended place end) in (
+        record {
+          frames = frames;
+          given = stopped.given;
+          few = few;
+          split = split;
+          acts_are = ended_placed place end ∙ ap (λ a. a ++ Ended end ∷ []) (stopped.acts_are
+              ∙ ap (λ rs. (session_with limits rs fetched frames).acts) same);
+          messages = subst (λ rs. HasGiven limits rs fetched frames stopped.given stopped.to_pass
+              stopped.to_client) same stopped.messages;
+          covered = λ count. covers_frames limits (reads_of (at_end place end)) fetched
+              (take count frames);
+        },
+        refl,
+        refl,
+      )
 
   -- a session that a fault ended stopped early
-  follows_stopped : (end : End) → StopsBy TookFrames StoppedFrames start now left left_after end
+  follows_stopped : (place : Placing) (end : End)
+      → StopsBy TookFrames StoppedFrames start now left left_after end
       → IsByInput end
-      ⊎ StopsSource start.limits left left_after (now.told.acts ++ Ended end ∷ []) end start.pass
-      now.pass start.client now.client
-  follows_stopped ending.Whole stops = inl tt
-  follows_stopped (ending.Cut place) stops = inl tt
-  follows_stopped (ending.Broken place) stops = inl tt
-  follows_stopped (ending.TooLong place) stops = inl tt
-  follows_stopped ending.ReadFault stops = inr (record {
-    fetched = stops.fetched;
-    to_pass = concat stops.took.session.passed;
-    to_client = concat stops.took.session.client;
-    taken = stops.taken;
-    pass_got = stops.took.pass_grows;
-    client_got = stops.took.client_grows;
-    stops = record {
-      frames = stops.frames;
-      rest = stops.rest;
-      few = stops.few;
-      split = stops.split;
-      may = stops.may;
-      does = does_frames stops.fetched start now stops.frames stops.took ending.ReadFault;
-    };
-  })
-  follows_stopped ending.WriteFault stops =
+      ⊎ StopsSource start.limits left left_after (at_end place end) end start.pass now.pass
+      start.client now.client
+  follows_stopped place ending.Whole stops = inl tt
+  follows_stopped place (ending.Cut at) stops = inl tt
+  follows_stopped place (ending.Broken at) stops = inl tt
+  follows_stopped place (ending.TooLong at) stops = inl tt
+  follows_stopped place ending.ReadFault stops =
+      let took = stops.took place in
+      inr (record {
+        fetched = stops.fetched;
+        to_pass = concat took.session.passed;
+        to_client = concat took.session.client;
+        taken = stops.taken;
+        pass_got = took.pass_grows;
+        client_got = took.client_grows;
+        stops = record {
+          frames = stops.frames;
+          rest = stops.rest;
+          few = stops.few;
+          split = stops.split;
+          may = stops.may;
+          does = does_frames place stops.fetched start now stops.frames took ending.ReadFault;
+        };
+      })
+  follows_stopped place ending.WriteFault stops =
       let limits = start.limits in
       let fetched = stops.fetches.fetched in
       let frames = stops.frames ++ stops.last ∷ [] in
-      let stopped = stops.stopped in
+      let stopped = stops.stopped place in
+      let pass_failed = Rose start.pass.faults now.pass.faults in
+      let client_failed = Rose start.client.faults now.client.faults in
+      let own = behind place fault.Failed ending.WriteFault fetched frames stops.fetches.few
+      stops.fetches.split stopped in
       inr (record {
         fetched = fetched;
         to_pass = stopped.to_pass;
@@ -244,16 +280,17 @@ module _ {H : Type 0} (start now : Crossing H) (left left_after : Option (List �
         pass_got = stopped.pass_got;
         client_got = stopped.client_got;
         stops = record {
-          behind = behind fault.Failed ending.WriteFault fetched frames stops.fetches.few
-              stops.fetches.split stopped;
-          failed = subst (λ rs. FailsLast limits rs fetched frames stopped.given
-              (Rose start.pass.faults now.pass.faults)
-              (Rose start.client.faults now.client.faults)) (sym (reads_ended ending.WriteFault))
-              (stopped.failed refl);
+          behind = own.0;
+          failed = subst (λ given. FailsLast limits (reads_of (at_end place ending.WriteFault)) fetched
+              own.0.frames given pass_failed client_failed) (sym own.2)
+              (subst (λ f. FailsLast limits (reads_of (at_end place ending.WriteFault)) fetched f
+              stopped.given pass_failed client_failed) (sym own.1)
+              (subst (λ rs. FailsLast limits rs fetched frames stopped.given pass_failed
+              client_failed) (sym (reads_ended place ending.WriteFault)) (stopped.failed refl)));
         };
       })
-  follows_stopped ending.Memory stops =
-      let stopped = stops.stopped in
+  follows_stopped place ending.Memory stops =
+      let stopped = stops.stopped place in
       inr (record {
         fetched = stops.fetches.fetched;
         to_pass = stopped.to_pass;
@@ -261,18 +298,18 @@ module _ {H : Type 0} (start now : Crossing H) (left left_after : Option (List �
         taken = stops.fetches.taken;
         pass_got = stopped.pass_got;
         client_got = stopped.client_got;
-        stops = inr (behind fault.Memory ending.Memory stops.fetches.fetched stops.frames
-            stops.fetches.few stops.fetches.split stopped);
+        stops = inr (behind place fault.Memory ending.Memory stops.fetches.fetched stops.frames
+            stops.fetches.few stops.fetches.split stopped).0;
       })
 
   -- however it ended
   pub follows_by : (end : End) → (IsByInput end → TakesSource TookFrames start now left end)
       → StopsBy TookFrames StoppedFrames start now left left_after end
-      → Follows start.limits left left_after (now.told.acts ++ Ended end ∷ []) end start.pass now.pass
-      start.client now.client
-  follows_by end takes stops = record {
-    input = λ by_input. follows_source start now left end (takes by_input);
-    early = follows_stopped end stops;
+      → (place : Placing) → Follows start.limits left left_after (at_end place end) end start.pass
+      now.pass start.client now.client
+  follows_by end takes stops place = record {
+    input = λ by_input. follows_source start now left end (takes by_input) place;
+    early = follows_stopped place end stops;
   }
 
   -- where it ended by a failed write, a sink failed
@@ -285,7 +322,7 @@ module _ {H : Type 0} (start now : Crossing H) (left left_after : Option (List �
   sink_failed (ending.TooLong place) stops is = absurd cc
   sink_failed ending.ReadFault stops is = absurd cc
   sink_failed ending.Memory stops is = absurd cc
-  sink_failed ending.WriteFault stops is = which (stops.stopped.failed refl).failed
+  sink_failed ending.WriteFault stops is = which ((stops.stopped (λ tree stamp. 0)).failed refl).failed
     where
       which : {A B C D : Type 0} → ((A × B) ⊎ (C × D)) → A ⊎ C
       which (inl (first, second)) = inl first

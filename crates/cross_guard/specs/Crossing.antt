@@ -22,7 +22,7 @@ use Rattle.frame_run.specs.Sinks.{SinkValue, IsLaterSink}
 use Rattle.cross_guard.specs.Follows.{session_with, HasGiven, FailsLast}
 use Rattle.cross_guard.specs.Resting.{RestingValue}
 use Rattle.cross_guard.specs.Session.{CrossSession, opening, after_frame, after_frames}
-use Rattle.cross_guard.specs.Told.{ToldValue, IsOver}
+use Rattle.cross_guard.specs.Told.{ToldValue, IsOver, Placing, with_places}
 use Rattle.cross_guard.specs.Told.{IsAfter as IsToldAfter}
 
 -- the limits, the hand whose calls are told, the resting orders, how many frames were taken, how many
@@ -55,9 +55,10 @@ kept_of now = record {
   client = now.client.held;
 }
 
--- what is kept is that of the session's value: each frame was passed or refused
-pub record StandsAs (kept : Kept) (session : CrossSession) : Type 0 where
-  pub acts_are : session.acts ≡ kept.acts
+-- What is kept is that of the session's value, whose reads have these places. Each frame was passed or
+-- refused.
+pub record StandsAs (place : Placing) (kept : Kept) (session : CrossSession) : Type 0 where
+  pub acts_are : session.acts ≡ with_places place kept.acts
   pub orders_are : session.orders ≡ kept.orders
   pub frames_are : session.frames ≡ kept.frames
   pub client_are : length session.client ≡ kept.refused
@@ -69,13 +70,13 @@ with_reads reads session = record session { reads = reads }
 
 -- A step leads from a session to the next, by the reads that its acts have, whatever further reads are
 -- to come. At most one message more is in either stream.
-pub record Takes (step : CrossSession → CrossSession) (session next : CrossSession)
-    (before after : Kept) : Type 0 where
+pub record Takes (place : Placing) (step : CrossSession → CrossSession)
+    (session next : CrossSession) (before after : Kept) : Type 0 where
   pub seen : List SeenAt
   pub reads_are : reads_of next.acts ≡ reads_of session.acts ++ seen
   pub stepped : (more : List SeenAt)
       → step (with_reads (seen ++ more) session) ≡ with_reads more next
-  pub stands : StandsAs after next
+  pub stands : StandsAs place after next
   pub to_pass : Option (List ℕ)
   pub to_client : Option (List ℕ)
   pub passed_is : next.passed ≡ with_message to_pass session.passed
@@ -83,11 +84,12 @@ pub record Takes (step : CrossSession → CrossSession) (session next : CrossSes
   pub pass_grows : Appends before.pass after.pass (text_in to_pass)
   pub client_grows : Appends before.client after.client (text_in to_client)
 
--- Whatever session stands for what was kept before, the step was made in it.
+-- Whatever session stands for what was kept before, with whatever places of reads, the step was made
+-- in it.
 abbrev pub TakesFrom : (CrossSession → CrossSession) → Kept → Kept → Type 0
 TakesFrom step before after =
-    (session : CrossSession) → StandsAs before session
-    → (next : CrossSession) × Takes step session next before after
+    (place : Placing) (session : CrossSession) → StandsAs place before session
+    → (next : CrossSession) × Takes place step session next before after
 
 -- Whatever its fields are, the sound frame was taken.
 abbrev pub TakesSound : LimitsValue → FrameIn → Kept → Kept → Type 0
@@ -171,34 +173,47 @@ pub record IsOpened {H : Type 0} (now : Crossing H) : Type 0 where
   pub frames : now.frames ≡ 0
   pub refused : now.refused ≡ 0
 
--- The frames were taken, from a session before its first frame on: they lead to a session's value,
--- whatever further reads are to come, which is that of the session now, and the sinks got its messages.
-pub record TookFrames {H : Type 0} (input : List ℕ) (start : Crossing H) (frames : List FrameValue)
-    (now : Crossing H) : Type 0 where
+-- The frames were taken, from a session before its first frame on: with these places of reads they lead
+-- to a session's value, whatever further reads are to come, which is that of the session now, and the
+-- sinks got its messages.
+pub record TookBy {H : Type 0} (place : Placing) (input : List ℕ) (start : Crossing H)
+    (frames : List FrameValue) (now : Crossing H) : Type 0 where
   pub session : CrossSession
   pub reached : (more : List SeenAt)
       → after_frames start.limits input (opening (reads_of session.acts ++ more)) frames
       ≡ with_reads more session
   pub limits_are : now.limits ≡ start.limits
   pub over : IsOver now.limits now.told
-  pub stands : StandsAs (kept_of now) session
+  pub stands : StandsAs place (kept_of now) session
   pub counted : session.frames ≡ length frames
   pub pass_grows : Appends start.pass.held now.pass.held (concat session.passed)
   pub client_grows : Appends start.client.held now.client.held (concat session.client)
   pub pass_later : start.pass.faults ≤ now.pass.faults
   pub client_later : start.client.faults ≤ now.client.faults
 
+-- whatever the places of reads are
+abbrev pub TookFrames : {H : Type 0} → List ℕ → Crossing H → List FrameValue → Crossing H → Type 0
+TookFrames input start frames now = (place : Placing) → TookBy place input start frames now
+
 -- The frames lead to where a session stopped: they were taken, but of the last one's message the end may
 -- not have been given. Where a sink failed, it failed at that message.
-pub record StoppedFrames {H : Type 0} (why : PortFault) (input : List ℕ) (start : Crossing H)
-    (frames : List FrameValue) (now : Crossing H) : Type 0 where
+pub record StoppedBy {H : Type 0} (place : Placing) (why : PortFault) (input : List ℕ)
+    (start : Crossing H) (frames : List FrameValue) (now : Crossing H) : Type 0 where
   pub given : ℕ
   pub to_pass : List ℕ
   pub to_client : List ℕ
-  pub acts_are : now.told.acts
-      ≡ (session_with start.limits (reads_of now.told.acts) input frames).acts
+  pub acts_are : with_places place now.told.acts
+      ≡ (session_with start.limits (reads_of (with_places place now.told.acts)) input frames).acts
   pub pass_got : Appends start.pass.held now.pass.held to_pass
   pub client_got : Appends start.client.held now.client.held to_client
-  pub messages : HasGiven start.limits (reads_of now.told.acts) input frames given to_pass to_client
-  pub failed : why ≡ fault.Failed → FailsLast start.limits (reads_of now.told.acts) input frames
-      given (Rose start.pass.faults now.pass.faults) (Rose start.client.faults now.client.faults)
+  pub messages : HasGiven start.limits (reads_of (with_places place now.told.acts)) input frames given
+      to_pass to_client
+  pub failed : why ≡ fault.Failed → FailsLast start.limits
+      (reads_of (with_places place now.told.acts)) input frames given
+      (Rose start.pass.faults now.pass.faults) (Rose start.client.faults now.client.faults)
+
+-- whatever the places of reads are
+abbrev pub StoppedFrames : {H : Type 0} → PortFault → List ℕ → Crossing H → List FrameValue
+    → Crossing H → Type 0
+StoppedFrames why input start frames now =
+    (place : Placing) → StoppedBy place why input start frames now

@@ -11,11 +11,11 @@ use Rattle.risk_journal.specs.declared.acts.End.TheVariants as ending
 use Rattle.risk_journal.specs.ActLists.{reads_of}
 use Rattle.frame_run.specs.Giving.{between_by, between_same}
 use Rattle.frame_run.specs.Sinks.{SinkValue, IsLaterSink}
-use Rattle.cross_guard.specs.Crossing.{Crossing, Continues, TookFrames, StoppedFrames, frame_acts}
+use Rattle.cross_guard.specs.Crossing.{Crossing, Continues, TookBy, TookFrames, StoppedFrames, frame_acts}
 use Rattle.cross_guard.specs.Crossing.{with_reads}
 use Rattle.cross_guard.specs.Follows.{session_with}
 use Rattle.cross_guard.specs.Session.{CrossSession}
-use Rattle.cross_guard.specs.Told.{IsAfter}
+use Rattle.cross_guard.specs.Told.{Placing, with_places}
 
 -- the same sinks, of which one failed where the end says so
 pub record AreSinksDone (pass pass_after client client_after : SinkValue) (end : End) : Type 0 where
@@ -76,10 +76,11 @@ module _ {H : Type 0} (Same : H → H → Type 0) where
       first second (omega arith)
 
 -- the session's value is that over the frames, with the reads that the acts have
-pub session_by : {H : Type 0} (input : List ℕ) (start now : Crossing H) (frames : List FrameValue)
-    → (took : TookFrames input start frames now)
-    → session_with start.limits (reads_of now.told.acts) input frames ≡ with_reads [] took.session
-session_by input start now frames took =
+pub session_by : {H : Type 0} (place : Placing) (input : List ℕ) (start now : Crossing H)
+    (frames : List FrameValue) → (took : TookBy place input start frames now)
+    → session_with start.limits (reads_of (with_places place now.told.acts)) input frames
+    ≡ with_reads [] took.session
+session_by place input start now frames took =
     ap (λ rs. session_with start.limits rs input frames)
     (ap reads_of (sym took.stands.acts_are) ∙ sym (append-nil (reads_of took.session.acts)))
     ∙ took.reached []
@@ -88,9 +89,10 @@ session_by input start now frames took =
 pub stopped_whole : {H : Type 0} (input : List ℕ) (start now : Crossing H)
     (frames : List FrameValue) → TookFrames input start frames now
     → StoppedFrames fault.Memory input start frames now
-stopped_whole input start now frames took =
-    let reads = reads_of now.told.acts in
-    let by = session_by input start now frames took in
+stopped_whole input start now frames took_all = λ place.
+    let took = took_all place in
+    let reads = reads_of (with_places place now.told.acts) in
+    let by = session_by place input start now frames took in
     let passed_is = ap (λ (s : CrossSession). s.passed) by in
     let client_is = ap (λ (s : CrossSession). s.client) by in
     let all : session_with start.limits reads input (take (length frames) frames)

@@ -1,10 +1,10 @@
 -- A session's hand on the trees of the symbols, whose calls are told as acts.
-use Rattle.std.specs.Prelude.{◌≡◌, ℕ, ◌+◌, ◌≤◌, ◌<◌, List, [], length, max, ◌++◌}
+use Rattle.std.specs.Prelude.{◌≡◌, ℕ, ◌+◌, ◌≤◌, ◌<◌, List, [], length, map, max, ◌++◌}
 use Rattle.std.specs.List.{slice_index_or}
 use Rattle.limit_table.specs.Trees.{LimitsValue}
 use Rattle.risk_board.specs.Hands.{HandValue}
 use Rattle.risk_journal.specs.declared.acts.Act.{Act}
-use Rattle.risk_journal.specs.ActLists.{SeenAt, calls_of, last_post, reads_of}
+use Rattle.risk_journal.specs.ActLists.{SeenAt, calls_of, last_post, placed_by, reads_of}
 use Rattle.admit_core.specs.Tapes.{Tape, tape}
 use Rattle.cross_guard.specs.declared.guarding.CrossVerdict.{CrossVerdict}
 use Rattle.cross_guard.specs.Halves.{cross_cap}
@@ -69,8 +69,17 @@ pub record Asks (guard : Tape → Guarded) (before after : List Act) (verdict : 
   pub asked : (more : List SeenAt)
       → guard (tape before (seen ++ more)) ≡ record { verdict = verdict; tape = tape after more }
 
--- the same under any limits of this quota
+-- places of reads in their trees' histories, by tree and by stamp
+abbrev pub Placing : Type 0
+Placing = ℕ → ℕ → ℕ
+
+-- acts with these places of their reads
+abbrev pub with_places : Placing → List Act → List Act
+with_places place acts = map (placed_by place) acts
+
+-- the same under any limits of this quota, and with any places of reads
 abbrev pub AsksUnder : ℕ → (LimitsValue → Tape → Guarded) → List Act → List Act → CrossVerdict
     → Type 0
 AsksUnder quota guard before after verdict =
-    (limits : LimitsValue) → limits.quota ≡ quota → Asks (guard limits) before after verdict
+    (place : Placing) (limits : LimitsValue) → limits.quota ≡ quota
+    → Asks (guard limits) (with_places place before) (with_places place after) verdict

@@ -2,12 +2,10 @@
 ghost use Rattle.std.specs.Prelude.{◌≡◌, ◌^◌, ◌<◌, [], ◌∷◌, ◌++◌, length, vec_capacity};
 ghost use Rattle.frame_run.specs.Ended.{EndsAs, EndsWith, IsSourceDone};
 ghost use Rattle.frame_run.specs.Sinks.{sink_of};
-ghost use Rattle.limit_table.specs.Trees.{LimitsValue};
 ghost use Rattle.risk_journal.specs.ActLists.{calls_of};
-ghost use Rattle.cross_guard.specs.Crossing.{IsOpened};
 ghost use Rattle.cross_guard.specs.Follows.{Follows};
 ghost use Rattle.cross_guard.specs.Lasting.{AreSinksDone};
-ghost use Rattle.cross_guard.specs.Told.{IsCrossHand, IsFresh};
+ghost use Rattle.cross_guard.specs.Told.{IsCrossHand, Placing, with_places};
 
 use crate::orders::RestingOrders;
 use crate::session::CrossSession;
@@ -34,7 +32,8 @@ pub struct CrossDone<H: Hand, S: Source, P: Sink, C: Sink> {
 /// Filters a session, whose number counts from 0, up to its end, over at most 33,554,432 bytes of its
 /// source. Each order and replace of a known symbol is put to the guard of the symbol's tree: sent, its
 /// frame is passed on as it is, and refused, the client is told so. All other frames are passed on, and
-/// reports post what the session's orders rest as where that is less.
+/// reports post what the session's orders rest as where that is less. Places of reads aren't known here and
+/// told as 0; with whatever places, the acts are the session function's.
 pub fn run_cross<H: Hand, S: Source, P: Sink, C: Sink>(
     alloc: Global,
     _session: u32,
@@ -48,8 +47,8 @@ pub fn run_cross<H: Hand, S: Source, P: Sink, C: Sink>(
     requires idle { (H.meaning hand).calls ≡ [] }
     ensures origin { H.SameOrigin hand result.hand }
     ensures calls { (H.meaning result.hand).calls ≡ calls_of result.acts.items }
-    ensures follows { Follows limits.now (S.left source) (S.left result.source)
-        result.acts.items result.end
+    ensures follows { (place : Placing) → Follows limits.now (S.left source) (S.left result.source)
+        (with_places place result.acts.items) result.end
         (sink_of P.held P.faults P.name pass) (sink_of P.held P.faults P.name result.pass)
         (sink_of C.held C.faults C.name client) (sink_of C.held C.faults C.name result.client) }
     ensures source { IsSourceDone S.left S.faults S.name S.is_ended source result.source result.end }
