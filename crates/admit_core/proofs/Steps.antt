@@ -20,12 +20,12 @@ use Rattle.admit_core.proofs.CallLemmas.{calls_below-append, calls_at-append}
 use Rattle.admit_core.proofs.CallLemmas.{post_count-below, post_count-at}
 use Rattle.admit_core.proofs.Noted.{quiet_below, quiet_at, quiet_last}
 
-pub cond_within : (b : Bool) (x y most : ℕ) → x ≤ most → y ≤ most → cond b x y ≤ most
+cond_within : (b : Bool) (x y most : ℕ) → x ≤ most → y ≤ most → cond b x y ≤ most
 cond_within true x y most one two = one
 cond_within false x y most one two = two
 
 -- what stands at a place after a write there
-pub set_at : (lasts : List ℕ) (tree place value : ℕ) → tree < length lasts
+set_at : (lasts : List ℕ) (tree place value : ℕ) → tree < length lasts
     → slice_index_or (slice_set lasts tree value) place 0
     ≡ cond (tree == place) value (slice_index_or lasts place 0)
 set_at lasts tree place value below = by_test (tree == place) refl

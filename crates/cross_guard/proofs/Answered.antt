@@ -10,7 +10,7 @@ use Rattle.fix_orders.specs.declared.message.Replace.{Replace}
 use Rattle.fix_orders.specs.declared.message.Stamp.{Stamp}
 use Rattle.fix_orders.specs.Reading.{read_of}
 use Rattle.fix_orders.specs.Writing.{cancel_reject_fields, order_reject_fields}
-use Rattle.fix_orders.proofs.MessageKinds.{new_is, replace_is}
+use Rattle.cross_guard.proofs.MessageKinds.{new_is, replace_is}
 use Rattle.risk_journal.specs.declared.acts.Act.TheVariants.{Sent}
 use Rattle.cross_guard.specs.declared.guarding.CrossVerdict.{CrossVerdict}
 use Rattle.cross_guard.specs.Answering.{PassesOn, Sends, TellsRefusal, stamp_to}

@@ -18,3 +18,7 @@ pub mod Stopping
 pub mod SymbolPlaces
 pub mod Answered
 pub mod Readied
+pub mod Writes
+pub mod Bands
+pub mod NamePlaces
+pub mod MessageKinds

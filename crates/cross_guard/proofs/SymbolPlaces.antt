@@ -24,7 +24,7 @@ use Rattle.limit_table.specs.Files.{IsHeldByFile}
 use Rattle.limit_table.specs.Places.{IsPlaceOf, symbol_names}
 use Rattle.limit_table.specs.Trees.{LimitsValue}
 use Rattle.limit_table.proofs.FileLimits.{held_is_file_limits}
-use Rattle.limit_table.proofs.NamePlaces.{place_is}
+use Rattle.cross_guard.proofs.NamePlaces.{place_is}
 use Rattle.risk_journal.specs.ActLists.{SeenAt}
 use Rattle.admit_core.specs.Tapes.{tape}
 use Rattle.frame_run.specs.Frames.{text_of}

@@ -15,7 +15,7 @@ use Rattle.risk_journal.specs.ActLists.{posts_in, latest, last_post, calls_of}
 use Rattle.admit_core.specs.Tapes.{IsNoCall}
 use Rattle.admit_core.proofs.ActLemmas.{last_post-append}
 use Rattle.admit_core.proofs.Noted.{quiet_last}
-use Rattle.admit_core.proofs.Steps.{set_at, cond_within}
+use Rattle.cross_guard.proofs.Writes.{set_at, cond_within}
 use Rattle.cross_guard.specs.Guarding.{last_call, with_calls}
 use Rattle.cross_guard.specs.Halves.{cross_cap}
 use Rattle.cross_guard.specs.Told.{InStep}

@@ -12,4 +12,3 @@ pub mod Passed
 pub mod OrderValues
 pub mod OrderHeads
 pub mod OrderRejects
-pub mod MessageKinds

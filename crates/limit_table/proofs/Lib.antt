@@ -18,4 +18,3 @@ mod Rows
 pub mod SymbolPrices
 pub mod TreeLimits
 pub mod Quotas
-pub mod NamePlaces

@@ -24,11 +24,11 @@ symbol_entry (row ∷ rows) zero other d inside = refl
 symbol_entry (row ∷ rows) (suc place) other d inside =
     symbol_entry rows place other d (omega (arith, inside))
 
--- the numbers of a symbol's row are in their ranges
-held_range : (limits : Limits) (place : ℕ) (other : SymbolRow) → IsHeldByFile limits
+-- the highest price of a symbol's row is a price
+pub held_high : (limits : Limits) (place : ℕ) (other : SymbolRow) → IsHeldByFile limits
     → place < length limits.symbols
-    → IsInRange (entry.Symbol (slice_index_or limits.symbols place other))
-held_range limits place other held inside =
+    → (slice_index_or limits.symbols place other).high ≤ price_most
+held_high limits place other held inside =
     let accounts : List Entry = map (λ (row : AccountRow). entry.Account row) limits.accounts in
     let symbols : List Entry = map (λ (row : SymbolRow). entry.Symbol row) limits.symbols in
     let others : List Entry = trip_rows limits.trip
@@ -45,17 +45,5 @@ held_range limits place other held inside =
     get_or-append-add accounts (symbols ++ others) place d
     ∙ get_or_append_left symbols others d place (omega arith)
     ∙ symbol_entry limits.symbols place other d inside in
-    subst IsInRange own ((held_is_file_limits limits held).in_range number d below)
-
--- the highest price of a symbol's row is a price
-pub held_high : (limits : Limits) (place : ℕ) (other : SymbolRow) → IsHeldByFile limits
-    → place < length limits.symbols
-    → (slice_index_or limits.symbols place other).high ≤ price_most
-held_high limits place other held inside = (held_range limits place other held inside).2.1
-
--- and its lowest isn't above it
-pub held_band : (limits : Limits) (place : ℕ) (other : SymbolRow) → IsHeldByFile limits
-    → place < length limits.symbols
-    → (slice_index_or limits.symbols place other).low
-    ≤ (slice_index_or limits.symbols place other).high
-held_band limits place other held inside = (held_range limits place other held inside).5
+    let range = subst IsInRange own ((held_is_file_limits limits held).in_range number d below) in
+    range.2.1

@@ -4,16 +4,19 @@ use Rattle.std.proofs.Common.{◌≡◌, ℕ, zero, suc, ◌+◌, ◌<◌, List,
 use Rattle.std.proofs.Common.{refl, sym, ap, ◌∙◌, arith, true, false, Option, Some, None, Ok}
 use Rattle.std.specs.Prelude.{slice_get}
 use Rattle.std.specs.Option.{option_map}
-use Rattle.std.specs.List.{IsDistinct}
+use Rattle.std.specs.List.{IsDistinct, AllByRecursion}
 use Rattle.std.specs.Str.{bytes_eq}
+use Rattle.std.specs.Cmp.Lexicographic.{bytes_decides}
+use Rattle.std.proofs.lemmas.Bool.{false_from_ne_true, true≢false}
 use Rattle.std.proofs.lemmas.List.{length-map}
+use Rattle.std.proofs.lemmas.Map.Keys.{IsDistinct-head, IsDistinct-tail}
+use Rattle.std.proofs.lemmas.Slice.Eq.{bytes_eq-Decides}
 use Rattle.fix_orders.specs.declared.message.NewOrder.{NewOrder}
 use Rattle.limit_table.specs.Files.{IsHeldByFile}
 use Rattle.limit_table.specs.Kinds.{same_text}
 use Rattle.limit_table.specs.Places.{IsPlaceOf, account_names, symbol_names}
 use Rattle.limit_table.specs.Trees.{LimitsValue}
 use Rattle.limit_table.proofs.FileLimits.{held_is_file_limits}
-use Rattle.limit_table.proofs.NamePlaces.{place_is as first_place}
 use Rattle.admit_core.specs.declared.rows.OrderRows.{OrderRows}
 use Rattle.admit_core.specs.Legs.{AreRowsOf}
 use Rattle.order_desk.specs.Rows.{place_among, rows_at, rows_of}
@@ -47,12 +50,39 @@ Name = List ℕ
 some_same : (a b : Name) (o : Option Name) → o ≡ Some a → o ≡ Some b → a ≡ b
 some_same a b o first second = cc
 
+-- a name that differs from all isn't at a place among them
+not_there : (own name : Name) (names : List Name) (place : ℕ)
+    → AllByRecursion (λ other. same_text own other ≡ false) names
+    → slice_get names place ≡ Some name → bytes_eq own name ≡ false
+not_there own name [] place apart at = absurd cc
+not_there own name (other ∷ names) zero apart at =
+    let same : other ≡ name = cc in
+    false_from_ne_true (bytes_eq own name) (λ (equal : bytes_eq own name ≡ true).
+    true≢false (sym ((bytes_decides own other).1 ((bytes_eq-Decides own name).0 equal ∙ sym same))
+    ∙ apart.0))
+not_there own name (other ∷ names) (suc place) apart at =
+    not_there own name names place apart.1 at
+
 -- among different names the place of a name is the first
 pub place_is : (names : List Name) (name : Name) (place : Option ℕ) → IsDistinct same_text names
     → IsPlaceOf names name place → place ≡ place_among name names
-place_is names name place distinct at =
-    first_place name (place_among name) (record { none = refl; next = λ own others. refl }) names place
-    distinct at
+place_is [] name None distinct at = refl
+place_is [] name (Some place) distinct at = absurd cc
+place_is (own ∷ names) name None distinct at =
+    let apart : bytes_eq own name ≡ false = false_from_ne_true (bytes_eq own name)
+    (λ (equal : bytes_eq own name ≡ true).
+    at zero (ap (λ text. Some text) ((bytes_eq-Decides own name).0 equal))) in
+    rw apart (ap (option_map (λ place. place + 1))
+    (place_is names name None (IsDistinct-tail same_text own names distinct)
+    (λ place found. at (suc place) found)))
+place_is (own ∷ names) name (Some zero) distinct at =
+    let same : own ≡ name = cc in
+    rw ((bytes_eq-Decides own name).1 same) refl
+place_is (own ∷ names) name (Some (suc place)) distinct at =
+    let next : suc place ≡ place + 1 = omega arith in
+    rw (not_there own name names place (IsDistinct-head same_text own names distinct) at)
+    (ap (λ n. Some n) next ∙ ap (option_map (λ place. place + 1))
+    (place_is names name (Some place) (IsDistinct-tail same_text own names distinct) at))
 
 pub account_is : (limits : LimitsValue) (name : Name) (place : Option ℕ) → IsHeldByFile limits
     → IsPlaceOf (account_names limits.accounts) name place

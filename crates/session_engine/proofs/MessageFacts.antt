@@ -22,11 +22,18 @@ use Rattle.fix_orders.specs.Kinds.{kind_of}
 use Rattle.fix_orders.specs.Reading.{read_of, message_of, new_order_of, cancel_of, replace_of}
 use Rattle.fix_orders.specs.Reading.{report_of, cancel_reject_of}
 use Rattle.fix_orders.specs.Table.{table, row_at}
-use Rattle.fix_orders.proofs.MessageKinds.{cancel_kind, message_read, new_kind, reject_kind}
-use Rattle.fix_orders.proofs.MessageKinds.{replace_kind, report_kind}
+use Rattle.fix_orders.proofs.Passed.{unless_ok}
 use Rattle.fix_orders.proofs.ReadLemmas.{each_none, one_text}
 use Rattle.session_engine.specs.Session.{is_request, asks}
 use Rattle.fix_orders.proofs.OrderHeads.{id_text}
+
+-- a message that was read has no fault, and is that of its kind
+message_read : (fields : List FieldValue) (whole : Message) → read_of fields ≡ Ok whole
+    → (first_fault (kind_of (value_of 35 fields)) fields table ≡ None)
+    × (message_of (kind_of (value_of 35 fields)) fields ≡ whole)
+message_read fields whole read =
+    let k = kind_of (value_of 35 fields) in
+    unless_ok (first_fault k fields table) (message_of k fields) whole read
 
 admin_asks : (k : Kind) (fields : List FieldValue) → message_of k fields ≡ message.Admin
     → is_request k ≡ false
@@ -65,6 +72,61 @@ one_id (v ∷ w ∷ more) e = absurd cc
 one_id (v ∷ []) e =
     id_text (list_all is_printable v) (length v == 0 || nat_lt 64 (length v)) v
     (one_text (row_at 1).read_as (v ∷ []) e)
+
+new_kind : (k : Kind) (fields : List FieldValue) (order : NewOrder)
+    → message_of k fields ≡ message.New order
+    → (k ≡ kind.NewOrderSingle) × (new_order_of fields ≡ order)
+new_kind kind.NewOrderSingle fields order e = (refl, cc)
+new_kind kind.OrderCancelRequest fields order e = absurd cc
+new_kind kind.OrderCancelReplaceRequest fields order e = absurd cc
+new_kind kind.ExecutionReport fields order e = absurd cc
+new_kind kind.OrderCancelReject fields order e = absurd cc
+new_kind kind.Admin fields order e = absurd cc
+new_kind kind.Other fields order e = absurd cc
+
+cancel_kind : (k : Kind) (fields : List FieldValue) (cancel : Cancel)
+    → message_of k fields ≡ message.Cancel cancel
+    → (k ≡ kind.OrderCancelRequest) × (cancel_of fields ≡ cancel)
+cancel_kind kind.NewOrderSingle fields cancel e = absurd cc
+cancel_kind kind.OrderCancelRequest fields cancel e = (refl, cc)
+cancel_kind kind.OrderCancelReplaceRequest fields cancel e = absurd cc
+cancel_kind kind.ExecutionReport fields cancel e = absurd cc
+cancel_kind kind.OrderCancelReject fields cancel e = absurd cc
+cancel_kind kind.Admin fields cancel e = absurd cc
+cancel_kind kind.Other fields cancel e = absurd cc
+
+replace_kind : (k : Kind) (fields : List FieldValue) (replace : Replace)
+    → message_of k fields ≡ message.Replace replace
+    → (k ≡ kind.OrderCancelReplaceRequest) × (replace_of fields ≡ replace)
+replace_kind kind.NewOrderSingle fields replace e = absurd cc
+replace_kind kind.OrderCancelRequest fields replace e = absurd cc
+replace_kind kind.OrderCancelReplaceRequest fields replace e = (refl, cc)
+replace_kind kind.ExecutionReport fields replace e = absurd cc
+replace_kind kind.OrderCancelReject fields replace e = absurd cc
+replace_kind kind.Admin fields replace e = absurd cc
+replace_kind kind.Other fields replace e = absurd cc
+
+report_kind : (k : Kind) (fields : List FieldValue) (report : Report)
+    → message_of k fields ≡ message.Report report
+    → (k ≡ kind.ExecutionReport) × (report_of fields ≡ report)
+report_kind kind.NewOrderSingle fields report e = absurd cc
+report_kind kind.OrderCancelRequest fields report e = absurd cc
+report_kind kind.OrderCancelReplaceRequest fields report e = absurd cc
+report_kind kind.ExecutionReport fields report e = (refl, cc)
+report_kind kind.OrderCancelReject fields report e = absurd cc
+report_kind kind.Admin fields report e = absurd cc
+report_kind kind.Other fields report e = absurd cc
+
+reject_kind : (k : Kind) (fields : List FieldValue) (reject : CancelReject)
+    → message_of k fields ≡ message.CancelReject reject
+    → (k ≡ kind.OrderCancelReject) × (cancel_reject_of fields ≡ reject)
+reject_kind kind.NewOrderSingle fields reject e = absurd cc
+reject_kind kind.OrderCancelRequest fields reject e = absurd cc
+reject_kind kind.OrderCancelReplaceRequest fields reject e = absurd cc
+reject_kind kind.ExecutionReport fields reject e = absurd cc
+reject_kind kind.OrderCancelReject fields reject e = (refl, cc)
+reject_kind kind.Admin fields reject e = absurd cc
+reject_kind kind.Other fields reject e = absurd cc
 
 -- what a request with this head that was read has of its fields
 pub record RequestFacts (fields : List FieldValue) (head : Head) : Type 0 where
