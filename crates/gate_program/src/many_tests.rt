@@ -1,6 +1,6 @@
 //! Runs of more than 32 sessions. No clause says that memory isn't wanting.
 use crate::command::gate;
-use crate::rows::{SMALL, no_screens, words_of};
+use crate::rows::{BUY, BUY_SENT, Piece, SMALL, bytes_of, no_screens, words_of};
 use gate_ports::{MemFolder, MemSink, OpenGate};
 use std::alloc::Global;
 use std::test::*;
@@ -75,5 +75,50 @@ fn many_empty_sessions_are_whole(rt: HostRuntime) -> Result<(), Fail> {
         let last = format!(in alloc; "out/s{}.client", count - 1)?;
         assert_eq!(rt; folder.get(last.as_str()), Some(b"".as_slice()), "{last}");
     }
+    Ok(())
+}
+
+/// So many sessions of one order each, all of one symbol, of which the firm's limit admits one.
+fn racing_sessions(alloc: Global, count: u32) -> Result<Empties, Fail> {
+    let order = bytes_of(alloc, &[Piece::Whole(BUY)])?;
+    let mut racing = empty_sessions(alloc, count)?;
+    for session in 0..count {
+        let name = format!(in alloc; "session{session}")?;
+        let input = Vec::from_slice(alloc, order.as_slice())?;
+        racing.folder.put(name.as_str(), input)?;
+    }
+    Ok(racing)
+}
+
+#[test]
+fn of_many_with_one_symbol_at_most_one_gets_what_one_may_have(
+    rt: HostRuntime,
+) -> Result<(), Fail> {
+    let alloc = rt.alloc();
+    let forward = bytes_of(alloc, &[Piece::Whole(BUY_SENT)])?;
+    let mut racing = racing_sessions(alloc, 64)?;
+    let mut out = MemSink::new(alloc, 65_536, Vec::new(alloc));
+    let screens = no_screens(alloc)?;
+    let status = gate(
+        &rt,
+        alloc,
+        &racing.words,
+        &mut racing.folder,
+        &mut out,
+        screens,
+        &OpenGate,
+    );
+    assert_eq!(rt; status, 0);
+    let mut sent = 0u32;
+    for session in 0..64 {
+        let name = format!(in alloc; "out/s{session:02}.venue")?;
+        let venue = racing.folder.get(name.as_str()).ok_or("no output")?;
+        if venue == forward.as_slice() {
+            sent = sent.saturating_add(1);
+        } else {
+            assert!(rt; venue.is_empty(), "{name}");
+        }
+    }
+    assert!(rt; sent <= 1, "{sent} were sent");
     Ok(())
 }

@@ -1,5 +1,6 @@
-use Rattle.std.proofs.Common.{◌∙◌, sym, string_bytes, arith}
+use Rattle.std.proofs.Common.{◌∙◌, ℕ, ap, sym, string_bytes, arith}
 use Rattle.std.proofs.lemmas.List.{length-map}
+use Rattle.limit_table.specs.Counted.{counted_for}
 use Rattle.gate_program.specs.CommandOf.{run_value}
 use Rattle.gate_program.specs.Objects.{objects_of}
 use Rattle.gate_program.proofs.RunStarts.{few_sessions, some_session}
@@ -29,7 +30,13 @@ returns-in-Ok-open_sessions g c =
     g.D.Out.Sink.name g.D.Out.Sink.faults)
     ∙ c.in-Ok-open_sessions.ensures.many ∙ sym (length-map c.args.run.now.sessions.now
     string_bytes))
-    c.requires.limits
+    (record {
+      file = c.requires.limits.file;
+      file_is = c.requires.limits.file_is;
+      counted = c.requires.limits.counted
+          ∙ ap (λ (n : ℕ). counted_for n c.requires.limits.file)
+          (sym (length-map c.args.run.now.sessions.now string_bytes));
+    })
     record {
       stays = c.admitted_stays_within.ensures;
       own = c.a_history_admits_what_sessions_do.ensures;
@@ -38,6 +45,6 @@ returns-in-Ok-open_sessions g c =
 
 pub returns-in-Err-open_sessions : goal.returns-in-Err-open_sessions
 returns-in-Err-open_sessions g c =
-    unopened (run_value c.args.run.now) c.args.limits.now _ _ _ _ _ _ _
+    unopened (run_value c.args.run.now) c.requires.limits.file _ _ _ _ _ _ _
     c.in-Err-open_sessions.status
-    c.requires.limits c.in-Err-open_sessions.ensures.err
+    c.requires.limits.file_is c.in-Err-open_sessions.ensures.err
