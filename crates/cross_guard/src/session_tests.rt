@@ -463,17 +463,18 @@ fn stream_of(alloc: Global, rows: &[Row], passed_alone: bool) -> Result<Vec<u8>,
     Ok(bytes)
 }
 
-/// A session's ports: what it reads, from a buffer of so many bytes a call.
-fn source_of(alloc: Global, rows: &[Row]) -> Result<MemSource, Fail> {
+/// What a session reads, at most 100 bytes a call, of which these fail.
+fn source_of(alloc: Global, rows: &[Row], failing: Vec<u64>) -> Result<MemSource, Fail> {
     Ok(MemSource::new(
         stream_of(alloc, rows, false)?,
         100,
-        Vec::new(alloc),
+        failing,
     ))
 }
 
-fn sink(alloc: Global) -> MemSink {
-    MemSink::new(alloc, 1_000, Vec::new(alloc))
+/// An output, of whose calls these fail.
+fn sink(alloc: Global, failing: Vec<u64>) -> MemSink {
+    MemSink::new(alloc, 1_000, failing)
 }
 
 /// A session of a plain board that has ended.
@@ -504,20 +505,34 @@ fn compare(
     Ok(())
 }
 
+/// What a session reads from and writes to.
+#[derive(Drop)]
+struct Ports {
+    source: MemSource,
+    pass: MemSink,
+    client: MemSink,
+}
+
+/// Ports of which no call fails.
+fn ports_of(alloc: Global, rows: &[Row]) -> Result<Ports, Fail> {
+    Ok(Ports {
+        source: source_of(alloc, rows, Vec::new(alloc))?,
+        pass: sink(alloc, Vec::new(alloc)),
+        client: sink(alloc, Vec::new(alloc)),
+    })
+}
+
 /// Runs a session over these limits with a board of its own.
-fn runs(rt: &impl Abort, alloc: Global, limits: &Limits, rows: &[Row]) -> Result<Ended, Fail> {
+fn runs(rt: &impl Abort, alloc: Global, limits: &Limits, ports: Ports) -> Result<Ended, Fail> {
     assert!(rt; limits.quota() <= QUOTA, "a quota in range");
     let trees = limits.symbols().len().max(1) as u32;
     let hand = PlainBoard::<Cross>::open(alloc, trees, 1, limits.quota())?.hand(0);
-    Ok(run_cross(
-        alloc,
-        0,
-        limits,
-        hand,
-        source_of(alloc, rows)?,
-        sink(alloc),
-        sink(alloc),
-    ))
+    let Ports {
+        source,
+        pass,
+        client,
+    } = ports;
+    Ok(run_cross(alloc, 0, limits, hand, source, pass, client))
 }
 
 /// Runs a session over the limits of this file, and compares it with the rows.
@@ -530,7 +545,7 @@ fn runs_as(
 ) -> Result<Ended, Fail> {
     match read_limits(alloc, file) {
         Ok(limits) => {
-            let done = runs(rt, alloc, &limits, rows)?;
+            let done = runs(rt, alloc, &limits, ports_of(alloc, rows)?)?;
             compare(rt, alloc, name, rows, &done)?;
             Ok(done)
         }
@@ -617,4 +632,77 @@ fn all_else_is_passed(rt: HostRuntime) -> Result<(), Fail> {
     let done = runs_as(&rt, alloc, "without a symbol", NONE, &PASSED_ON)?;
     assert!(rt; done.client.bytes().is_empty(), "nothing to the client");
     Ok(())
+}
+
+/// A session that has a sell at 10.00.
+const SELLS: [Row; 1] = [("a sell alone", Comes::Order("a1", SELL, AT_10, 10), true, &[434_287])];
+
+/// Buys of a session while another has a sell at 10.00.
+const BUYS_AGAINST_IT: [Row; 2] = [
+    (
+        "a buy at the other's price",
+        Comes::Order("a1", BUY, AT_10, 10),
+        false,
+        &[47_186_444_288, 0],
+    ),
+    (
+        "a buy below it",
+        Comes::Order("a2", BUY, AT_9_99, 10),
+        true,
+        &[47_134_015_488],
+    ),
+];
+
+#[test]
+fn orders_that_cross_another_sessions_are_refused(rt: HostRuntime) -> Result<(), Fail> {
+    let alloc = rt.alloc();
+    let Ok(limits) = read_limits(alloc, XYZ) else {
+        return Err("no limits")?;
+    };
+    assert!(&rt; limits.quota() <= QUOTA, "a quota in range");
+    let trees = limits.symbols().len().max(1) as u32;
+    let board = PlainBoard::<Cross>::open(alloc, trees, 2, limits.quota())?;
+    let ports = ports_of(alloc, &SELLS)?;
+    let first = run_cross(
+        alloc, 0, &limits, board.hand(0), ports.source, ports.pass, ports.client,
+    );
+    compare(&rt, alloc, "the first session", &SELLS, &first)?;
+    let ports = ports_of(alloc, &BUYS_AGAINST_IT)?;
+    let hand = first.hand.give_back().hand(1);
+    let second = run_cross(
+        alloc, 1, &limits, hand, ports.source, ports.pass, ports.client,
+    );
+    compare(&rt, alloc, "the second session", &BUYS_AGAINST_IT, &second)
+}
+
+/// What a session of a sell and a buy at its price does where the ports fail.
+fn ends_by(
+    rt: &impl Abort,
+    alloc: Global,
+    name: &str,
+    ports: Ports,
+    end: End,
+    acts: usize,
+) -> Result<(), Fail> {
+    let Ok(limits) = read_limits(alloc, XYZ) else {
+        return Err("no limits")?;
+    };
+    let done = runs(rt, alloc, &limits, ports)?;
+    assert_eq!(rt; done.end, end, "{name}: the end");
+    assert_eq!(rt; done.acts.len(), acts, "{name}: as many acts");
+    Ok(())
+}
+
+#[test]
+fn sessions_end_by_their_ports(rt: HostRuntime) -> Result<(), Fail> {
+    let alloc = rt.alloc();
+    let mut ports = ports_of(alloc, &SELL_THEN_BUYS)?;
+    ports.source = source_of(alloc, &SELL_THEN_BUYS, [0].to_vec(alloc)?)?;
+    ends_by(&rt, alloc, "the first read fails", ports, End::ReadFault, 1)?;
+    let mut ports = ports_of(alloc, &SELL_THEN_BUYS)?;
+    ports.pass = sink(alloc, [0].to_vec(alloc)?);
+    ends_by(&rt, alloc, "the sell can't be passed", ports, End::WriteFault, 4)?;
+    let mut ports = ports_of(alloc, &SELL_THEN_BUYS)?;
+    ports.client = sink(alloc, [0].to_vec(alloc)?);
+    ends_by(&rt, alloc, "the buy can't be refused", ports, End::WriteFault, 8)
 }
