@@ -22,3 +22,4 @@ pub mod Writes
 pub mod Bands
 pub mod NamePlaces
 pub mod MessageKinds
+pub mod Taken

@@ -1,7 +1,7 @@
 -- A call on the hand, told as the next act, keeps the acts in step with it.
 use Rattle.std.proofs.Common.{◌≡◌, ℕ, ◌+◌, ◌-◌, ◌<◌, ◌≤◌, ◌==◌, List, length, [], ◌∷◌, ◌++◌, refl, sym, ap, ◌∙◌}
 use Rattle.std.proofs.Common.{arith, subst, cond, fold, Bool, true, false}
-use Rattle.std.specs.Prelude.{slice_set}
+use Rattle.std.specs.Prelude.{nat_lt, slice_set}
 use Rattle.std.specs.List.{slice_index_or}
 use Rattle.std.proofs.lemmas.Bool.{eqb-true}
 use Rattle.std.proofs.lemmas.List.{append-nil, length-set}
@@ -16,9 +16,11 @@ use Rattle.admit_core.specs.Tapes.{IsNoCall}
 use Rattle.admit_core.proofs.ActLemmas.{last_post-append}
 use Rattle.admit_core.proofs.Noted.{quiet_last}
 use Rattle.cross_guard.proofs.Writes.{set_at, cond_within}
-use Rattle.cross_guard.specs.Guarding.{last_call, with_calls}
-use Rattle.cross_guard.specs.Halves.{cross_cap}
+use Rattle.cross_guard.specs.Guarding.{CanGuard, is_spent, last_call, with_calls}
+use Rattle.cross_guard.specs.Halves.{cross_cap, cross_join}
+use Rattle.cross_guard.specs.HalvesLaws.{halves-le, lower-join, upper-join}
 use Rattle.cross_guard.specs.Told.{InStep}
+use Rattle.cross_guard.proofs.Capped.{join_capped}
 use Rattle.cross_guard.proofs.CallsTold.{calls_of-append, post_count-of, last_call-of}
 
 -- an act that is no call tells none
@@ -47,6 +49,25 @@ module _ (hand : HandValue) (quota : ℕ) (acts : List Act) (lasts : List ℕ)
   pub made_is : (tree : ℕ) → posts_in tree acts ≤ quota → (left : ℕ)
       → left ≡ hand.quota - post_count tree hand.calls → quota - left ≡ posts_in tree acts
   made_is tree some left is = omega (arith, is ∙ left_same tree, some)
+
+  -- the acts tell whether too few posts are left
+  pub spent_same : (tree : ℕ) → is_spent hand tree ≡ nat_lt quota (posts_in tree acts + 2)
+  spent_same tree = rw (step.quota_is, count_same tree) refl
+
+  -- an order's value can be put to the guard
+  pub can_guard : (tree old new value : ℕ) → tree < length lasts → value ≤ cross_cap
+      → 3 ≤ hand.spare → old ≡ slice_index_or lasts tree 0 → new ≡ cross_join old value
+      → CanGuard hand tree old new
+  can_guard tree old new value inside most spare is joined =
+      let low : old ≤ cross_cap = omega (arith, is, step.capped tree) in
+      record {
+        in_range = omega (arith, inside, step.trees);
+        last = is ∙ step.lasts_are tree inside ∙ sym (last_same tree);
+        rises = rw joined (halves-le old (cross_join old value)
+            (omega (arith, upper-join old value)) (omega (arith, lower-join old value)));
+        capped = omega (arith, joined, join_capped old value low most, step.cap);
+        spare = spare;
+      }
 
   -- more acts, which tell the calls that were made, and what is kept after them
   pub next : (more : List Act) (after : HandValue) (lasts_after : List ℕ) → after.trees ≡ hand.trees

@@ -12,7 +12,7 @@ use Rattle.cross_guard.specs.Session.{Guarded}
 
 -- how many trees there are: one for each symbol, and one where there is none
 abbrev pub cross_trees : LimitsValue → ℕ
-cross_trees limits = max 1 (length limits.symbols)
+cross_trees limits = max (length limits.symbols) 1
 
 -- a hand on the trees of the symbols, with the quota of the limits
 pub record IsCrossHand (limits : LimitsValue) (hand : HandValue) : Type 0 where
