@@ -1,5 +1,5 @@
 -- What was done of a frame is what the session function says of it.
-use Rattle.std.proofs.Common.{◌≡◌, ℕ, zero, suc, ◌+◌, ◌<◌, List, [], ◌∷◌, ◌++◌, length, refl, sym, ap, ◌∙◌, subst, arith}
+use Rattle.std.proofs.Common.{◌≡◌, ℕ, zero, suc, ◌+◌, ◌<◌, List, [], ◌∷◌, ◌++◌, length, refl, sym, ap, ◌∙◌, subst, arith, inl}
 use Rattle.std.specs.Prelude.{Option, Some, None, IfSome, slice_get}
 use Rattle.std.specs.List.{slice_index_or}
 use Rattle.fix_fields.specs.Fields.{FieldValue}
@@ -12,14 +12,15 @@ use Rattle.frame_run.specs.Frames.{FrameIn, text_in as text_at}
 use Rattle.cross_guard.specs.declared.guarding.CrossVerdict.{CrossVerdict}
 use Rattle.cross_guard.specs.declared.guarding.CrossVerdict.TheVariants as verdict
 use Rattle.cross_guard.specs.Answering.{PassesOn, Refuses, Sends, settled_by}
-use Rattle.cross_guard.specs.Crossing.{Crossing, StandsAs, TakesFront, TakesSound, kept_of, with_reads}
+use Rattle.cross_guard.specs.Crossing.{Crossing, StandsAs, TakesFrom, TakesFront, TakesSound, kept_of}
+use Rattle.cross_guard.specs.Crossing.{with_reads}
 use Rattle.cross_guard.specs.Resting.{RestingValue, symbol_with}
 use Rattle.cross_guard.specs.Session.{CrossSession, Wording, after_content, after_guarding, code_of}
-use Rattle.cross_guard.specs.Session.{guarding}
+use Rattle.cross_guard.specs.Session.{after_frame, guarding}
 use Rattle.cross_guard.specs.Told.{Asks, AsksUnder, IsOver, Placing, ToldValue, with_places}
 use Rattle.cross_guard.proofs.Asked.{settled_placed}
-use Rattle.cross_guard.proofs.Contents.{Content, content_refused, content_sent}
-use Rattle.cross_guard.proofs.Taking.{done_so_far, passes_taken, refuses_taken, sends_taken}
+use Rattle.cross_guard.proofs.Contents.{Content, content_refused, content_sent, content_unsound}
+use Rattle.cross_guard.proofs.Taking.{done_so_far, from_passed, passes_taken, refuses_taken, sends_taken}
 
 module _ {H : Type 0} (sound : FrameIn) (before now : Crossing H) (given failed : Type 0) where
   abbrev text : List ℕ
@@ -116,6 +117,27 @@ module _ {H : Type 0} (sound : FrameIn) (before now : Crossing H) (given failed 
         (content_refused limits text session fields wording tree value (added session.orders)
         (with_places place told.acts) why (λ more. is fields has (with_reads more session))
         (asked place session stands) other))
+
+-- a frame that isn't sound was passed on
+pub unsound_taken : {H : Type 0} (limits : LimitsValue) (text : List ℕ) (before now : Crossing H)
+    (given failed : Type 0) → PassesOn text given failed before now
+    → TakesFront (TakesFrom (after_frame limits text None)) given failed before now
+unsound_taken {H} limits text before now given failed passes = record {
+  pass = passes.pass;
+  client = before.client.held;
+  taken = from_passed limits text None before before.told before.orders now given failed passes
+      (λ place session stands.
+      let C : List Act → List RestingValue → Type 0 = λ a o.
+      Content limits text None session a o (Some text) None in
+      subst (λ a. C a before.orders) stands.acts_are
+      (subst (λ o. C session.acts o) stands.orders_are (content_unsound limits text session)));
+  frames_are = ap (λ (r : Crossing H). r.frames) passes.others;
+  gives = inl (
+    passes.gives,
+    ap (λ (r : Crossing H). r.client.held) passes.others,
+    ap (λ (r : Crossing H). r.refused) passes.others,
+  );
+}
 
 -- a place of the limits' rows has a row
 pub some_row : {A : Type 0} (rows : List A) (place : ℕ) → place < length rows

@@ -67,6 +67,22 @@ module _ {H : Type 0} (Same : H → H → Type 0) where
     client_is = later_sink _ _ _ one.client_is two.client_is;
   }
 
+  -- at most so many acts are at most more
+  pub continues_most : (a b : Crossing H) (acts most : ℕ) → Continues Same a b acts → acts ≤ most
+      → Continues Same a b most
+  continues_most a b acts most one few = record {
+    limits_are = one.limits_are;
+    told_is = record {
+      trees_are = one.told_is.trees_are;
+      quota_is = one.told_is.quota_is;
+      hand_is = one.told_is.hand_is;
+      room = omega (arith, one.told_is.room, few);
+      few = omega (arith, one.told_is.few, few);
+    };
+    pass_is = one.pass_is;
+    client_is = one.client_is;
+  }
+
   -- so many frames were taken, and then so many more
   pub continues_next : ((a b c : H) → Same a b → Same b c → Same a c) → (a b c : Crossing H)
       → (one two : ℕ) → Continues Same a b (frame_acts * one)
