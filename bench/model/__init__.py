@@ -6,4 +6,8 @@ screens     the program's three screens     answers     the messages that are wr
 session     one session: input and reads in, acts and two streams out
 journal     the text of a journal, read     judge       whether a run is legal, and the model's,
                                                         also of sessions that ended early
+check       which fault a journal has first     cross, cross_judge      a guard against crossing orders
+desk, desk_judge    limits that officers change while sessions run
+
+No command has the last two yet: what they do is said where they stand.
 """

@@ -22,6 +22,7 @@ REFUSALS = {
     "Pending": Refusal(13, None, 3, b"PENDING"),
     "Mismatch": Refusal(14, None, 2, b"MISMATCH"),
     "Quantity": Refusal(15, None, 2, b"QUANTITY"),
+    "Desk": Refusal(18, None, 2, b"DESK"),
 }
 FIELD_FAULT = 16
 AS_WRITTEN = (35, 49, 56, 34, 52)

@@ -4,6 +4,11 @@ from .limits import Limits
 from .session import marks_of, run_session
 
 
+# The root over no post, and what joins values, by fold.
+UNITS = {"sum": 0, "max": 0, "min": 2 ** 38 - 1}
+FOLDS = {"max": max, "min": min}
+
+
 class Wrong(Exception):
     """What is wrong with a run."""
 
@@ -16,14 +21,14 @@ def demand(holds, *what):
 
 def walk(lines, sessions, fold):
     """The array behind each number of lines, as (own posts of each session, root)."""
-    array, counts = [0] * sessions, [0] * sessions
-    root = 0
+    root = UNITS[fold]
+    array, counts = [root] * sessions, [0] * sessions
     yield counts, root, None
     for session, index, value in lines:
         counts[session] += 1
         demand(index == counts[session], "a session's posts aren't in their order", session, index)
         old, array[session] = array[session], value
-        root = root - old + value if fold == "sum" else max(array)
+        root = root - old + value if fold == "sum" else FOLDS[fold](array)
         yield counts, root, session
 
 

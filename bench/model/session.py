@@ -222,7 +222,11 @@ def take_frames(session, data):
 
 def run_session(limits, data, reads, screens=None):
     """Takes a whole input. The session, with its acts and streams, and its end as (word, place)."""
-    session = Session(limits, own_screens(limits) if screens is None else screens, reads)
+    return take_all(Session(limits, own_screens(limits) if screens is None else screens, reads), data)
+
+
+def take_all(session, data):
+    """Takes a whole input by a session. The session, and its end as (word, place)."""
     word, place = yield_of(take_frames(session, data[:INPUT_MOST]))
     if len(data) > INPUT_MOST and word in ("whole", "cut"):
         word, place = "long", INPUT_MOST if word == "whole" else place

@@ -91,9 +91,7 @@ fn racing_sessions(alloc: Global, count: u32) -> Result<Empties, Fail> {
 }
 
 #[test]
-fn of_many_with_one_symbol_at_most_one_gets_what_one_may_have(
-    rt: HostRuntime,
-) -> Result<(), Fail> {
+fn of_many_with_one_symbol_at_most_one_gets_what_one_may_have(rt: HostRuntime) -> Result<(), Fail> {
     let alloc = rt.alloc();
     let forward = bytes_of(alloc, &[Piece::Whole(BUY_SENT)])?;
     let mut racing = racing_sessions(alloc, 64)?;

@@ -1,5 +1,5 @@
 -- Which texts are limit files, which limits they hold, and otherwise which fault is the first.
-use Rattle.std.specs.Prelude.{◌≡◌, ℕ, ◌+◌, ◌<◌, ◌≤◌, ◌⊎◌, List, [], ◌∷◌, ◌++◌, length, Some, None}
+use Rattle.std.specs.Prelude.{◌≡◌, ℕ, ◌<◌, ◌≤◌, ◌⊎◌, List, [], ◌∷◌, ◌++◌, length, Some, None}
 use Rattle.std.specs.Prelude.{Err, IsOk}
 use Rattle.csv.specs.Reading.{Reached, AreRecords, default_config, strip_bom}
 use Rattle.csv.specs.declared.parser.State.{State}
