@@ -20,7 +20,7 @@ use Rattle.risk_journal.specs.declared.acts.Act.TheVariants.{Post, Sent, Refused
 use Rattle.risk_journal.specs.ActLists.{SeenAt, reads_of, last_post, posts_in}
 use Rattle.admit_core.specs.Tapes.{Tape, tape}
 use Rattle.admit_core.proofs.ActLemmas.{reads_of-append}
-use Rattle.frame_run.specs.Giving.{with_message}
+use Rattle.cross_guard.specs.Giving.{with_message}
 use Rattle.cross_guard.specs.declared.guarding.CrossVerdict.{CrossVerdict}
 use Rattle.cross_guard.specs.declared.guarding.CrossVerdict.TheVariants as verdict
 use Rattle.cross_guard.specs.Crossing.{with_reads}

@@ -23,3 +23,5 @@ pub mod Bands
 pub mod NamePlaces
 pub mod MessageKinds
 pub mod Taken
+pub mod Fronts
+pub mod Appending

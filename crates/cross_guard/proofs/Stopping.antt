@@ -17,10 +17,10 @@ use Rattle.risk_journal.specs.ActLists.{SeenAt, placed_by, reads_of}
 use Rattle.admit_core.proofs.ActLemmas.{reads_of-append}
 use Rattle.frame_run.specs.Ends.{IsByInput, input_most}
 use Rattle.frame_run.specs.Frames.{text_of}
-use Rattle.frame_run.specs.Giving.{GivesFront, between_by, between_same}
+use Rattle.cross_guard.specs.Giving.{GivesFront, between_by, between_same}
 use Rattle.frame_run.specs.Sinks.{SinkValue}
 use Rattle.frame_run.specs.Taking.{SplitsTo, StopsBy, TakesSource}
-use Rattle.frame_run.proofs.Appending.{Got, appends_none, got_front, got_whole}
+use Rattle.cross_guard.proofs.Appending.{Got, appends_none, got_front, got_whole}
 use Rattle.frame_run.proofs.Fetches.{consumes_none}
 use Rattle.cross_guard.specs.Crossing.{Crossing, GivesOne, StoppedBy, StoppedFrames, Takes, TakesFrom}
 use Rattle.cross_guard.specs.Crossing.{TookBy, TookFrames, kept_of, with_reads}

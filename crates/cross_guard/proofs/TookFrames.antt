@@ -13,9 +13,9 @@ use Rattle.risk_journal.specs.ActLists.{SeenAt, placed_by, reads_of}
 use Rattle.admit_core.proofs.ActLemmas.{reads_of-append}
 use Rattle.frame_run.specs.Ends.{input_most}
 use Rattle.frame_run.specs.Frames.{text_of}
-use Rattle.frame_run.specs.Giving.{text_in}
+use Rattle.cross_guard.specs.Giving.{text_in}
 use Rattle.frame_run.specs.Taking.{TakesInput, TakesSource}
-use Rattle.frame_run.proofs.Appending.{appends_next, appends_none, concat-with}
+use Rattle.cross_guard.proofs.Appending.{appends_next, appends_none, concat-with}
 use Rattle.cross_guard.specs.Covering.{Covers}
 use Rattle.cross_guard.specs.Crossing.{Crossing, IsOpened, TakesFrom, TookBy, TookFrames, kept_of}
 use Rattle.cross_guard.specs.Crossing.{with_reads}

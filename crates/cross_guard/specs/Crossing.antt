@@ -17,7 +17,7 @@ use Rattle.risk_journal.specs.declared.acts.Act.{Act}
 use Rattle.risk_journal.specs.ActLists.{SeenAt, reads_of}
 use Rattle.frame_run.specs.Ends.{input_most}
 use Rattle.frame_run.specs.Frames.{FrameIn, text_in as text_at}
-use Rattle.frame_run.specs.Giving.{GivesFront, with_message, text_in}
+use Rattle.cross_guard.specs.Giving.{GivesFront, with_message, text_in}
 use Rattle.frame_run.specs.Sinks.{SinkValue, IsLaterSink}
 use Rattle.cross_guard.specs.Follows.{session_with, HasGiven, FailsLast}
 use Rattle.cross_guard.specs.Resting.{RestingValue}

@@ -15,7 +15,7 @@ use Rattle.risk_journal.specs.declared.acts.End.{End}
 use Rattle.risk_journal.specs.declared.acts.End.TheVariants as ending
 use Rattle.risk_journal.specs.ActLists.{SeenAt, reads_of}
 use Rattle.frame_run.specs.Ends.{EndsBy, IsByInput, input_most}
-use Rattle.frame_run.specs.Giving.{IsBetween}
+use Rattle.cross_guard.specs.Giving.{IsBetween}
 use Rattle.frame_run.specs.Sinks.{SinkValue}
 use Rattle.frame_run.specs.Taking.{SplitsTo}
 use Rattle.cross_guard.specs.Covering.{Covers}

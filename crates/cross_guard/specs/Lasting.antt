@@ -9,7 +9,7 @@ use Rattle.gate_ports.specs.declared.ports.PortFault.TheVariants as fault
 use Rattle.risk_journal.specs.declared.acts.End.{End}
 use Rattle.risk_journal.specs.declared.acts.End.TheVariants as ending
 use Rattle.risk_journal.specs.ActLists.{reads_of}
-use Rattle.frame_run.specs.Giving.{between_by, between_same}
+use Rattle.cross_guard.specs.Giving.{between_by, between_same}
 use Rattle.frame_run.specs.Sinks.{SinkValue, IsLaterSink}
 use Rattle.cross_guard.specs.Crossing.{Crossing, Continues, TookBy, TookFrames, StoppedFrames, frame_acts}
 use Rattle.cross_guard.specs.Crossing.{with_reads}

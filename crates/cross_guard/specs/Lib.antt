@@ -14,3 +14,5 @@ pub mod Crossing
 pub mod Answering
 pub mod Added
 pub mod Lasting
+pub mod Giving
+pub mod Ended

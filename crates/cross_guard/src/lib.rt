@@ -10,6 +10,7 @@
 #![tactic(auto)]
 
 mod cross;
+mod giving;
 mod guarding;
 mod laws;
 mod level;

@@ -1,6 +1,6 @@
 //! A session from its first frame to its end.
 ghost use Rattle.std.specs.Prelude.{◌≡◌, ◌^◌, ◌<◌, [], ◌∷◌, ◌++◌, length, vec_capacity};
-ghost use Rattle.frame_run.specs.Ended.{EndsAs, EndsWith, IsSourceDone};
+ghost use Rattle.cross_guard.specs.Ended.{EndsAs, EndsWith, IsSourceDone};
 ghost use Rattle.frame_run.specs.Sinks.{sink_of};
 ghost use Rattle.risk_journal.specs.ActLists.{calls_of};
 ghost use Rattle.cross_guard.specs.Follows.{Follows};

@@ -8,12 +8,13 @@ ghost use Rattle.cross_guard.specs.Answering.{CanRefuse, PassesOn, Refuses, Send
 ghost use Rattle.cross_guard.specs.Answering.{stamp_to};
 ghost use Rattle.cross_guard.specs.Session.{code_of, order_refusal, replace_refusal, text_of};
 
+use crate::giving::give_written;
 use crate::guarding::CrossVerdict;
 use crate::orders::RestingOrders;
 use crate::told::ToldHand;
 use fix_fields::Writer;
 use fix_orders::{Head, NewOrder, Replace, Stamp, write_reject_cancel, write_reject_order};
-use frame_run::{SoundFrame, give_written};
+use frame_run::SoundFrame;
 use gate_ports::{PortFault, Sink, give_all};
 use limit_table::Limits;
 use risk_board::Hand;

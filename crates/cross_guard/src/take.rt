@@ -11,6 +11,7 @@ ghost use Rattle.cross_guard.specs.Answering.{settled_by};
 ghost use Rattle.cross_guard.specs.Session.{symbol_place};
 ghost use Rattle.cross_guard.specs.Told.{IsAfter, cross_trees};
 
+use crate::giving::{frame_text, sound_text};
 use crate::guarding::CrossVerdict;
 use crate::level::cross_value;
 use crate::session::CrossSession;
@@ -20,7 +21,7 @@ use fix_fields::{Frame, IdText};
 use fix_orders::{
     Cancel, CancelReject, Message, NewOrder, OrderKind, Replace, Report, read_message,
 };
-use frame_run::{SoundFrame, TakesFrames, frame_text};
+use frame_run::{SoundFrame, TakesFrames};
 use gate_ports::{PortFault, Sink};
 use limit_table::Limits;
 use risk_board::Hand;
@@ -73,14 +74,14 @@ impl<'a, H: Hand, P: Sink, C: Sink> CrossSession<'a, H, P, C> {
             (IsErrOf result PortFault.Failed) result self.old self.new }
     {
         let Some(tree) = tree_of(self.limits, &order.symbol) else {
-            return self.pass_on(sound.text());
+            return self.pass_on(sound_text(sound));
         };
         let value = value_at(self.limits, tree, order.side, order.kind, order.price);
         if self.orders.add(self.alloc, tree, order, value).is_err() {
             return Err(PortFault::Memory);
         }
         match self.told.ask(tree, value) {
-            CrossVerdict::Sent => self.send(sound.text()),
+            CrossVerdict::Sent => self.send(sound_text(sound)),
             why => {
                 self.orders.take_back(Added::Order);
                 self.refuse_order(sound, order, why)
@@ -101,14 +102,14 @@ impl<'a, H: Hand, P: Sink, C: Sink> CrossSession<'a, H, P, C> {
             (IsErrOf result PortFault.Failed) result self.old self.new }
     {
         let Some(tree) = tree_of(self.limits, &replace.symbol) else {
-            return self.pass_on(sound.text());
+            return self.pass_on(sound_text(sound));
         };
         let value = value_at(self.limits, tree, replace.side, replace.kind, replace.price);
         let Ok(added) = self.orders.replace(self.alloc, tree, replace, value) else {
             return Err(PortFault::Memory);
         };
         match self.told.ask(tree, value) {
-            CrossVerdict::Sent => self.send(sound.text()),
+            CrossVerdict::Sent => self.send(sound_text(sound)),
             why => {
                 self.orders.take_back(added);
                 self.refuse_replace(sound, replace, why)
@@ -127,7 +128,7 @@ impl<'a, H: Hand, P: Sink, C: Sink> CrossSession<'a, H, P, C> {
         if self.orders.cancel(cancel).is_err() {
             return Err(PortFault::Memory);
         }
-        self.pass_on(sound.text())
+        self.pass_on(sound_text(sound))
     }
 
     /// Takes an execution report (8): it is applied, what rests is posted where that is less, and it is
@@ -140,11 +141,11 @@ impl<'a, H: Hand, P: Sink, C: Sink> CrossSession<'a, H, P, C> {
             (IsErrOf result PortFault.Failed) result self.old self.new }
     {
         let Some(id) = &report.id else {
-            return self.pass_on(sound.text());
+            return self.pass_on(sound_text(sound));
         };
         let tree = self.orders.report(id, report.exec);
         settle(&mut self.told, &self.orders, tree);
-        self.pass_on(sound.text())
+        self.pass_on(sound_text(sound))
     }
 
     /// Takes a cancel reject (9), as a report.
@@ -161,7 +162,7 @@ impl<'a, H: Hand, P: Sink, C: Sink> CrossSession<'a, H, P, C> {
     {
         let tree = self.orders.reject(&reject.id);
         settle(&mut self.told, &self.orders, tree);
-        self.pass_on(sound.text())
+        self.pass_on(sound_text(sound))
     }
 
     /// Takes a sound frame.
@@ -177,9 +178,9 @@ impl<'a, H: Hand, P: Sink, C: Sink> CrossSession<'a, H, P, C> {
             Ok(Message::Replace(replace)) => self.take_replace(sound, &replace),
             Ok(Message::Report(report)) => self.take_report(sound, &report),
             Ok(Message::CancelReject(reject)) => self.take_cancel_reject(sound, &reject),
-            Ok(Message::Admin) => self.pass_on(sound.text()),
-            Ok(Message::Other) => self.pass_on(sound.text()),
-            Err(_) => self.pass_on(sound.text()),
+            Ok(Message::Admin) => self.pass_on(sound_text(sound)),
+            Ok(Message::Other) => self.pass_on(sound_text(sound)),
+            Err(_) => self.pass_on(sound_text(sound)),
         }
     }
 }

@@ -3,5 +3,3 @@ pub mod Ends
 pub mod Frames
 pub mod Sinks
 pub mod Taking
-pub mod Ended
-pub mod Giving

@@ -1,18 +1,10 @@
-//! The bytes of a frame, and a sound frame with the bytes that it stands in.
+//! A sound frame with the bytes that it stands in.
 ghost use Rattle.std.specs.Prelude.{◌≡◌, IfSome, IfNone, IsSome, true, false};
 ghost use Rattle.fix_fields.specs.Places.{IsSoundIn};
-ghost use Rattle.frame_run.specs.Frames.{IsSomeFrame, IsFrameIn, StandsIn, text_in};
+ghost use Rattle.frame_run.specs.Frames.{IsSomeFrame, IsFrameIn};
 
 use fix_fields::Frame;
 use std::marker::Model;
-
-/// The bytes of a frame.
-pub fn frame_text<'a>(bytes: &'a [u8], frame: &Frame) -> &'a [u8]
-    requires { StandsIn bytes.now frame.now }
-    ensures { result.now ≡ text_in bytes.now frame.now }
-{
-    &bytes[frame.start..frame.end]
-}
 
 /// A frame that is sound in its bytes. Contracts see both.
 #[derive(Drop)]
@@ -64,12 +56,5 @@ impl<'a> SoundFrame<'a> {
         ensures sound { IsSoundIn self.now.bytes self.now.frame }
     {
         &self.frame
-    }
-
-    /// The frame's own bytes.
-    pub fn text(&self) -> &'a [u8]
-        ensures { result.now ≡ text_in self.now.bytes self.now.frame }
-    {
-        frame_text(self.bytes, &self.frame)
     }
 }

@@ -8,12 +8,10 @@
 mod ahead;
 mod end;
 mod frame;
-mod giving;
 mod taking;
 
 pub use end::{INPUT_MOST, end_by};
-pub use frame::{SoundFrame, frame_text};
-pub use giving::give_written;
+pub use frame::SoundFrame;
 pub use taking::{TakesFrames, take_input};
 
 #[cfg(test)]

@@ -1,10 +1,11 @@
 -- A session that stopped early did what the session function says of its first frames.
-use Rattle.std.proofs.Common.{◌≡◌, ℕ, ◌+◌, ◌≤◌, List, [], ◌∷◌, ◌++◌, length, map, take, refl, sym}
+use Rattle.std.proofs.Common.{◌≡◌, ℕ, ◌+◌, ◌≤◌, List, [], ◌∷◌, ◌++◌, length, map, take, drop, refl, sym}
 use Rattle.std.proofs.Common.{ap, ◌∙◌, subst, arith, inl, inr}
 use Rattle.std.specs.Prelude.{Option, Some, None, ◌⊎◌}
 use Rattle.std.specs.List.{concat}
 use Rattle.std.specs.Io.KnownBytes.{Appends}
-use Rattle.std.proofs.lemmas.List.{append-nil, length-append, take_at}
+use Rattle.std.proofs.lemmas.List.{append_assoc, append-nil, length-append, take_at}
+use Rattle.std.proofs.lemmas.List.{take-append-drop, append_cancel_left}
 use Rattle.fix_fields.specs.Frames.{FrameValue}
 use Rattle.gate_ports.specs.Faults.{Rose}
 use Rattle.gate_ports.specs.declared.ports.PortFault.{PortFault}
@@ -19,20 +20,75 @@ use Rattle.risk_journal.specs.ActLists.{SeenAt, reads_of}
 use Rattle.screen_kit.specs.Screens.{ScreenValue}
 use Rattle.frame_run.specs.Sinks.{SinkValue}
 use Rattle.frame_run.specs.Taking.{SplitsTo, StopsBy, TakesSource}
-use Rattle.frame_run.proofs.Appending.{Got, got_front, got_whole}
 use Rattle.frame_run.proofs.Fetches.{consumes_none}
-use Rattle.session_engine.specs.Follows.{Follows, IsByInput, StopsBehind, StopsSource}
+use Rattle.session_engine.specs.Follows.{Follows, IsByInput, IsBetween, StopsBehind, StopsSource}
 use Rattle.session_engine.specs.Follows.{HasGiven}
 use Rattle.session_engine.specs.Follows.{FailsLast, DoesNothing, input_most, session_of, session_with}
 use Rattle.session_engine.specs.Later.{rose_later}
 use Rattle.session_engine.specs.Reaches.{with_reads}
 use Rattle.session_engine.specs.Running.{Running, kept_of, GivesNext, TookFrames, StoppedFrames}
 use Rattle.session_engine.specs.Session.{SessionValue, after_frame}
-use Rattle.session_engine.specs.Taken.{GivesFront, TakesFrom, Takes}
+use Rattle.session_engine.specs.Taken.{GivesFront, TakesFrom, Takes, with_message, text_in}
 use Rattle.session_engine.proofs.CoverLemmas.{covers_orders}
-use Rattle.session_engine.proofs.RunLemmas.{appends_none, took_next}
+use Rattle.session_engine.proofs.RunLemmas.{appends_next, appends_none, concat-with, took_next}
 use Rattle.session_engine.proofs.RunLemmas.{follows_source}
 use Rattle.session_engine.specs.Stopped.{between_by, between_same, session_by}
+
+-- a front of a piece is a front of whatever the piece is
+front_text : (held whole held_after : Option (List ℕ)) (piece text : List ℕ) (count : ℕ)
+    → Appends held whole piece → Appends held whole text
+    → Appends held held_after (take count piece) → Appends held held_after (take count text)
+front_text None whole held_after piece text count would says got = tt
+front_text (Some xs) None held_after piece text count would says got = absurd would
+front_text (Some xs) (Some ys) None piece text count would says got = absurd got
+front_text (Some xs) (Some ys) (Some zs) piece text count would says got =
+    let same : piece ≡ text = append_cancel_left xs piece text (sym would ∙ says) in
+    got ∙ ap (λ l. xs ++ take count l) same
+
+-- What a stream got of its messages.
+record Got (held held_after : Option (List ℕ)) (before after : List (List ℕ)) : Type 0 where
+  text : List ℕ
+  got : Appends held held_after text
+  between : IsBetween before after text
+
+-- all of them but a part of the last
+got_front : (given : Type 0) (start held held_after whole : Option (List ℕ))
+    (before after : List (List ℕ)) (message : Option (List ℕ))
+    → after ≡ with_message message before → Appends start held (concat before)
+    → Appends held whole (text_in message) → GivesFront given held held_after whole
+    → Got start held_after before after
+got_front given start held held_after whole before after message is has says front =
+    let text = text_in message in
+    let count = front.count in
+    let got = front_text held whole held_after front.piece text count front.would says front.got in
+    record {
+      text = concat before ++ take count text;
+      got = appends_next start held held_after (concat before) (take count text)
+          (concat before ++ take count text) has got refl;
+      between = record {
+        more = take count text;
+        rest = drop count text;
+        begins = refl;
+        within = ap concat is ∙ concat-with message before
+            ∙ ap (λ l. concat before ++ l) (sym (take-append-drop count text))
+            ∙ sym (append_assoc (concat before) (take count text) (drop count text));
+      };
+    }
+
+-- all of them
+abbrev got_whole : (start held_after whole : Option (List ℕ)) (before after : List (List ℕ))
+    (message : Option (List ℕ)) → after ≡ with_message message before
+    → Appends start whole (concat after) → held_after ≡ whole → Got start held_after before after
+got_whole start held_after whole before after message is has same = record {
+  text = concat after;
+  got = subst (λ h. Appends start h (concat after)) (sym same) has;
+  between = record {
+    more = text_in message;
+    rest = [];
+    begins = ap concat is ∙ concat-with message before;
+    within = sym (append-nil (concat after));
+  };
+}
 
 module _ {H M K : Type 0} (meaning : K → ScreenValue) where
   -- a frame more was taken, but for the end of its message

@@ -6,7 +6,6 @@ use Rattle.std.specs.Io.KnownBytes.{Appends}
 use Rattle.std.proofs.lemmas.List.{append-nil, length-append}
 use Rattle.exposure_book.specs.Books.{BookValue}
 use Rattle.fix_fields.specs.Fields.{FieldValue}
-pub use Rattle.frame_run.proofs.Appending.{appends_nothing}
 use Rattle.fix_orders.specs.declared.message.FieldFault.{FieldFault}
 use Rattle.fix_orders.specs.declared.message.Message.{Message}
 use Rattle.fix_orders.specs.Reading.{read_of}
@@ -23,6 +22,13 @@ use Rattle.session_engine.specs.Reaches.{with_reads, Steps}
 use Rattle.session_engine.specs.Taken.{Takes, TakesFrom, Kept, StandsAs, with_message, text_in}
 use Rattle.session_engine.specs.Trips.{firms_after}
 use Rattle.session_engine.proofs.TripLemmas.{firms_most}
+
+pub appends_nothing : (held held_after : Option (List ℕ)) → held_after ≡ held
+    → Appends held held_after []
+appends_nothing None held_after e = tt
+appends_nothing (Some bytes) held_after e =
+    let P : Option (List ℕ) → Type 0 = λ h. Appends (Some bytes) h [] in subst P (sym e)
+    (sym (append-nil bytes))
 
 -- a session that is counted further by one frame
 abbrev pub counted : ℕ → SessionValue → SessionValue

@@ -7,11 +7,29 @@ use Rattle.fix_fields.specs.Frames.{FrameValue}
 use Rattle.gate_ports.specs.declared.ports.PortFault.TheVariants as fault
 use Rattle.risk_journal.specs.ActLists.{reads_of}
 use Rattle.screen_kit.specs.Screens.{ScreenValue}
-pub use Rattle.frame_run.specs.Giving.{between_by, between_same}
-use Rattle.session_engine.specs.Follows.{session_with}
+use Rattle.session_engine.specs.Follows.{IsBetween, session_with}
 use Rattle.session_engine.specs.Reaches.{with_reads}
 use Rattle.session_engine.specs.Running.{Running, TookFrames, StoppedFrames}
 use Rattle.session_engine.specs.Session.{SessionValue}
+
+-- the same of messages that are these
+pub between_by : (before after others nexts : List (List ℕ)) (text : List ℕ) → others ≡ before
+    → nexts ≡ after → IsBetween before after text → IsBetween others nexts text
+between_by before after others nexts text same next b = record {
+  more = b.more;
+  rest = b.rest;
+  begins = b.begins ∙ ap (λ m. concat m ++ b.more) (sym same);
+  within = ap concat next ∙ b.within;
+}
+
+-- nothing is lacking
+pub between_same : (before after : List (List ℕ)) → before ≡ after → IsBetween before after (concat after)
+between_same before after same = record {
+  more = [];
+  rest = [];
+  begins = ap concat (sym same) ∙ sym (append-nil (concat before));
+  within = sym (append-nil (concat after));
+}
 
 module _ {H M K : Type 0} (meaning : K → ScreenValue) where
   -- the session's value is that over the frames, with the reads that the acts have

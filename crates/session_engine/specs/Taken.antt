@@ -17,7 +17,6 @@ use Rattle.risk_journal.specs.declared.acts.Act.TheVariants.{Sent, Noted}
 use Rattle.risk_journal.specs.ActLists.{posts_in}
 use Rattle.limit_table.specs.Trees.{halt_tree}
 use Rattle.frame_run.specs.Frames.{FrameIn}
-pub use Rattle.frame_run.specs.Giving.{GivesFront, Gives, with_message, text_in}
 use Rattle.order_desk.specs.declared.effect.Effect.{Effect}
 use Rattle.order_desk.specs.declared.effect.Effect.TheVariants as effect
 use Rattle.order_desk.specs.declared.refusal.Refusal.{Refusal}
@@ -70,6 +69,22 @@ abbrev pub Forwards : FrameIn → Stamp → Option (List ℕ) → Option (List �
 Forwards sound stamp held held_after =
     (fields : List FieldValue) → HasFieldsIn sound.bytes sound.frame fields
     → Appends held held_after (forward_text stamp.target stamp.seq fields)
+
+-- A piece, or a front of it, was given to a sink. With all of the piece the sink would hold the whole,
+-- and it does so where all was given.
+pub record GivesFront (given : Type 0) (held held_after whole : Option (List ℕ)) : Type 0 where
+  pub piece : List ℕ
+  pub count : ℕ
+  pub would : Appends held whole piece
+  pub got : Appends held held_after (take count piece)
+  pub all : given → held_after ≡ whole
+
+-- a message was given so, of which this is said by what the sink would hold
+pub record Gives (given : Type 0) (held held_after : Option (List ℕ))
+    (Says : Option (List ℕ) → Type 0) : Type 0 where
+  pub whole : Option (List ℕ)
+  pub front : GivesFront given held held_after whole
+  pub says : Says whole
 
 -- one frame more is counted, and one more message has a number of at most eight digits in either
 -- stream
@@ -136,6 +151,16 @@ note_by effect.Over = Some note.Over
 abbrev pub note_acts : ℕ → Option Note → List Act
 note_acts frame None = []
 note_acts frame (Some what) = noted_act what frame ∷ []
+
+-- the messages with at most one more
+abbrev pub with_message : Option (List ℕ) → List (List ℕ) → List (List ℕ)
+with_message None messages = messages
+with_message (Some text) messages = messages ++ text ∷ []
+
+-- the text of at most one message
+abbrev pub text_in : Option (List ℕ) → List ℕ
+text_in None = []
+text_in (Some text) = text
 
 -- A step was made: the session goes on with it, at most so many orders were taken up, and at most one
 -- message was given to either sink.

@@ -9,14 +9,14 @@ ghost use Rattle.session_engine.specs.Running.{Continues, TakesFront, IsReady, f
 ghost use Rattle.session_engine.specs.Session.{is_request};
 ghost use Rattle.session_engine.specs.Taken.{FailsAs};
 
-use crate::answer::venue_id;
+use crate::answer::{give_written, venue_id};
 use crate::note::Note;
 use crate::session::Session;
 use fix_fields::Id;
 use fix_orders::{
     Envelope, FieldFault, Kind, Stamp, kind_of, read_envelope, type_text, write_reject_session,
 };
-use frame_run::{SoundFrame, give_written};
+use frame_run::SoundFrame;
 use gate_ports::{PortFault, Sink};
 use risk_board::Hand;
 use risk_journal::Act;

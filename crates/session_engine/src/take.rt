@@ -4,7 +4,7 @@ ghost use Rattle.fix_orders.specs.declared.message.Message.TheVariants as Messag
 ghost use Rattle.session_engine.specs.Running.{Continues, TakesFront, IsReady, frame_acts};
 ghost use Rattle.session_engine.specs.Taken.{ReadsAs};
 
-use crate::answer::forward;
+use crate::answer::{forward, give_written};
 use crate::codes::{order_reason_of, request_reason_of, text_of};
 use crate::note::Note;
 use crate::session::Session;
@@ -12,7 +12,7 @@ use fix_orders::{
     Cancel, CancelReject, Message, NewOrder, Replace, Report, read_message, write_reject_cancel,
     write_reject_order,
 };
-use frame_run::{SoundFrame, give_written};
+use frame_run::SoundFrame;
 use gate_ports::{PortFault, Sink};
 use order_desk::{decide_cancel, decide_new, decide_replace, settle_reject, settle_report};
 use risk_board::Hand;

@@ -1,6 +1,6 @@
 -- The bytes were given, or a front of them.
 use Rattle.std.proofs.Common.{refl}
-use Rattle.frame_run.proofs.Fronts.{gives_piece}
+use Rattle.cross_guard.proofs.Fronts.{gives_piece}
 use Rattle.cross_guard.proofs.session.CrossSession.pass_on.Goals as goal
 
 pub returns-clause-passes : goal.returns-clause-passes

@@ -5,7 +5,7 @@ use Rattle.std.specs.List.{concat}
 use Rattle.std.specs.Io.KnownBytes.{Appends}
 use Rattle.std.proofs.lemmas.List.{append_assoc, append-nil, take-append-drop, append_cancel_left}
 use Rattle.std.proofs.lemmas.List.Folds.{concat-append}
-use Rattle.frame_run.specs.Giving.{GivesFront, IsBetween, with_message, text_in}
+use Rattle.cross_guard.specs.Giving.{GivesFront, IsBetween, with_message, text_in}
 
 pub appends_nothing : (held held_after : Option (List ℕ)) → held_after ≡ held
     → Appends held held_after []

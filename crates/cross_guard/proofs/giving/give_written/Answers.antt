@@ -1,6 +1,6 @@
 -- What was written was given, or a front of it.
-use Rattle.frame_run.proofs.Fronts.{gives_written}
-use Rattle.frame_run.proofs.giving.give_written.Goals as goal
+use Rattle.cross_guard.proofs.Fronts.{gives_written}
+use Rattle.cross_guard.proofs.giving.give_written.Goals as goal
 
 pub returns-clause-given : goal.returns-clause-given
 returns-clause-given g c =

@@ -1,9 +1,17 @@
--- What was given to sinks, or a front of it.
+-- What was given to sinks, or a front of it, and where a frame stands.
 use Rattle.std.specs.Prelude.{◌≡◌, ℕ, List, [], ◌∷◌, ◌++◌, take, Option, Some, None}
 use Rattle.std.proofs.Common.{refl, sym, ap, ◌∙◌}
 use Rattle.std.specs.List.{concat}
 use Rattle.std.specs.Io.KnownBytes.{Appends}
 use Rattle.std.proofs.lemmas.List.{append-nil}
+use Rattle.fix_fields.specs.Fields.{FieldValue}
+use Rattle.fix_fields.specs.Found.{StandsAt}
+use Rattle.fix_fields.specs.declared.frame.Frame.{Frame}
+
+-- the frame stands somewhere in the bytes
+abbrev pub StandsIn : List ℕ → Frame → Type 0
+StandsIn bytes frame =
+    (from : ℕ) × (fields : Option (List FieldValue)) × StandsAt bytes from frame fields
 
 -- A piece, or a front of it, was given to a sink. With all of the piece the sink would hold the whole,
 -- and it does so where all was given.

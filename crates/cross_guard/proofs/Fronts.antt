@@ -9,7 +9,7 @@ use Rattle.fix_fields.specs.Fields.{FieldValue, fields_text}
 use Rattle.fix_fields.specs.Messages.{frame_text, message_text}
 use Rattle.gate_ports.specs.Bytes.{AppendsFront}
 use Rattle.gate_ports.specs.declared.ports.PortFault.{PortFault}
-use Rattle.frame_run.specs.Giving.{Gives}
+use Rattle.cross_guard.specs.Giving.{Gives}
 
 -- what a sink would hold with a piece more
 abbrev with_piece : Option (List ℕ) → List ℕ → Option (List ℕ)
