@@ -1,16 +1,14 @@
 //! A session from its first frame to its end.
-ghost use Rattle.std.specs.Prelude.{◌≡◌, ◌^◌, ◌<◌, [], ◌∷◌, ◌++◌, length, vec_capacity};
-ghost use Rattle.cross_guard.specs.Ended.{EndsAs, EndsWith, IsSourceDone};
+ghost use Rattle.std.specs.Prelude.{◌≡◌, ◌^◌, ◌<◌, [], length, vec_capacity};
+ghost use Rattle.cross_guard.specs.Ended.{EndsAs, IsSourceDone};
 ghost use Rattle.frame_run.specs.Sinks.{sink_of};
 ghost use Rattle.risk_journal.specs.ActLists.{calls_of};
 ghost use Rattle.cross_guard.specs.Follows.{Follows};
 ghost use Rattle.cross_guard.specs.Lasting.{AreSinksDone};
 ghost use Rattle.cross_guard.specs.Told.{IsCrossHand, Placing, with_places};
 
-use crate::orders::RestingOrders;
 use crate::session::CrossSession;
 use crate::told::{ToldEnd, ToldHand};
-use fix_fields::Writer;
 use frame_run::take_input;
 use gate_ports::{Sink, Source};
 use limit_table::Limits;
@@ -27,6 +25,32 @@ pub struct CrossDone<H: Hand, S: Source, P: Sink, C: Sink> {
     pub source: S,
     pub pass: P,
     pub client: C,
+}
+
+/// A session that had no memory to begin with.
+fn without_frames<H: Hand, S: Source, P: Sink, C: Sink>(
+    ended: ToldEnd<H>,
+    source: S,
+    pass: P,
+    client: C,
+) -> CrossDone<H, S, P, C>
+    ensures { result ≡ record {
+      hand = ended.hand;
+      acts = ended.acts;
+      end = End.Memory;
+      source = source;
+      pass = pass;
+      client = client;
+    } }
+{
+    CrossDone {
+        hand: ended.hand,
+        acts: ended.acts,
+        end: End::Memory,
+        source,
+        pass,
+        client,
+    }
 }
 
 /// Filters a session, whose number counts from 0, up to its end, over at most 33,554,432 bytes of its
@@ -61,39 +85,9 @@ pub fn run_cross<H: Hand, S: Source, P: Sink, C: Sink>(
 {
     let told = match ToldHand::open(alloc, limits, hand) {
         Ok(told) => told,
-        Err(ended) => {
-            return CrossDone {
-                hand: ended.hand,
-                acts: ended.acts,
-                end: End::Memory,
-                source,
-                pass,
-                client,
-            };
-        }
+        Err(ended) => return without_frames(ended, source, pass, client),
     };
-    let mut session = CrossSession {
-        alloc,
-        limits,
-        told,
-        orders: RestingOrders::new(alloc),
-        writer: Writer::new(),
-        frames: 0,
-        refused: 0,
-        pass,
-        client,
-    };
+    let mut session = CrossSession::open(alloc, limits, told, pass, client);
     let end = take_input(alloc, &mut session, &mut source);
-    let CrossSession {
-        told, pass, client, ..
-    } = session;
-    let ToldEnd { hand, acts } = told.end(end);
-    CrossDone {
-        hand,
-        acts,
-        end,
-        source,
-        pass,
-        client,
-    }
+    session.close(end, source)
 }

@@ -198,10 +198,10 @@ impl<'a, H: Hand, P: Sink, C: Sink> TakesFrames for CrossSession<'a, H, P, C> {
 
     fn take_frame(&mut self, bytes: &[u8], frame: &Frame) -> Result<(), PortFault> {
         self.reserve()?;
-        match SoundFrame::of(bytes, frame) {
-            None => self.pass_on(frame_text(bytes, frame)),
-            Some(sound) => self.take_sound(&sound),
-        }
+        let Some(sound) = SoundFrame::of(bytes, frame) else {
+            return self.pass_on(frame_text(bytes, frame));
+        };
+        self.take_sound(&sound)
     }
 
     ghost after_none = { λ a. continues_same H.SameOrigin H.origin_same a 0 };

@@ -4,7 +4,7 @@ use Rattle.std.specs.Prelude.{Ok}
 use Rattle.fix_orders.specs.declared.message.Message.{Message}
 use Rattle.cross_guard.proofs.Contents.{content_admin, content_faulty, content_other}
 use Rattle.cross_guard.proofs.Taken.{quiet_taken}
-use Rattle.cross_guard.proofs.take.CrossSession.take_sound.Goals as goal
+use Rattle.cross_guard.proofs.session.CrossSession.take_sound.Goals as goal
 
 pub take_new-requires-clause-read : goal.take_new-requires-clause-read
 take_new-requires-clause-read g c = record {
