@@ -25,3 +25,4 @@ pub mod MessageKinds
 pub mod Taken
 pub mod Fronts
 pub mod Appending
+pub mod Undone

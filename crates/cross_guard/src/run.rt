@@ -1,5 +1,5 @@
 //! A session from its first frame to its end.
-ghost use Rattle.std.specs.Prelude.{◌≡◌, ◌^◌, ◌<◌, [], length, vec_capacity};
+ghost use Rattle.std.specs.Prelude.{◌≡◌, ◌^◌, ◌<◌, [], ◌∷◌, ◌++◌, length, vec_capacity};
 ghost use Rattle.cross_guard.specs.Ended.{EndsAs, IsSourceDone};
 ghost use Rattle.frame_run.specs.Sinks.{sink_of};
 ghost use Rattle.risk_journal.specs.ActLists.{calls_of};
@@ -7,8 +7,10 @@ ghost use Rattle.cross_guard.specs.Follows.{Follows};
 ghost use Rattle.cross_guard.specs.Lasting.{AreSinksDone};
 ghost use Rattle.cross_guard.specs.Told.{IsCrossHand, Placing, with_places};
 
+use crate::orders::RestingOrders;
 use crate::session::CrossSession;
 use crate::told::{ToldEnd, ToldHand};
+use fix_fields::Writer;
 use frame_run::take_input;
 use gate_ports::{Sink, Source};
 use limit_table::Limits;
@@ -25,6 +27,60 @@ pub struct CrossDone<H: Hand, S: Source, P: Sink, C: Sink> {
     pub source: S,
     pub pass: P,
     pub client: C,
+}
+
+impl<'a, H: Hand, P: Sink, C: Sink> CrossSession<'a, H, P, C> {
+    /// A session before its first frame.
+    fn open(
+        alloc: Global,
+        limits: &'a Limits,
+        told: ToldHand<H>,
+        pass: P,
+        client: C,
+    ) -> CrossSession<'a, H, P, C>
+        ensures { result ≡ record {
+          limits = limits.now;
+          told = told;
+          orders = [];
+          frames = 0;
+          refused = 0;
+          pass = sink_of P.held P.faults P.name pass;
+          client = sink_of C.held C.faults C.name client;
+        } }
+    {
+        CrossSession {
+            alloc,
+            limits,
+            told,
+            orders: RestingOrders::new(alloc),
+            writer: Writer::new(),
+            frames: 0,
+            refused: 0,
+            pass,
+            client,
+        }
+    }
+
+    /// The session at its end, with the act that says so.
+    fn close<S: Source>(self, end: End, source: S) -> CrossDone<H, S, P, C>
+        ensures acts { result.acts.items ≡ self.entry.told.acts ++ Act.Ended end ∷ [] }
+        ensures end { result.end ≡ end }
+        ensures hand { result.hand ≡ self.entry.told.hand }
+        ensures calls { (H.meaning result.hand).calls ≡ calls_of result.acts.items }
+        ensures pass { sink_of P.held P.faults P.name result.pass ≡ self.entry.pass }
+        ensures client { sink_of C.held C.faults C.name result.client ≡ self.entry.client }
+        ensures source { result.source ≡ source }
+    {
+        let ended = self.told.end(end);
+        CrossDone {
+            hand: ended.hand,
+            acts: ended.acts,
+            end,
+            source,
+            pass: self.pass,
+            client: self.client,
+        }
+    }
 }
 
 /// A session that had no memory to begin with.

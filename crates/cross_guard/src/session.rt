@@ -1,7 +1,5 @@
 //! A session as one value: its hand, its resting orders, what is counted, and where its messages go.
-ghost use Rattle.std.specs.Prelude.{◌≡◌, ◌+◌, ◌≤◌, ◌<◌, [], ◌∷◌, ◌++◌, IfErr, IsOk, IsErrOf};
-ghost use Rattle.frame_run.specs.Sinks.{sink_of};
-ghost use Rattle.risk_journal.specs.ActLists.{calls_of};
+ghost use Rattle.std.specs.Prelude.{◌≡◌, ◌+◌, ◌≤◌, ◌<◌, IfErr, IsOk, IsErrOf};
 ghost use Rattle.fix_orders.specs.Put.{IsShort, seq_most};
 ghost use Rattle.fix_orders.specs.declared.message.Message.TheVariants as Message;
 ghost use Rattle.gate_ports.specs.declared.ports.PortFault.TheVariants as PortFault;
@@ -13,15 +11,14 @@ ghost use Rattle.cross_guard.specs.Session.{code_of, order_refusal, replace_refu
 use crate::giving::give_written;
 use crate::guarding::CrossVerdict;
 use crate::orders::RestingOrders;
-use crate::run::CrossDone;
 use crate::told::ToldHand;
 use fix_fields::Writer;
 use fix_orders::{Head, NewOrder, Replace, Stamp, write_reject_cancel, write_reject_order};
 use frame_run::SoundFrame;
-use gate_ports::{PortFault, Sink, Source, give_all};
+use gate_ports::{PortFault, Sink, give_all};
 use limit_table::Limits;
 use risk_board::Hand;
-use risk_journal::{Act, End};
+use risk_journal::Act;
 use std::alloc::Global;
 use std::marker::Model;
 
@@ -93,58 +90,6 @@ fn text_of(why: CrossVerdict) -> &'static [u8]
 }
 
 impl<'a, H: Hand, P: Sink, C: Sink> CrossSession<'a, H, P, C> {
-    /// A session before its first frame.
-    pub(crate) fn open(
-        alloc: Global,
-        limits: &'a Limits,
-        told: ToldHand<H>,
-        pass: P,
-        client: C,
-    ) -> CrossSession<'a, H, P, C>
-        ensures { result ≡ record {
-          limits = limits.now;
-          told = told;
-          orders = [];
-          frames = 0;
-          refused = 0;
-          pass = sink_of P.held P.faults P.name pass;
-          client = sink_of C.held C.faults C.name client;
-        } }
-    {
-        CrossSession {
-            alloc,
-            limits,
-            told,
-            orders: RestingOrders::new(alloc),
-            writer: Writer::new(),
-            frames: 0,
-            refused: 0,
-            pass,
-            client,
-        }
-    }
-
-    /// The session at its end, with the act that says so.
-    pub(crate) fn close<S: Source>(self, end: End, source: S) -> CrossDone<H, S, P, C>
-        ensures acts { result.acts.items ≡ self.entry.told.acts ++ Act.Ended end ∷ [] }
-        ensures end { result.end ≡ end }
-        ensures hand { result.hand ≡ self.entry.told.hand }
-        ensures calls { (H.meaning result.hand).calls ≡ calls_of result.acts.items }
-        ensures pass { sink_of P.held P.faults P.name result.pass ≡ self.entry.pass }
-        ensures client { sink_of C.held C.faults C.name result.client ≡ self.entry.client }
-        ensures source { result.source ≡ source }
-    {
-        let ended = self.told.end(end);
-        CrossDone {
-            hand: ended.hand,
-            acts: ended.acts,
-            end,
-            source,
-            pass: self.pass,
-            client: self.client,
-        }
-    }
-
     /// Takes room for what a frame does.
     pub(crate) fn reserve(&mut self) -> Result<(), PortFault>
         ensures continues { Continues H.SameOrigin self.old self.new 0 }
