@@ -26,3 +26,4 @@ pub mod Taken
 pub mod Fronts
 pub mod Appending
 pub mod Undone
+pub mod Continued
