@@ -329,17 +329,24 @@ module _ {H : Type 0} (start now : Crossing H) (left left_after : Option (List �
       which (inr (first, second)) = inr first
 
 -- what is told of a session that had no room to begin with
-pub told_first : (acts : List Act) (NoRoom : Type 0)
+told_first : (acts : List Act) (NoRoom : Type 0)
     → (acts ≡ Ended ending.Memory ∷ []) ⊎ ((acts ≡ []) × NoRoom)
     → (acts ≡ Ended ending.Memory ∷ []) ⊎ (acts ≡ [])
 told_first acts NoRoom (inl ended) = inl ended
 told_first acts NoRoom (inr (none, _)) = inr none
 
+-- the same with places
+first_placed : (place : Placing) (acts : List Act)
+    → (acts ≡ Ended ending.Memory ∷ []) ⊎ (acts ≡ [])
+    → (with_places place acts ≡ Ended ending.Memory ∷ []) ⊎ (with_places place acts ≡ [])
+first_placed place acts (inl ended) = inl (ap (with_places place) ended)
+first_placed place acts (inr none) = inr (ap (with_places place) none)
+
 -- a session that took no frame, for want of memory
-pub follows_first : (limits : LimitsValue) (left : Option (List ℕ)) (acts : List Act)
+first_follows : (limits : LimitsValue) (left : Option (List ℕ)) (acts : List Act)
     (pass client : SinkValue) → (acts ≡ Ended ending.Memory ∷ []) ⊎ (acts ≡ [])
     → Follows limits left left acts ending.Memory pass pass client client
-follows_first limits left acts pass client is = record {
+first_follows limits left acts pass client is = record {
   input = λ by_input. absurd by_input;
   early = inr (record {
     fetched = [];
@@ -369,3 +376,12 @@ follows_first limits left acts pass client is = record {
       };
       covered = λ count. covers_frames limits (reads_of acts) [] (take count []);
     })
+
+-- with whatever places of reads, of which there are none
+pub follows_first : (limits : LimitsValue) (left : Option (List ℕ)) (acts : List Act)
+    (NoRoom : Type 0) (pass client : SinkValue)
+    → (acts ≡ Ended ending.Memory ∷ []) ⊎ ((acts ≡ []) × NoRoom) → (place : Placing)
+    → Follows limits left left (with_places place acts) ending.Memory pass pass client client
+follows_first limits left acts NoRoom pass client is place =
+    first_follows limits left (with_places place acts) pass client
+    (first_placed place acts (told_first acts NoRoom is))

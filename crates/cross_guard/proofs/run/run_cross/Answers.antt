@@ -3,7 +3,7 @@ use Rattle.std.proofs.Common.{◌≡◌, [], ◌∷◌, ◌++◌, refl, sym, ap,
 use Rattle.risk_journal.specs.declared.acts.Act.TheVariants.{Ended}
 use Rattle.cross_guard.specs.Crossing.{Crossing}
 use Rattle.cross_guard.specs.Told.{with_places}
-use Rattle.cross_guard.proofs.Stopping.{follows_by, follows_first, sink_failed, told_first}
+use Rattle.cross_guard.proofs.Stopping.{follows_by, follows_first, sink_failed}
 use Rattle.cross_guard.proofs.TookFrames.{took_none}
 use Rattle.cross_guard.proofs.run.run_cross.Goals as goal
 
@@ -32,3 +32,10 @@ returns-clause-follows g c = λ place.
       c.close.ensures.pass,
       c.close.ensures.client,
     ) from_start
+
+-- where memory was wanting at the beginning, no frame was taken
+pub returns-in-Err-clause-follows : goal.returns-in-Err-clause-follows
+returns-in-Err-clause-follows g c = λ place.
+    rw c.without_frames.ensures
+    (follows_first _ (g.S.Source.left c.args.source) c.in-Err.ended.acts.items _ _ _
+    c.in-Err.ensures.ended place)
