@@ -13,10 +13,11 @@ use Rattle.risk_journal.specs.declared.acts.Act.{Act}
 use Rattle.risk_journal.specs.declared.acts.Act.TheVariants.{Ended}
 use Rattle.risk_journal.specs.declared.acts.End.{End}
 use Rattle.risk_journal.specs.declared.acts.End.TheVariants as ending
-use Rattle.risk_journal.specs.ActLists.{SeenAt, placed_by, reads_of}
+use Rattle.risk_journal.specs.ActLists.{SeenAt, calls_of, placed_by, reads_of}
 use Rattle.admit_core.proofs.ActLemmas.{reads_of-append}
 use Rattle.frame_run.specs.Ends.{IsByInput, input_most}
 use Rattle.frame_run.specs.Frames.{text_of}
+use Rattle.cross_guard.specs.Ended.{EndsAs}
 use Rattle.cross_guard.specs.Giving.{GivesFront, between_by, between_same}
 use Rattle.frame_run.specs.Sinks.{SinkValue}
 use Rattle.frame_run.specs.Taking.{SplitsTo, StopsBy, TakesSource}
@@ -385,3 +386,24 @@ pub follows_first : (limits : LimitsValue) (left : Option (List ℕ)) (acts : Li
 follows_first limits left acts NoRoom pass client is place =
     first_follows limits left (with_places place acts) pass client
     (first_placed place acts (told_first acts NoRoom is))
+
+-- such acts tell no call, say how the session ended, have no room where there is none, and are few
+pub first_calls : (acts : List Act) (NoRoom : Type 0)
+    → (acts ≡ Ended ending.Memory ∷ []) ⊎ ((acts ≡ []) × NoRoom) → calls_of acts ≡ []
+first_calls acts NoRoom (inl ended) = ap calls_of ended
+first_calls acts NoRoom (inr (none, room)) = ap calls_of none
+
+pub first_ends : (acts : List Act) (NoRoom : Type 0)
+    → (acts ≡ Ended ending.Memory ∷ []) ⊎ ((acts ≡ []) × NoRoom) → EndsAs acts ending.Memory
+first_ends acts NoRoom (inl ended) = inl ([], ended)
+first_ends acts NoRoom (inr (none, room)) = inr (none, refl)
+
+pub first_room : (acts : List Act) (NoRoom : Type 0)
+    → (acts ≡ Ended ending.Memory ∷ []) ⊎ ((acts ≡ []) × NoRoom) → acts ≡ [] → NoRoom
+first_room acts NoRoom (inl ended) none = absurd (omega (arith, ap length (sym ended ∙ none)))
+first_room acts NoRoom (inr (own, room)) none = room
+
+pub first_few : (acts : List Act) (NoRoom : Type 0)
+    → (acts ≡ Ended ending.Memory ∷ []) ⊎ ((acts ≡ []) × NoRoom) → length acts ≤ 1
+first_few acts NoRoom (inl ended) = omega (arith, ap length ended)
+first_few acts NoRoom (inr (none, room)) = omega (arith, ap length none)
