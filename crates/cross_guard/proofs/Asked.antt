@@ -64,14 +64,17 @@ module _ (tree value : ℕ) (limits : LimitsValue) (acts : List Act) where
       → posts_in tree ((acts ++ posting) ++ seen ∷ []) + 1 ≡ posts_in tree acts + 2
   one_more seen no_post =
       let here : (tree == tree) ≡ true = eq-eqb tree tree refl in
-      let own = count_by-cons (is_post_act_in tree) (Post tree (posts_in tree acts + 1) new) [] in
-      let other = count_by-cons (is_post_act_in tree) seen [] in
+      let own : posts_in tree posting ≡ 1 =
+      count_by-cons (is_post_act_in tree) (Post tree (posts_in tree acts + 1) new) []
+      ∙ ap (λ b. cond b 1 0 + 0) here in
+      let other : posts_in tree (seen ∷ []) ≡ 0 =
+      count_by-cons (is_post_act_in tree) seen [] ∙ ap (λ b. cond b 1 0 + 0) no_post in
       omega (
         arith,
         posts_in-append tree (acts ++ posting) (seen ∷ []),
         posts_in-append tree acts posting,
-        rw here at own,
-        rw no_post at other,
+        own,
+        other,
       )
 
   over_sent : (place : Placing) (root : Seen) → nat_lt limits.quota (posts_in tree acts + 2) ≡ false

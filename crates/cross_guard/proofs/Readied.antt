@@ -180,8 +180,7 @@ module _ {H : Type 0} (Same : H → H → Type 0) (next_same : (a b c : H) → S
   stops_or_none (Ok done) taken = tt
   stops_or_none (Err why) (inl front) =
       stops_within TookFrames StoppedFrames bytes frame before now why
-      (stops_in why (is_ok (Err why) ≡ true) (Err why ≡ Err fault.Failed)
-      (λ failed. ap (λ (e : PortFault). Err e) failed) front)
+      (stops_in why _ _ (λ failed. ap (λ (e : PortFault). Err e) failed) front)
   stops_or_none (Err why) (inr none) =
       let memory : why ≡ fault.Memory = cc (none.why) in
       stops_before TookFrames StoppedFrames bytes frame before now why memory

@@ -1,8 +1,8 @@
 -- What was kept of a request last is taken back.
-use Rattle.std.proofs.Common.{◌≡◌, ℕ, zero, suc, ◌+◌, ◌-◌, ◌<◌, List, [], ◌∷◌, ◌++◌, length, take, refl, sym, ap, ◌∙◌, subst, arith}
+use Rattle.std.proofs.Common.{◌≡◌, ℕ, zero, suc, ◌+◌, ◌-◌, ◌<◌, List, [], ◌∷◌, ◌++◌, length, take, refl, sym, ap, ◌∙◌, subst, arith, false}
 use Rattle.std.specs.Prelude.{slice_set}
 use Rattle.std.specs.List.{slice_index_or}
-use Rattle.std.proofs.lemmas.List.{get_or-set_same, length-append, set-get_or, set-set, take_at}
+use Rattle.std.proofs.lemmas.List.{get_or-set_same, length-append, length-set, set-get_or, set-set, take_at}
 use Rattle.cross_guard.specs.declared.resting.Term.{Term}
 use Rattle.cross_guard.specs.Added.{HasTerm}
 use Rattle.cross_guard.specs.Resting.{RestingValue, with_term, without_term}
@@ -57,3 +57,17 @@ has_term place items old now term inside at is = record {
   is = λ d. ap (λ o. slice_set items place o) (is ∙ ap (with_term term)
       (at ∙ index_within items place old d inside));
 }
+
+-- no order
+none : RestingValue
+none = record { symbol = 0; side = 0; ids = []; terms = []; filled = 0; closed = false }
+
+-- the order that has one term more is one of them
+pub inside_now : (place : ℕ) (before now : List RestingValue) → HasTerm place before now
+    → place < length now
+inside_now place before now has = omega (
+  arith,
+  has.inside,
+  ap length (has.is none),
+  length-set before place (with_term has.term (slice_index_or before place none)),
+)

@@ -73,15 +73,16 @@ impl<'a, H: Hand, P: Sink, C: Sink> CrossSession<'a, H, P, C> {
         ensures taken { TakesOrNone (TakesSound self.old.limits sound.now) (IsOk result)
             (IsErrOf result PortFault.Failed) result self.old self.new }
     {
+        let text = sound_text(sound);
         let Some(tree) = tree_of(self.limits, &order.symbol) else {
-            return self.pass_on(sound_text(sound));
+            return self.pass_on(text);
         };
         let value = value_at(self.limits, tree, order.side, order.kind, order.price);
         if self.orders.add(self.alloc, tree, order, value).is_err() {
             return Err(PortFault::Memory);
         }
         match self.told.ask(tree, value) {
-            CrossVerdict::Sent => self.send(sound_text(sound)),
+            CrossVerdict::Sent => self.send(text),
             why => {
                 self.orders.take_back(Added::Order);
                 self.refuse_order(sound, order, why)
@@ -101,15 +102,16 @@ impl<'a, H: Hand, P: Sink, C: Sink> CrossSession<'a, H, P, C> {
         ensures taken { TakesOrNone (TakesSound self.old.limits sound.now) (IsOk result)
             (IsErrOf result PortFault.Failed) result self.old self.new }
     {
+        let text = sound_text(sound);
         let Some(tree) = tree_of(self.limits, &replace.symbol) else {
-            return self.pass_on(sound_text(sound));
+            return self.pass_on(text);
         };
         let value = value_at(self.limits, tree, replace.side, replace.kind, replace.price);
         let Ok(added) = self.orders.replace(self.alloc, tree, replace, value) else {
             return Err(PortFault::Memory);
         };
         match self.told.ask(tree, value) {
-            CrossVerdict::Sent => self.send(sound_text(sound)),
+            CrossVerdict::Sent => self.send(text),
             why => {
                 self.orders.take_back(added);
                 self.refuse_replace(sound, replace, why)
@@ -140,12 +142,13 @@ impl<'a, H: Hand, P: Sink, C: Sink> CrossSession<'a, H, P, C> {
         ensures taken { TakesOrNone (TakesSound self.old.limits sound.now) (IsOk result)
             (IsErrOf result PortFault.Failed) result self.old self.new }
     {
+        let text = sound_text(sound);
         let Some(id) = &report.id else {
-            return self.pass_on(sound_text(sound));
+            return self.pass_on(text);
         };
         let tree = self.orders.report(id, report.exec);
         settle(&mut self.told, &self.orders, tree);
-        self.pass_on(sound_text(sound))
+        self.pass_on(text)
     }
 
     /// Takes a cancel reject (9), as a report.
@@ -172,15 +175,16 @@ impl<'a, H: Hand, P: Sink, C: Sink> CrossSession<'a, H, P, C> {
         ensures taken { TakesOrNone (TakesSound self.old.limits sound.now) (IsOk result)
             (IsErrOf result PortFault.Failed) result self.old self.new }
     {
+        let text = sound_text(sound);
         match read_message(sound.bytes(), sound.frame()) {
             Ok(Message::New(order)) => self.take_new(sound, &order),
             Ok(Message::Cancel(cancel)) => self.take_cancel(sound, &cancel),
             Ok(Message::Replace(replace)) => self.take_replace(sound, &replace),
             Ok(Message::Report(report)) => self.take_report(sound, &report),
             Ok(Message::CancelReject(reject)) => self.take_cancel_reject(sound, &reject),
-            Ok(Message::Admin) => self.pass_on(sound_text(sound)),
-            Ok(Message::Other) => self.pass_on(sound_text(sound)),
-            Err(_) => self.pass_on(sound_text(sound)),
+            Ok(Message::Admin) => self.pass_on(text),
+            Ok(Message::Other) => self.pass_on(text),
+            Err(_) => self.pass_on(text),
         }
     }
 }
