@@ -27,3 +27,4 @@ pub mod Fronts
 pub mod Appending
 pub mod Undone
 pub mod Continued
+pub mod AskedHand
