@@ -28,3 +28,4 @@ pub mod Appending
 pub mod Undone
 pub mod Continued
 pub mod AskedHand
+pub mod Oks

@@ -45,3 +45,27 @@ take_cancel_reject-requires-clause-read g c = record {
       sym (c.read_message.ensures fields (rw (c.bytes.ensures.bytes, c.frame.ensures.frame) has))
       ∙ c.in-Ok-CancelReject.is ∙ ap (λ (m : Message). Ok m) c.in-Ok-CancelReject.field-0-is;
 }
+
+pub returns-in-Ok-Admin-clause-taken : goal.returns-in-Ok-Admin-clause-taken
+returns-in-Ok-Admin-clause-taken g c =
+    let passes = rw c.sound_text-text.ensures at c.pass_on-in-Ok-Admin.ensures.passes in
+    rw (← c.self.view_is) (inl (quiet_taken c.args.sound.now _ _ _ _ (λ o. o) passes
+    (λ fields has session. content_admin _ _ session fields
+    (sym (c.read_message.ensures fields (rw (c.bytes.ensures.bytes, c.frame.ensures.frame) has))
+    ∙ c.in-Ok-Admin.is))))
+
+pub returns-in-Ok-Other-clause-taken : goal.returns-in-Ok-Other-clause-taken
+returns-in-Ok-Other-clause-taken g c =
+    let passes = rw c.sound_text-text.ensures at c.pass_on-in-Ok-Other.ensures.passes in
+    rw (← c.self.view_is) (inl (quiet_taken c.args.sound.now _ _ _ _ (λ o. o) passes
+    (λ fields has session. content_other _ _ session fields
+    (sym (c.read_message.ensures fields (rw (c.bytes.ensures.bytes, c.frame.ensures.frame) has))
+    ∙ c.in-Ok-Other.is))))
+
+pub returns-in-Err-clause-taken : goal.returns-in-Err-clause-taken
+returns-in-Err-clause-taken g c =
+    let passes = rw c.sound_text-text.ensures at c.pass_on-in-Err.ensures.passes in
+    rw (← c.self.view_is) (inl (quiet_taken c.args.sound.now _ _ _ _ (λ o. o) passes
+    (λ fields has session. content_faulty _ _ session fields _
+    (sym (c.read_message.ensures fields (rw (c.bytes.ensures.bytes, c.frame.ensures.frame) has))
+    ∙ c.in-Err.is))))
