@@ -20,7 +20,8 @@ use Rattle.journal_check.specs.SessionActs.{IsSessionOf}
 -- what ends a run is no frame
 ended_by_none : (goes_on : Bool) (next : Found) (end : End) → EndsBy goes_on next end
     → IsNoFrame next
-ended_by_none goes_on (found.Frame f) end ends = absurd ends
+ended_by_none true (found.Frame f) end ends = absurd ends
+ended_by_none false (found.Frame f) end ends = absurd ends
 ended_by_none goes_on found.End end ends = tt
 ended_by_none goes_on (found.Cut place) end ends = tt
 ended_by_none goes_on (found.Broken place) end ends = tt
@@ -29,13 +30,16 @@ ended_by_none goes_on (found.TooLong place) end ends = tt
 -- and says how it ended
 one_end : (goes_on : Bool) (next : Found) (end other : End) → EndsBy goes_on next end
     → EndsBy goes_on next other → end ≡ other
-one_end goes_on (found.Frame f) end other one two = absurd one
+one_end true (found.Frame f) end other one two = absurd one
+one_end false (found.Frame f) end other one two = absurd one
 one_end true found.End end other one two = one ∙ sym two
 one_end false found.End end other one two = one ∙ sym two
 one_end true (found.Cut place) end other one two = one ∙ sym two
 one_end false (found.Cut place) end other one two = one ∙ sym two
-one_end goes_on (found.Broken place) end other one two = one ∙ sym two
-one_end goes_on (found.TooLong place) end other one two = one ∙ sym two
+one_end true (found.Broken place) end other one two = one ∙ sym two
+one_end false (found.Broken place) end other one two = one ∙ sym two
+one_end true (found.TooLong place) end other one two = one ∙ sym two
+one_end false (found.TooLong place) end other one two = one ∙ sym two
 
 -- where a frame stands, nothing else is found
 no_other : (bytes : List ℕ) (from : ℕ) (frame : FrameValue) (body_from body_to : ℕ) (next : Found)

@@ -138,6 +138,20 @@ framing limits fields session others =
     (after_content limits fields (with_reads others session)) (session.frames + 1)
     (containing limits fields session others)
 
+-- where it is so of any session over these frames, it is of two that are alike or part
+later : (limits : LimitsValue) (frames : List FrameValue)
+    → ((own : SessionValue) (reads : List SeenAt)
+    → StepsOrParts (λ start. after_frames limits start frames) own reads)
+    → (one other : SessionValue) → AreAlikeOrPart one other
+    → AreAlikeOrPart (after_frames limits one frames) (after_frames limits other frames)
+later limits frames each one other (inl (reads, same)) =
+    subst (λ own. AreAlikeOrPart (after_frames limits one frames)
+    (after_frames limits own frames)) (sym same) (each one reads)
+later limits frames each one other (inr parts) =
+    inr (parts_later one.acts other.acts (after_frames limits one frames).acts
+    (after_frames limits other frames).acts parts (frames_grow limits frames one)
+    (frames_grow limits frames other))
+
 -- Over the same frames, sessions that are the same but for their reads go alike, or their acts part at
 -- a read.
 pub frames_part : (limits : LimitsValue) (frames : List FrameValue) (session : SessionValue)
@@ -145,16 +159,7 @@ pub frames_part : (limits : LimitsValue) (frames : List FrameValue) (session : S
     → StepsOrParts (λ own. after_frames limits own frames) session others
 frames_part limits [] session others = inl (others, refl)
 frames_part limits (frame ∷ frames) session others =
-    later (after_frame limits frame.fields session)
+    later limits frames (λ own reads. frames_part limits frames own reads)
+    (after_frame limits frame.fields session)
     (after_frame limits frame.fields (with_reads others session))
     (framing limits frame.fields session others)
-  where
-    later : (one other : SessionValue) → AreAlikeOrPart one other
-        → AreAlikeOrPart (after_frames limits one frames) (after_frames limits other frames)
-    later one other (inl (reads, same)) =
-        subst (λ own. AreAlikeOrPart (after_frames limits one frames)
-        (after_frames limits own frames)) (sym same) (frames_part limits frames one reads)
-    later one other (inr parts) =
-        inr (parts_later one.acts other.acts (after_frames limits one frames).acts
-        (after_frames limits other frames).acts parts (frames_grow limits frames one)
-        (frames_grow limits frames other))
