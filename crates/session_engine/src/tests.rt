@@ -1,7 +1,10 @@
 //! What no clause says: that memory isn't wanting, and how much is fetched of a long source that
 //! begins with no frame. What a session does with each kind of frame is tested with the top call.
 use crate::session_rows::{NEVER, ORDER, Ports, Row, TIE, compare_row, run_file};
-use crate::{halt_is_tripped_once, places_are_free, sent_orders_are_covered};
+use crate::{
+    halt_is_tripped_once, places_are_free, reads_are_taken_in_order, sent_orders_are_covered,
+    sessions_part_at_a_read,
+};
 use gate_ports::{MemSink, MemSource, Source};
 use std::alloc::Global;
 use std::test::*;
@@ -92,4 +95,6 @@ fn the_laws_can_be_called() {
     sent_orders_are_covered();
     halt_is_tripped_once();
     places_are_free();
+    reads_are_taken_in_order();
+    sessions_part_at_a_read();
 }
