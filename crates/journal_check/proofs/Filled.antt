@@ -11,7 +11,8 @@ use Rattle.risk_board.specs.History.Event.{Posted, Saw}
 use Rattle.risk_journal.specs.ActLists.{events_of}
 use Rattle.risk_journal.specs.declared.acts.Act.{Act}
 use Rattle.risk_journal.specs.declared.acts.Act.TheVariants.{Post, Read, Sent, Refused, Noted, Ended}
-use Rattle.journal_check.specs.Buckets.{TreeValue, no_tree, empty_tree, begun, with_post, with_read}
+use Rattle.journal_check.specs.declared.tree_acts.TreeActs.{TreeActs}
+use Rattle.journal_check.specs.Buckets.{TreeValue, tree_value, no_tree, empty_tree, begun, with_post, with_read}
 use Rattle.journal_check.specs.Buckets.{read_row, changed_at, with_act, with_acts, with_sessions}
 use Rattle.journal_check.specs.Buckets.{IsByTree, AreByTree}
 use Rattle.journal_check.specs.Trees.{tree_posts}
@@ -298,3 +299,11 @@ pub sessions_to_end : (session row : ℕ) (trees : List TreeValue) (acts : List 
     → length acts ≤ index → with_sessions session row trees (drop index acts) ≡ trees
 sessions_to_end session row trees acts index past =
     ap (with_sessions session row trees) (drop_all index acts past)
+
+-- what is kept of a tree is what the acts tell of it
+pub kept_tree : (trees : List TreeActs) (acts : List (List Act)) (tree : ℕ) (own : TreeActs)
+    → AreByTree (length trees) acts (map tree_value trees) → tree < length trees
+    → own ≡ get_or trees tree own → IsByTree tree acts (tree_value own)
+kept_tree trees acts tree own all less is =
+    subst (IsByTree tree acts)
+    (get_or-map tree_value trees tree own no_tree less ∙ ap tree_value (sym is)) (all tree less)

@@ -22,9 +22,11 @@ pub mod SessionIsOne
 pub mod SessionRows
 pub mod Kinds
 pub mod WorthOf
+pub mod FarLines
 pub mod Comparing
 pub mod Differing
 pub mod FirstApart
 pub mod SameSession
 pub mod ScriptCalls
 pub mod ScriptedReads
+pub mod Sources

@@ -47,14 +47,14 @@ posts_capped most tree (Read in_tree stamp place seen ∷ own) all index value a
       | true ↦ later index value
       | false ↦ later index value
     ] at
-posts_capped most tree (Sent frame ∷ own) all =
-    posts_capped most tree own (rest_all (PostsAtMost most) _ own all)
-posts_capped most tree (Refused frame code first second ∷ own) all =
-    posts_capped most tree own (rest_all (PostsAtMost most) _ own all)
-posts_capped most tree (Noted frame code first second ∷ own) all =
-    posts_capped most tree own (rest_all (PostsAtMost most) _ own all)
-posts_capped most tree (Ended end ∷ own) all =
-    posts_capped most tree own (rest_all (PostsAtMost most) _ own all)
+posts_capped most tree (Sent frame ∷ own) all index value at =
+    posts_capped most tree own (rest_all (PostsAtMost most) _ own all) index value at
+posts_capped most tree (Refused frame code first second ∷ own) all index value at =
+    posts_capped most tree own (rest_all (PostsAtMost most) _ own all) index value at
+posts_capped most tree (Noted frame code first second ∷ own) all index value at =
+    posts_capped most tree own (rest_all (PostsAtMost most) _ own all) index value at
+posts_capped most tree (Ended end ∷ own) all index value at =
+    posts_capped most tree own (rest_all (PostsAtMost most) _ own all) index value at
 
 module _ (acts : List (List Act)) (lines : List (List Line)) (tree : ℕ)
     (right : IsRightTree acts lines tree) where

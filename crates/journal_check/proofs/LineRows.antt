@@ -8,12 +8,20 @@ use Rattle.risk_board.specs.History.{lines_of}
 use Rattle.risk_journal.specs.declared.acts.Act.{Act}
 use Rattle.journal_check.specs.Firsts.{IsFirstRow, IsFirstWrong}
 use Rattle.journal_check.specs.LineFaults.{IsWrongLine, LacksLine, SomeLacksLine, LacksOnly}
-use Rattle.journal_check.specs.LineFaults.{IsRightTree, AreRightTrees, EndsBefore}
+use Rattle.journal_check.specs.declared.tree_lines.LinesFound.{LinesFound}
+use Rattle.journal_check.specs.LineFaults.{IsFoundOf, IsRightTree, AreRightTrees, EndsBefore}
 use Rattle.journal_check.specs.RightLines.{IsRightLine, AreRightLines, HaveAllLines}
 use Rattle.journal_check.specs.RowNumbers.{count_all, line_row}
 use Rattle.journal_check.specs.Trees.{tree_posts, tree_lines}
 use Rattle.journal_check.proofs.Cases.{same_or, le_or_lt}
 use Rattle.journal_check.proofs.Counts.{count_later}
+
+-- what was found of some posts and lines is found of the same
+pub found_as : (posts other : List (List ℕ)) (own more : List Line) (found : LinesFound)
+    → posts ≡ other → own ≡ more → IsFoundOf posts own found → IsFoundOf other more found
+found_as posts other own more found same also is =
+    subst (λ (p : List (List ℕ)). IsFoundOf p more found) same
+    (subst (λ (l : List Line). IsFoundOf posts l found) also is)
 
 module _ (acts : List (List Act)) (lines : List (List Line)) where
   -- the lines of the trees below a number are right

@@ -1,6 +1,6 @@
 -- Where no act and no line is of a tree above the last, nothing is told of such a tree.
 use Rattle.std.proofs.Common.{◌≡◌, ◌≢◌, ℕ, zero, suc, ◌+◌, ◌<◌, ◌≤◌, List, [], ◌∷◌, ◌++◌, length, map, refl}
-use Rattle.std.proofs.Common.{ap, sym, ◌∙◌, arith, cond, ⊎_elim, get_or, eqb}
+use Rattle.std.proofs.Common.{ap, sym, ◌∙◌, arith, cond, ⊎_elim, get_or, eqb, inl, inr}
 use Rattle.std.specs.Prelude.{slice_get, Some}
 use Rattle.std.proofs.lemmas.Bool.{ne_eqb}
 use Rattle.std.proofs.lemmas.List.{get_or-map, get_or_past, length-map}
@@ -12,7 +12,9 @@ use Rattle.risk_journal.specs.ActLists.{events_of}
 use Rattle.risk_journal.specs.declared.acts.Act.{Act}
 use Rattle.risk_journal.specs.declared.acts.Act.TheVariants.{Post, Read, Sent, Refused, Noted, Ended}
 use Rattle.journal_check.specs.ActFaults.{IsAbove, NoneHas}
+use Rattle.journal_check.specs.FarRows.{IsFarRow}
 use Rattle.journal_check.specs.LineFaults.{EndsBefore}
+use Rattle.journal_check.specs.RowNumbers.{act_row, line_row}
 use Rattle.journal_check.specs.ReadRows.{told_events, session_reads, reads_from, tree_reads}
 use Rattle.journal_check.specs.Trees.{tree_events, tree_posts, tree_lines}
 use Rattle.journal_check.proofs.Cases.{le_or_lt}
@@ -109,3 +111,28 @@ ends_before last acts lines acts_none lines_none = record {
   posts_none = λ tree session past. posts_none last tree session acts (omega (arith, past)) acts_none;
   reads_none = λ tree past. reads_none last tree 0 2 acts (omega (arith, past)) acts_none;
 }
+
+-- where no row is of a tree above the last, the trees end with it
+pub ends_of_near : (last : ℕ) (acts : List (List Act)) (lines : List (List Line))
+    → ((row : ℕ) → ¬ IsFarRow last acts lines row) → EndsBefore (last + 1) acts lines
+ends_of_near last acts lines near =
+    ends_before last acts lines
+    (λ session own of_session index act at above. near (act_row acts session index) (inl (record {
+      act = act;
+      has = record {
+        session = session;
+        index = index;
+        own = own;
+        of_session = of_session;
+        at = at;
+        row_is = refl;
+      };
+      is = above;
+    })))
+    (λ tree line far at. near (line_row acts lines tree 0) (inr (record {
+      tree = tree;
+      place = 0;
+      line = line;
+      has = record { at = at; row_is = refl };
+      far = far;
+    })))

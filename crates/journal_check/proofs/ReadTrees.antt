@@ -1,6 +1,7 @@
 -- The reads of all trees, tree by tree.
-use Rattle.std.proofs.Common.{◌≡◌, ◌≢◌, ℕ, ◌+◌, ◌<◌, ◌≤◌, List, [], length, ap, sym, subst, arith, ⊎_elim, min}
-use Rattle.std.specs.Prelude.{slice_get, Option, Some, None}
+use Rattle.std.proofs.Common.{◌≡◌, ◌≢◌, ℕ, ◌+◌, ◌<◌, ◌≤◌, List, [], length, ap, sym, subst, arith, ⊎_elim, min, ◌∙◌, eqb, eq-eqb}
+use Rattle.std.proofs.lemmas.Bool.{ne_eqb}
+use Rattle.std.specs.Prelude.{slice_get, Option, Some, None, IfSome}
 use Rattle.std.proofs.lemmas.Option.{slice_get_within}
 use Rattle.risk_board.specs.declared.hand.Line.{Line}
 use Rattle.risk_board.specs.History.{components_of}
@@ -14,6 +15,27 @@ use Rattle.journal_check.specs.Tables.{least_of}
 use Rattle.journal_check.specs.Trees.{tree_lines, fold_in}
 use Rattle.journal_check.proofs.Cases.{same_or, le_or_lt}
 use Rattle.journal_check.proofs.ReadsRise.{earlier_row}
+
+-- what was found of some lines and reads is found of the same
+pub found_read_as : (whole other : List ℕ → ℕ) (components more : ℕ) (lines theirs : List Line)
+    (reads also : List ReadRow) (found : Option ℕ) → whole ≡ other → components ≡ more
+    → lines ≡ theirs → reads ≡ also → IsFoundRead whole 0 components lines reads found
+    → IsFoundRead other 0 more theirs also found
+found_read_as whole other components more lines theirs reads also found one two three four is =
+    subst (λ (w : List ℕ → ℕ). IsFoundRead w 0 more theirs also found) one
+    (subst (λ (n : ℕ). IsFoundRead whole 0 n theirs also found) two
+    (subst (λ (l : List Line). IsFoundRead whole 0 components l also found) three
+    (subst (λ (r : List ReadRow). IsFoundRead whole 0 components lines r found) four is)))
+
+-- the last tree is the one before the end
+pub last_test : (tree last count : ℕ) → count ≡ last + 1
+    → eqb (tree + 1) count ≡ eqb tree last
+last_test tree last count is = ⊎_elim
+    (λ (same : tree ≡ last).
+    eq-eqb (tree + 1) count (omega (arith, same, is)) ∙ sym (eq-eqb tree last same))
+    (λ (apart : tree ≢ last).
+    ne_eqb (tree + 1) count (λ same. apart (omega (arith, same, is))) ∙ sym (ne_eqb tree last apart))
+    (same_or tree last)
 
 module _ (last : ℕ) (acts : List (List Act)) (lines : List (List Line)) where
   -- what was found in one tree
@@ -114,3 +136,8 @@ module _ (last : ℕ) (acts : List (List Act)) (lines : List (List Line)) where
       (λ (past : count ≤ tree). absurd (none_past count tree index read ends past at))
       (λ (lt : tree < count). so_far tree lt index read less at)
       (le_or_lt count tree)
+
+  pub found_if : (count : ℕ) (first : Option ℕ) → IsFirstSoFar last acts lines count first
+      → EndsBefore count acts lines → IfSome first (IsFirstRow (IsWrongRead last acts lines))
+  found_if count None so_far ends = tt
+  found_if count (Some row) so_far ends = found_first count row so_far ends

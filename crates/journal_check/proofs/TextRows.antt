@@ -1,5 +1,6 @@
 -- A journal has at most as many rows behind its header as its text has bytes.
 use Rattle.std.proofs.Common.{◌≡◌, ℕ, ◌+◌, ◌≤◌, ◌<◌, List, [], ◌∷◌, ◌++◌, length, ap, subst, sym, arith, length-append}
+use Rattle.std.specs.Prelude.{codes, decimal}
 use Rattle.std.specs.List.{flat_map, enumerate_from, join_with_byte}
 use Rattle.std.proofs.lemmas.List.FromFn.{length-enumerate_from}
 use Rattle.risk_board.specs.declared.hand.Line.{Line}
@@ -12,6 +13,11 @@ use Rattle.journal_check.proofs.Counts.{count-cons}
 
 row_some : (cells : List (List ℕ)) → 1 ≤ length (row_text cells)
 row_some cells = omega (arith, length-append (join_with_byte 44 cells) (10 ∷ []))
+
+line_some : (tree place : ℕ) (line : Line) → 1 ≤ length (line_text tree place line)
+line_some tree place line =
+    row_some (codes "line" ∷ decimal line.session ∷ decimal tree ∷ decimal place ∷ decimal line.index
+    ∷ decimal line.value ∷ [])
 
 texts_long : {X : Type 0} (text : X → List ℕ) → ((x : X) → 1 ≤ length (text x)) → (xs : List X)
     → length xs ≤ length (flat_map text xs)
@@ -33,7 +39,7 @@ trees_long : (first : ℕ) (lines : List (List Line))
 trees_long first [] = omega arith
 trees_long first (own ∷ lines) =
     omega (arith, count-cons own lines,
-    texts_long (λ (placed : ℕ × Line). line_text first placed.0 placed.1) (λ placed. row_some _)
+    texts_long (λ (placed : ℕ × Line). line_text first placed.0 placed.1) (λ placed. line_some first placed.0 placed.1)
     (enumerate_from 1 own),
     length-enumerate_from 1 own, trees_long (first + 1) lines,
     length-append (flat_map (λ (placed : ℕ × Line). line_text first placed.0 placed.1) (enumerate_from 1 own))

@@ -1,12 +1,20 @@
 //! The first row of a journal that is of a tree above the last.
-ghost use Rattle.std.specs.Prelude.{◌≡◌, ℕ, ◌+◌, ◌<◌, ◌^◌, map, IfSome, None};
+ghost use Rattle.std.specs.Prelude.{◌≡◌, ℕ, ◌+◌, ◌<◌, ◌^◌, ◌↔◌, length, map, IsTrue, IfSome, None};
 ghost use Rattle.journal_check.specs.FarRows.{IsFarLine, IsFarRow};
 ghost use Rattle.journal_check.specs.Firsts.{IsFirstRow};
 ghost use Rattle.journal_check.specs.RowNumbers.{count_all};
 
 use crate::act_rows::{ActFault, first_act_row};
-use crate::tree_lines::acts_count;
+use crate::tree_lines::{acts_count, lines_in};
+use risk_board::Line;
 use risk_journal::Journal;
+
+/// Whether a tree is above the last, and has a line.
+fn is_far(own: &[Line], tree: usize, last: u32) -> bool
+    ensures { IsTrue result ↔ ((last < tree) × (0 < length own.now)) }
+{
+    tree > last as usize && !own.is_empty()
+}
 
 /// The row of the first line of a tree above the last.
 fn first_far_line(journal: &Journal, last: u32) -> Option<u32>
@@ -21,8 +29,8 @@ fn first_far_line(journal: &Journal, last: u32) -> Option<u32>
 {
     let mut row = 2 + acts_count(&journal.acts);
     for tree in 0..journal.lines.len() {
-        let own = &journal.lines[tree];
-        if tree > last as usize && !own.is_empty() {
+        let own = lines_in(&journal.lines, tree);
+        if is_far(own, tree, last) {
             return Some(row);
         }
         row += own.len() as u32;

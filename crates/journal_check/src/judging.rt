@@ -11,6 +11,7 @@ ghost use Rattle.journal_check.specs.TreeFaults.{IsTreeFault, AreRightAll};
 ghost use Rattle.journal_check.specs.Worth.{IsWorth, AreWorth};
 
 use crate::rows_first::first_row_fault;
+use crate::screen_sets::{ScreenSet, screen_sets};
 use crate::session_acts::{ActsFound, compare_all};
 use crate::tree_faults::first_tree_fault;
 use gate_ports::Source;
@@ -89,7 +90,7 @@ fn judge<S: Source>(
     limits: &Limits,
     journal: &Journal,
     sources: Vec<S>,
-    screens: Vec<Vec<Box<dyn Screen + Send>>>,
+    screens: Vec<ScreenSet>,
 ) -> CheckDone<S>
     requires few { length sources.items ≤ SESSIONS }
     requires screens { length sources.items ≤ length screens.items }
@@ -98,18 +99,15 @@ fn judge<S: Source>(
     requires sound { IsSound (map (λ own. own.items) journal.now.acts.items)
         (map (λ own. own.items) journal.now.lines.items) }
     ensures yes { result.answer ≡ Checked.Yes → AreTold (map S.left sources.items)
-        → (text : List ℕ) → HasNoFault (case_of limits.now text (map S.left sources.items)
-        (map (λ own. map (λ b. (Screen-box b).meaning b.value) own.items) screens.items))
+        → (text : List ℕ) → HasNoFault (case_of limits.now text (map S.left sources.items) screens.items)
         (map (λ own. own.items) journal.now.acts.items)
         (map (λ own. own.items) journal.now.lines.items) }
     ensures worth { result.answer ≡ Checked.Yes → AreTold (map S.left sources.items)
-        → (text : List ℕ) → AreWorth (case_of limits.now text (map S.left sources.items)
-        (map (λ own. map (λ b. (Screen-box b).meaning b.value) own.items) screens.items))
+        → (text : List ℕ) → AreWorth (case_of limits.now text (map S.left sources.items) screens.items)
         (map (λ own. own.items) journal.now.acts.items)
         (map (λ own. own.items) journal.now.lines.items) }
     ensures no { IfNo result.answer (λ fault. (5 ≤ fault.kind → AreTold (map S.left sources.items))
-        → (text : List ℕ) → IsFirstKind (case_of limits.now text (map S.left sources.items)
-        (map (λ own. map (λ b. (Screen-box b).meaning b.value) own.items) screens.items))
+        → (text : List ℕ) → IsFirstKind (case_of limits.now text (map S.left sources.items) screens.items)
         (map (λ own. own.items) journal.now.acts.items)
         (map (λ own. own.items) journal.now.lines.items) fault.kind fault.row) }
     ensures read_fault { result.answer ≡ Checked.ReadFault
@@ -158,7 +156,10 @@ pub fn check<S: Source>(
         return answered(Checked::No(CheckFault { row: 0, kind: 1 }), sources);
     }
     match read_journal(alloc, journal) {
-        Ok(told) => judge(alloc, limits, &told, sources, screens),
+        Ok(told) => match screen_sets(alloc, screens) {
+            Ok(sets) => judge(alloc, limits, &told, sources, sets),
+            Err(_) => answered(Checked::Memory, sources),
+        },
         Err(JournalFault::Row(row)) => {
             answered(Checked::No(CheckFault { row, kind: 1 }), sources)
         }

@@ -10,6 +10,7 @@ mod replay;
 mod right_lines;
 mod right_reads;
 mod rows_first;
+mod screen_sets;
 mod same_acts;
 mod script;
 mod session_acts;
@@ -21,3 +22,6 @@ mod tree_reads;
 
 pub use judging::{CheckDone, CheckFault, Checked, JOURNAL_MOST, check};
 pub use script::ScriptHand;
+
+#[cfg(test)]
+mod tests;

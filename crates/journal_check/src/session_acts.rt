@@ -10,11 +10,11 @@ ghost use Rattle.journal_check.specs.SameActs.{IsInTrees};
 ghost use Rattle.journal_check.specs.Sessions.{AreAlike, IsFirstApart};
 ghost use Rattle.journal_check.specs.Tables.{AreCapped};
 
-use crate::replay::{Likeness, compare};
+use crate::replay::Likeness;
+use crate::screen_sets::{ScreenSet, compare_with};
 use gate_ports::Source;
 use limit_table::Limits;
 use risk_journal::Act;
-use screen_kit::Screen;
 use std::alloc::Global;
 
 /// How the acts of all sessions compare with those of their inputs.
@@ -57,7 +57,7 @@ pub(crate) fn compare_all<S: Source>(
     limits: &Limits,
     acts: &[Vec<Act>],
     sources: Vec<S>,
-    screens: Vec<Vec<Box<dyn Screen + Send>>>,
+    screens: Vec<ScreenSet>,
 ) -> ActsDone<S>
     requires count { length acts.now ≡ length sources.items }
     requires few { length sources.items ≤ SESSIONS }
@@ -67,14 +67,12 @@ pub(crate) fn compare_all<S: Source>(
     requires trees { All (λ own. All (IsInTrees (halt_tree limits.now)) own)
         (map (λ own. own.items) acts.now) }
     ensures alike { result.found ≡ ActsFound.Alike
-        → AreAlike limits.now (map S.left sources.items)
-        (map (λ own. map (λ b. (Screen-box b).meaning b.value) own.items) screens.items)
+        → AreAlike limits.now (map S.left sources.items) screens.items
         (map (λ own. own.items) acts.now) (length acts.now) }
     ensures capped { result.found ≡ ActsFound.Alike
         → AreCapped LEAF (map (λ own. own.items) acts.now) }
     ensures apart { (row : ℕ) → result.found ≡ ActsFound.Apart row
-        → IsFirstApart limits.now (map S.left sources.items)
-        (map (λ own. map (λ b. (Screen-box b).meaning b.value) own.items) screens.items)
+        → IsFirstApart limits.now (map S.left sources.items) screens.items
         (map (λ own. own.items) acts.now) row }
     ensures read_fault { result.found ≡ ActsFound.ReadFault
         → SomeRose S.faults sources.items result.sources.items }
@@ -92,9 +90,9 @@ pub(crate) fn compare_all<S: Source>(
     let mut row = 2;
     for session in 0..acts.len() {
         let own = &acts[session];
-        let armed = screens.remove(0);
+        let set = screens.remove(0);
         let source = rest.remove(0);
-        let compared = compare(alloc, limits, session as u32, armed, source, own);
+        let compared = compare_with(alloc, limits, session as u32, set, source, own);
         back.push_reserved(compared.source);
         match compared.likeness {
             Likeness::Alike => row += own.len() as u32,

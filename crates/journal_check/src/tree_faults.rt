@@ -1,18 +1,78 @@
 //! The faults that the trees of a journal have: of their lines, and then of their reads.
 ghost use Rattle.std.specs.Prelude.{◌≡◌, ℕ, ◌+◌, ◌≤◌, ◌<◌, ◌^◌, length, map, All, IfOk, IfSome, None};
 ghost use Rattle.fold_law.specs.declared.limits.TheConstants.{LEAF, SESSIONS};
+ghost use Rattle.journal_check.specs.Buckets.{tree_value, AreByTree};
 ghost use Rattle.journal_check.specs.FarRows.{IsFarRow};
+ghost use Rattle.journal_check.specs.LineFaults.{AreRightTrees, EndsBefore};
 ghost use Rattle.journal_check.specs.RowNumbers.{count_all};
 ghost use Rattle.journal_check.specs.Tables.{AreCapped};
-ghost use Rattle.journal_check.specs.TreeFaults.{IsTreeFault, AreRightAll};
+ghost use Rattle.journal_check.specs.TreeFaults.{IsReadsFault, IsTreeFault, AreRightAll};
 
 use crate::judging::CheckFault;
-use crate::tree_acts::acts_by_tree;
+use crate::tree_acts::{TreeActs, acts_by_tree};
 use crate::tree_lines::first_line_row;
 use crate::tree_reads::first_read_row;
 use fold_law::Memory;
 use risk_journal::Journal;
 use std::alloc::Global;
+
+/// The first read that isn't right, as a fault. All lines are right.
+fn read_fault(
+    alloc: Global,
+    journal: &Journal,
+    trees: &[TreeActs],
+) -> Result<Option<CheckFault>, Memory>
+    requires sessions { length journal.now.acts.items ≤ SESSIONS }
+    requires capped { AreCapped LEAF (map (λ own. own.items) journal.now.acts.items) }
+    requires places { All (λ own. length own < 2 ^ 32)
+        (map (λ own. own.items) journal.now.lines.items) }
+    requires trees { AreByTree (length trees.now) (map (λ own. own.items) journal.now.acts.items)
+        (map tree_value trees.now) }
+    requires near { EndsBefore (length trees.now) (map (λ own. own.items) journal.now.acts.items)
+        (map (λ own. own.items) journal.now.lines.items) }
+    requires right { AreRightTrees (map (λ own. own.items) journal.now.acts.items)
+        (map (λ own. own.items) journal.now.lines.items) }
+    ensures found { (last : ℕ) → length trees.now ≡ last + 1 → IfOk result (λ fault. IfSome fault
+        (IsReadsFault last (map (λ own. own.items) journal.now.acts.items)
+        (map (λ own. own.items) journal.now.lines.items))) }
+    ensures none { (last : ℕ) → length trees.now ≡ last + 1 → IfOk result (λ fault. fault ≡ None
+        → AreRightAll last (map (λ own. own.items) journal.now.acts.items)
+        (map (λ own. own.items) journal.now.lines.items)) }
+{
+    match first_read_row(alloc, journal, trees)? {
+        Some(row) => Ok(Some(CheckFault { row, kind: 7 })),
+        None => Ok(None),
+    }
+}
+
+/// The first line that isn't right, or a post without one, as a fault; else the first read.
+fn fault_in(
+    alloc: Global,
+    journal: &Journal,
+    trees: &[TreeActs],
+) -> Result<Option<CheckFault>, Memory>
+    requires sessions { length journal.now.acts.items ≤ SESSIONS }
+    requires rows { 2 + count_all (map (λ own. own.items) journal.now.acts.items)
+        + count_all (map (λ own. own.items) journal.now.lines.items) < 2 ^ 32 }
+    requires capped { AreCapped LEAF (map (λ own. own.items) journal.now.acts.items) }
+    requires places { All (λ own. length own < 2 ^ 32)
+        (map (λ own. own.items) journal.now.lines.items) }
+    requires trees { AreByTree (length trees.now) (map (λ own. own.items) journal.now.acts.items)
+        (map tree_value trees.now) }
+    requires near { EndsBefore (length trees.now) (map (λ own. own.items) journal.now.acts.items)
+        (map (λ own. own.items) journal.now.lines.items) }
+    ensures found { (last : ℕ) → length trees.now ≡ last + 1 → IfOk result (λ fault. IfSome fault
+        (IsTreeFault last (map (λ own. own.items) journal.now.acts.items)
+        (map (λ own. own.items) journal.now.lines.items))) }
+    ensures none { (last : ℕ) → length trees.now ≡ last + 1 → IfOk result (λ fault. fault ≡ None
+        → AreRightAll last (map (λ own. own.items) journal.now.acts.items)
+        (map (λ own. own.items) journal.now.lines.items)) }
+{
+    match first_line_row(alloc, journal, trees)? {
+        Some(row) => Ok(Some(CheckFault { row, kind: 6 })),
+        None => read_fault(alloc, journal, trees),
+    }
+}
 
 /// The first fault of the trees of a journal, of which this one is the last.
 pub(crate) fn first_tree_fault(
@@ -36,11 +96,5 @@ pub(crate) fn first_tree_fault(
         (map (λ own. own.items) journal.now.lines.items)) }
 {
     let trees = acts_by_tree(alloc, last as usize + 1, &journal.acts)?;
-    if let Some(row) = first_line_row(alloc, journal, &trees)? {
-        return Ok(Some(CheckFault { row, kind: 6 }));
-    }
-    match first_read_row(alloc, journal, &trees)? {
-        Some(row) => Ok(Some(CheckFault { row, kind: 7 })),
-        None => Ok(None),
-    }
+    fault_in(alloc, journal, &trees)
 }

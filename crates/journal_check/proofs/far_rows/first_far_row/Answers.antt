@@ -1,0 +1,35 @@
+-- acts stand before lines
+use Rattle.std.proofs.Common.{List, subst, ℕ}
+use Rattle.risk_journal.specs.declared.acts.Act.{Act}
+use Rattle.journal_check.specs.FarRows.{IsFarAct, IsFarLine, IsFarRow}
+use Rattle.journal_check.specs.Firsts.{IsFirstRow}
+use Rattle.journal_check.proofs.Cases.{if_some_more}
+use Rattle.journal_check.proofs.FarLines.{act_is_first, line_is_first, none_at_all_far}
+use Rattle.journal_check.proofs.Kept.{kept}
+use Rattle.journal_check.proofs.far_rows.first_far_row.Goals as goal
+
+pub returns-in-Some-clause-found : goal.returns-in-Some-clause-found
+returns-in-Some-clause-found c =
+    act_is_first c.args.last (kept c.args.journal.now.acts.items) (kept c.args.journal.now.lines.items)
+    c.in-Some.row
+    (subst (λ a. IsFirstRow (IsFarAct c.args.last (kept a)) c.in-Some.row) c.deref.ensures.value
+    c.in-Some.ensures.found)
+
+pub returns-in-None-clause-found : goal.returns-in-None-clause-found
+returns-in-None-clause-found c =
+    let acts = kept c.args.journal.now.acts.items in
+    let lines = kept c.args.journal.now.lines.items in
+    if_some_more (IsFirstRow (IsFarLine c.args.last acts lines))
+    (IsFirstRow (IsFarRow c.args.last acts lines)) c.first_far_line.result
+    (λ row. line_is_first c.args.last acts lines row
+    (subst (λ a. (other : ℕ) → ¬ IsFarAct c.args.last (kept a) other) c.deref.ensures.value
+    (c.first_act_row.ensures.none c.in-None.is)))
+    c.first_far_line.ensures.found
+
+pub returns-in-None-clause-none : goal.returns-in-None-clause-none
+returns-in-None-clause-none c = λ none.
+    none_at_all_far c.args.last (kept c.args.journal.now.acts.items)
+    (kept c.args.journal.now.lines.items)
+    (subst (λ a. (row : ℕ) → ¬ IsFarAct c.args.last (kept a) row) c.deref.ensures.value
+    (c.first_act_row.ensures.none c.in-None.is))
+    (c.first_far_line.ensures.none none)

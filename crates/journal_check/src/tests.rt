@@ -1,0 +1,254 @@
+//! Journals against the answers that were worked out for them by hand, each fault alone and before each
+//! later one; and a source that fails. Bytes of inputs have a bar for SOH.
+use crate::{CheckFault, Checked, check};
+use fold_law::SESSIONS;
+use gate_ports::MemSource;
+use limit_table::{Limits, read_limits};
+use std::alloc::{AllocError, Global};
+use std::process::Abort;
+use std::test::*;
+
+/// A firm's limit of 1,000, and an account and a symbol with more: trees 0 to 2, and the halt tree 3.
+const LIMITS: &[u8] = b"firm,,1000,,,\naccount,ACC,100000,,,\nsymbol,XYZ,100000,1,12,100000\n";
+
+/// An order of 100 at 10.00, which is 1,000.
+const ORDER: &[u8] =
+    b"8=FIX.4.4|9=113|35=D|49=C1|56=GATE|34=1|52=20240102-10:00:00|11=a1|1=ACC|55=XYZ|54=1|38=100|\
+        40=2|44=10.0000|60=20240102-10:00:00|10=175|";
+
+/// No input.
+const NOTHING: &[u8] = b"";
+
+/// The journal of a session with that order: it is sent.
+const SENT: &[u8] = b"kind,session,a,b,c,d\n\
+post,0,0,1,1000,\n\
+post,0,1,1,1000,\n\
+post,0,2,1,1000,\n\
+read,0,3,0,0,0\n\
+read,0,0,1,1,1000\n\
+read,0,1,1,1,1000\n\
+read,0,2,1,1,1000\n\
+sent,0,0,,,\n\
+ended,0,0,,,\n\
+line,0,0,1,1,1000\n\
+line,0,1,1,1,1000\n\
+line,0,2,1,1,1000\n";
+
+/// The same with another value in the read of the firm's root.
+const OTHER_READ: &[u8] = b"kind,session,a,b,c,d\n\
+post,0,0,1,1000,\n\
+post,0,1,1,1000,\n\
+post,0,2,1,1000,\n\
+read,0,3,0,0,0\n\
+read,0,0,1,1,999\n\
+read,0,1,1,1,1000\n\
+read,0,2,1,1,1000\n\
+sent,0,0,,,\n\
+ended,0,0,,,\n\
+line,0,0,1,1,1000\n\
+line,0,1,1,1,1000\n\
+line,0,2,1,1,1000\n";
+
+/// The same without the last line.
+const FEWER_LINES: &[u8] = b"kind,session,a,b,c,d\n\
+post,0,0,1,1000,\n\
+post,0,1,1,1000,\n\
+post,0,2,1,1000,\n\
+read,0,3,0,0,0\n\
+read,0,0,1,1,1000\n\
+read,0,1,1,1,1000\n\
+read,0,2,1,1,1000\n\
+sent,0,0,,,\n\
+ended,0,0,,,\n\
+line,0,0,1,1,1000\n\
+line,0,1,1,1,1000\n";
+
+/// The same with another value posted in the firm's tree.
+const OTHER_POST: &[u8] = b"kind,session,a,b,c,d\n\
+post,0,0,1,999,\n\
+post,0,1,1,1000,\n\
+post,0,2,1,1000,\n\
+read,0,3,0,0,0\n\
+read,0,0,1,1,1000\n\
+read,0,1,1,1,1000\n\
+read,0,2,1,1,1000\n\
+sent,0,0,,,\n\
+ended,0,0,,,\n\
+line,0,0,1,1,1000\n\
+line,0,1,1,1,1000\n\
+line,0,2,1,1,1000\n";
+
+/// A fault of this kind in this row.
+const fn fault(kind: u8, row: u32) -> Checked {
+    Checked::No(CheckFault { row, kind })
+}
+
+/// A change of a row of the journal above, by its number from 1: another row, none, or more.
+type Change = (usize, &'static [u8]);
+
+/// A changed journal, and its answer.
+#[derive(Clone, Copy)]
+struct Case {
+    name: &'static str,
+    changes: &'static [Change],
+    answer: Checked,
+}
+
+/// The faults alone, and before each later one. The rows of acts are 2 to 10, and those of lines 11 to
+/// 13.
+const CASES: &[Case] = &[
+    Case { name: "no change", changes: &[], answer: Checked::Yes },
+    Case { name: "text", changes: &[(1, b"kind\n")], answer: fault(1, 1) },
+    Case { name: "text in a later row", changes: &[(4, b"posted,0,2,1,1000,\n")], answer: fault(1, 4) },
+    Case { name: "count", changes: &[(10, b"ended,0,0,,,\nended,1,0,,,\n")], answer: fault(2, 0) },
+    Case { name: "early", changes: &[(10, b"ended,0,4,,,\n")], answer: fault(3, 10) },
+    Case { name: "an act's tree", changes: &[(5, b"read,0,4,0,0,0\n")], answer: fault(4, 5) },
+    Case { name: "a line's tree", changes: &[(13, b"line,0,4,1,1,1000\n")], answer: fault(4, 13) },
+    Case { name: "acts", changes: &[(9, b"sent,0,1,,,\n")], answer: fault(5, 9) },
+    Case { name: "an act less", changes: &[(9, b"")], answer: fault(5, 9) },
+    Case { name: "an act more", changes: &[(9, b"sent,0,0,,,\nsent,0,0,,,\n")], answer: fault(5, 10) },
+    Case { name: "a line's value", changes: &[(12, b"line,0,1,1,1,1001\n")], answer: fault(6, 12) },
+    Case { name: "a line's index", changes: &[(11, b"line,0,0,1,2,1000\n")], answer: fault(6, 11) },
+    Case { name: "a line's session", changes: &[(11, b"line,1,0,1,1,1000\n")], answer: fault(6, 11) },
+    Case { name: "a line more", changes: &[(13, b"line,0,2,1,1,1000\nline,0,2,2,2,1000\n")], answer: fault(6, 14) },
+    Case { name: "no line", changes: &[(11, b""), (12, b""), (13, b"")], answer: fault(6, 0) },
+    Case { name: "a read's value", changes: &[(7, b"read,0,1,1,1,1001\n")], answer: fault(7, 7) },
+    Case { name: "a read's place", changes: &[(8, b"read,0,2,1,0,1000\n")], answer: fault(7, 8) },
+    Case { name: "a place past the history", changes: &[(5, b"read,0,3,0,1,0\n")], answer: fault(7, 5) },
+    Case { name: "text before count", changes: &[(1, b"kind\n"), (10, b"ended,0,0,,,\nended,1,0,,,\n")], answer: fault(1, 1) },
+    Case { name: "count before early", changes: &[(10, b"ended,0,4,,,\nended,1,0,,,\n")], answer: fault(2, 0) },
+    Case { name: "early before tree", changes: &[(2, b"post,0,4,1,1000,\n"), (10, b"ended,0,6,,,\n")], answer: fault(3, 10) },
+    Case { name: "tree before acts", changes: &[(2, b"post,0,0,1,999,\n"), (13, b"line,0,4,1,1,1000\n")], answer: fault(4, 13) },
+    Case { name: "acts before lines", changes: &[(9, b"sent,0,1,,,\n"), (11, b"line,0,0,1,2,1000\n")], answer: fault(5, 9) },
+    Case { name: "lines before reads", changes: &[(5, b"read,0,3,0,1,0\n"), (12, b"line,0,1,1,1,1001\n")], answer: fault(6, 12) },
+    Case { name: "a missing line before reads", changes: &[(5, b"read,0,3,0,1,0\n"), (13, b"")], answer: fault(6, 0) },
+    Case { name: "the first of two reads", changes: &[(7, b"read,0,1,1,1,1001\n"), (8, b"read,0,2,1,1,1001\n")], answer: fault(7, 7) },
+    Case { name: "a wrong line before a missing one", changes: &[(11, b""), (12, b"line,0,1,1,1,1001\n")], answer: fault(6, 11) },
+];
+
+/// The bytes, with SOH for each bar.
+fn bytes_of(alloc: Global, text: &[u8]) -> Result<Vec<u8>, AllocError> {
+    let mut bytes = Vec::new(alloc);
+    for byte in text {
+        bytes.push(if *byte == b'|' { 1 } else { *byte })?;
+    }
+    Ok(bytes)
+}
+
+/// The limits of the file above.
+fn limits(alloc: Global) -> Result<Limits, Fail> {
+    match read_limits(alloc, LIMITS) {
+        Ok(limits) => Ok(limits),
+        Err(_) => Err("the limits are no file's".into()),
+    }
+}
+
+/// The row with this number of the journal above, with its changes.
+fn add_row(text: &mut Vec<u8>, number: usize, row: &[u8], case: &Case) -> Result<(), AllocError> {
+    for change in case.changes {
+        if change.0 == number {
+            return text.extend_from_slice(change.1);
+        }
+    }
+    text.extend_from_slice(row)?;
+    text.push(b'\n')?;
+    Ok(())
+}
+
+/// The journal above with the changes of a case.
+fn changed(alloc: Global, case: &Case) -> Result<Vec<u8>, AllocError> {
+    let mut text = Vec::new(alloc);
+    let mut row = Vec::new(alloc);
+    let mut number = 1usize;
+    for byte in SENT {
+        if *byte == b'\n' {
+            add_row(&mut text, number, &row, case)?;
+            row.clear();
+            number = number.saturating_add(1);
+        } else {
+            row.push(*byte)?;
+        }
+    }
+    Ok(text)
+}
+
+/// What is said of a journal with sessions of these inputs. The call with this number on each source
+/// fails, from 0.
+fn said(
+    rt: &impl Abort,
+    alloc: Global,
+    journal: &[u8],
+    inputs: &[&[u8]],
+    failing: u64,
+) -> Result<Checked, Fail> {
+    let mut sources = Vec::new(alloc);
+    let mut screens = Vec::new(alloc);
+    for input in inputs {
+        let calls = [failing].to_vec(alloc)?;
+        sources.push(MemSource::new(bytes_of(alloc, input)?, 100, calls))?;
+        screens.push(Vec::new(alloc))?;
+    }
+    assert!(rt; sources.len() >= 1, "a source");
+    assert!(rt; sources.len() <= SESSIONS as usize, "few sources");
+    assert!(rt; sources.len() <= screens.len(), "screens for each");
+    let count = sources.len();
+    let done = check(alloc, &limits(alloc)?, journal, sources, screens);
+    assert_eq!(rt; done.sources.len(), count, "all sources come back");
+    Ok(done.answer)
+}
+
+/// No call has this number.
+const NEVER: u64 = 999;
+
+#[test]
+fn worked_journals_have_their_answers(rt: HostRuntime) -> Result<(), Fail> {
+    let alloc = rt.alloc();
+    assert_eq!(rt; said(&rt, alloc, SENT, &[ORDER], NEVER)?, Checked::Yes);
+    assert_eq!(rt; said(&rt, alloc, OTHER_READ, &[ORDER], NEVER)?, fault(7, 6));
+    assert_eq!(rt; said(&rt, alloc, FEWER_LINES, &[ORDER], NEVER)?, fault(6, 0));
+    assert_eq!(rt; said(&rt, alloc, OTHER_POST, &[ORDER], NEVER)?, fault(5, 2));
+    Ok(())
+}
+
+#[test]
+fn each_fault_comes_alone_and_before_later_ones(rt: HostRuntime) -> Result<(), Fail> {
+    let alloc = rt.alloc();
+    for case in CASES {
+        let text = changed(alloc, case)?;
+        let answer = said(&rt, alloc, &text, &[ORDER], NEVER)?;
+        assert_eq!(rt; answer, case.answer, "{}", case.name);
+    }
+    Ok(())
+}
+
+#[test]
+fn another_input_is_not_the_journals(rt: HostRuntime) -> Result<(), Fail> {
+    let alloc = rt.alloc();
+    assert_eq!(rt; said(&rt, alloc, SENT, &[NOTHING], NEVER)?, fault(5, 2));
+    assert_eq!(rt; said(&rt, alloc, b"kind,session,a,b,c,d\n", &[NOTHING], NEVER)?, fault(2, 0));
+    assert_eq!(
+        rt;
+        said(&rt, alloc, b"kind,session,a,b,c,d\nended,0,0,,,\n", &[NOTHING], NEVER)?,
+        Checked::Yes
+    );
+    Ok(())
+}
+
+#[test]
+fn a_source_that_fails_is_told(rt: HostRuntime) -> Result<(), Fail> {
+    let alloc = rt.alloc();
+    assert_eq!(rt; said(&rt, alloc, SENT, &[ORDER], 0)?, Checked::ReadFault);
+    assert_eq!(rt; said(&rt, alloc, SENT, &[ORDER], 1)?, Checked::ReadFault);
+    assert_eq!(rt; said(&rt, alloc, SENT, &[ORDER, NOTHING], 0)?, fault(2, 0));
+    Ok(())
+}
+
+#[test]
+fn sessions_are_told_apart(rt: HostRuntime) -> Result<(), Fail> {
+    let alloc = rt.alloc();
+    let two = b"kind,session,a,b,c,d\nended,0,0,,,\nended,1,0,,,\n";
+    assert_eq!(rt; said(&rt, alloc, two, &[NOTHING, NOTHING], NEVER)?, Checked::Yes);
+    assert_eq!(rt; said(&rt, alloc, two, &[NOTHING, ORDER], NEVER)?, fault(5, 3));
+    assert_eq!(rt; said(&rt, alloc, two, &[ORDER, ORDER], NEVER)?, fault(5, 2));
+    Ok(())
+}
