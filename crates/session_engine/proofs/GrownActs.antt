@@ -20,7 +20,7 @@ use Rattle.exposure_book.specs.Reports.{outcome_of_report, outcome_of_reject}
 use Rattle.screen_kit.specs.Screens.{ScreenValue}
 use Rattle.screen_kit.specs.Sets.{first_code}
 use Rattle.risk_journal.specs.declared.acts.Act.{Act}
-use Rattle.risk_journal.specs.declared.acts.Act.TheVariants.{Post, Sent, Refused, Noted}
+use Rattle.risk_journal.specs.declared.acts.Act.TheVariants.{Post, Sent}
 use Rattle.risk_journal.specs.ActLists.{posts_in}
 use Rattle.risk_journal.specs.JournalGrammar.{IsNoEnd}
 use Rattle.limit_table.specs.Trees.{LimitsValue, halt_tree}
@@ -42,13 +42,11 @@ use Rattle.order_desk.specs.Offers.{new_offer, replace_offer}
 use Rattle.order_desk.specs.Refusals.{refusal_by_code}
 use Rattle.order_desk.specs.Reported.{Settled, settled_with, report_settled, reject_settled}
 use Rattle.order_desk.specs.Values.{values_told, rows_told}
-use Rattle.session_engine.specs.declared.note.Note.{Note}
-use Rattle.session_engine.specs.declared.note.Note.TheVariants as note
 use Rattle.session_engine.specs.Answers.{Wording, order_refusal, cancel_refusal, replace_refusal}
 use Rattle.session_engine.specs.Session.{SessionValue, tape_of, after_answer, decided, after_trip}
-use Rattle.session_engine.specs.Session.{after_decision, after_noting, after_effect, after_settling}
+use Rattle.session_engine.specs.Session.{after_decision, after_effect, after_settling}
 use Rattle.session_engine.specs.Session.{after_fault, named, asks, after_message, after_result}
-use Rattle.session_engine.specs.Session.{after_content, after_frame, after_frames, with_asked}
+use Rattle.session_engine.specs.Session.{after_frame, after_frames, with_asked}
 use Rattle.session_engine.specs.Session.{taken_up as taken_frame}
 use Rattle.session_engine.specs.Trips.{is_trip}
 

@@ -1,5 +1,5 @@
 -- What is decided over other reads is decided alike, or the acts part at a read.
-use Rattle.std.proofs.Common.{◌≡◌, ◌⊎◌, inl, inr, ⊎_elim, List, refl, ap, ◌∙◌}
+use Rattle.std.proofs.Common.{◌≡◌, ◌⊎◌, inl, inr, List, refl, ap}
 use Rattle.std.specs.Prelude.{Bool, true, false, ◌||◌, Option, Some, None, Result, Ok, Err}
 use Rattle.fix_orders.specs.declared.message.Cancel.{Cancel}
 use Rattle.fix_orders.specs.declared.message.NewOrder.{NewOrder}
@@ -12,7 +12,6 @@ use Rattle.screen_kit.specs.Sets.{first_code}
 use Rattle.risk_journal.specs.declared.acts.Act.{Act}
 use Rattle.risk_journal.specs.ActLists.{SeenAt}
 use Rattle.admit_core.specs.Asking.{Asked, asking}
-use Rattle.admit_core.specs.Legs.{Leg}
 use Rattle.admit_core.specs.Tapes.{Tape, tape}
 use Rattle.limit_table.specs.Trees.{LimitsValue}
 use Rattle.order_desk.specs.declared.offer.Offer.{Offer}

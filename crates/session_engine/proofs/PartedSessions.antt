@@ -1,5 +1,5 @@
 -- Sessions over the same frames with other reads go alike, or their acts part at a read.
-use Rattle.std.proofs.Common.{◌≡◌, ◌⊎◌, inl, inr, ℕ, ◌+◌, List, [], ◌∷◌, refl, ap, ◌∙◌, subst, sym}
+use Rattle.std.proofs.Common.{◌≡◌, inl, inr, ℕ, ◌+◌, List, [], ◌∷◌, refl, ap, ◌∙◌, subst, sym}
 use Rattle.std.specs.Prelude.{Bool, true, false, Option, Some, None, Result, Ok, Err}
 use Rattle.fix_fields.specs.Fields.{FieldValue}
 use Rattle.fix_fields.specs.Frames.{FrameValue}
@@ -16,7 +16,7 @@ use Rattle.order_desk.specs.Decisions.{Decision, new_screened, cancel_decided, r
 use Rattle.order_desk.specs.Offers.{new_offer, replace_offer}
 use Rattle.order_desk.specs.Reported.{Settled, report_settled, reject_settled}
 use Rattle.session_engine.specs.Answers.{Wording, order_refusal, cancel_refusal, replace_refusal}
-use Rattle.session_engine.specs.Parting.{PartAtRead, AreAlikeOrPart}
+use Rattle.session_engine.specs.Parting.{AreAlikeOrPart}
 use Rattle.session_engine.specs.Reaches.{with_reads}
 use Rattle.session_engine.specs.Session.{LimitsValue, SessionValue, decided, after_trip, after_answer}
 use Rattle.session_engine.specs.Session.{after_decision, after_effect, after_passing, after_settling}
