@@ -195,6 +195,12 @@ unopened run limits sets t0 r0 w0 t1 r1 w1 status.CutShort limits_are (session, 
     absurd
     fault
 
+-- the limits that count for so many sessions, by equal counts
+pub counted_as : (told : Option Texts) (name : List ℕ) (count sessions : ℕ) (limits : Limits)
+    → count ≡ sessions → HasCounted told name count limits → HasCounted told name sessions limits
+counted_as told name count sessions limits same counted =
+    subst (λ (n : ℕ). HasCounted told name n limits) same counted
+
 -- sessions of which one wanted memory stand at 8, and any others did what their run says
 pub memory_or_run : {R : Type 0} (ends : List End) (refused : Bool) (n : ℕ) (wanting : Bool)
     → list_any is_memory ends ≡ wanting → n ≡ standing_of ends refused

@@ -94,13 +94,13 @@ fn a_root_is_at_first_the_unit(rt: HostRuntime) -> Result<(), Fail> {
     Ok(())
 }
 
-// A post of four times the round, and the session's number.
+// A post of four times the round, and the session's number, as far as a leaf holds it.
 fn post_round(forest: &Forest<Sum>, pass: Pass<Sum>, round: u32) -> Pass<Sum>
     requires forest { IsPassOf forest.now pass }
     requires tree { 1 ≤ pass.plan.trees }
     ensures { IsSamePass pass result }
 {
-    let value = 4 * u64::from(round) + u64::from(pass.number());
+    let value = (4 * u64::from(round) + u64::from(pass.number())).min(LEAF);
     let mut hand = TreeHand::new(forest, pass);
     if hand.left(0) > 0 && hand.reserve(1).is_ok() {
         hand.post(0, value);

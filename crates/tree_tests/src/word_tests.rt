@@ -1,4 +1,5 @@
 //! What no clause says: each call once at worked numbers, and that the law's call returns.
+use fold_law::SESSIONS;
 use stamp_word::{Shape, each_word_is_one_pair, pack, stamp_of, value_of};
 use std::test::*;
 
@@ -35,6 +36,10 @@ fn shapes_have_the_fewest_levels(rt: HostRuntime) -> Result<(), Fail> {
         (64, 6),
     ];
     for (sessions, levels) in LEVELS {
+        assert!(rt;
+            sessions >= 1 && sessions <= SESSIONS,
+            "{sessions} sessions"
+        );
         assert_eq!(rt;
             Shape::of(sessions, 1).levels,
             levels,

@@ -1,10 +1,9 @@
-use Rattle.std.proofs.Common.{◌∙◌, ℕ, ap, sym, string_bytes, arith}
+use Rattle.std.proofs.Common.{◌∙◌, sym, string_bytes, arith}
 use Rattle.std.proofs.lemmas.List.{length-map}
-use Rattle.limit_table.specs.Counted.{counted_for}
 use Rattle.gate_program.specs.CommandOf.{run_value}
 use Rattle.gate_program.specs.Objects.{objects_of}
 use Rattle.gate_program.proofs.RunStarts.{few_sessions, some_session}
-use Rattle.gate_program.proofs.Ways.{ended_went, unopened}
+use Rattle.gate_program.proofs.Ways.{counted_as, ended_went, unopened}
 use Rattle.gate_program.proofs.command.run_limited.Goals as goal
 
 pub run_opened-requires-clause-some : goal.run_opened-requires-clause-some
@@ -30,13 +29,8 @@ returns-in-Ok-open_sessions g c =
     g.D.Out.Sink.name g.D.Out.Sink.faults)
     ∙ c.in-Ok-open_sessions.ensures.many ∙ sym (length-map c.args.run.now.sessions.now
     string_bytes))
-    (record {
-      file = c.requires.limits.file;
-      file_is = c.requires.limits.file_is;
-      counted = c.requires.limits.counted
-          ∙ ap (λ (n : ℕ). counted_for n c.requires.limits.file)
-          (sym (length-map c.args.run.now.sessions.now string_bytes));
-    })
+    (counted_as _ _ _ _ _ (sym (length-map c.args.run.now.sessions.now string_bytes))
+    c.requires.limits)
     record {
       stays = c.admitted_stays_within.ensures;
       own = c.a_history_admits_what_sessions_do.ensures;
