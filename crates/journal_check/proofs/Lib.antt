@@ -20,7 +20,7 @@ pub mod LineBounds
 pub mod TextRows
 pub mod SessionIsOne
 pub mod SessionRows
-pub mod Kinds
+pub mod KindOrder
 pub mod WorthOf
 pub mod FarLines
 pub mod Comparing
@@ -30,3 +30,6 @@ pub mod SameSession
 pub mod ScriptCalls
 pub mod ScriptedReads
 pub mod Sources
+pub mod InTrees
+pub mod SessionSteps
+pub mod NextSource

@@ -10,15 +10,24 @@ use Rattle.journal_check.specs.Answers.{IsSourceBack, AreBack, SomeRose}
 use Rattle.journal_check.proofs.Cases.{le_or_lt}
 
 -- the first of those that are left stands at the place of a session, and the others are left
-pub first_left : {X : Type 0} (xs old new : List X) (session : ℕ) (x : X) → old ≡ drop session xs
-    → session < length xs → x ≡ get_or old 0 x → new ≡ drop 1 old
-    → (slice_get xs session ≡ Some x) × (new ≡ drop (session + 1) xs)
-first_left {X} xs old new session x left below first rest =
-    let parts : old ≡ get_or xs session x ∷ drop (session + 1) xs = left ∙ drop_more xs session x below in
-    let is : x ≡ get_or xs session x = first ∙ ap (λ (l : List X). get_or l 0 x) parts in (
-      slice_get-get_or xs session x below ∙ ap (λ (y : X). Some y) (sym is),
-      rest ∙ ap (drop 1) parts,
+pub first_left : {X : Type 0} (xs rest : List X) (session : ℕ) (x : X)
+    → drop session xs ≡ x ∷ rest
+    → (slice_get xs session ≡ Some x) × (rest ≡ drop (session + 1) xs)
+first_left {X} xs rest session x is =
+    let below : session < length xs =
+    omega (arith, ap length is, length-drop session xs) in
+    let parts : get_or xs session x ∷ drop (session + 1) xs ≡ x ∷ rest =
+    sym (drop_more xs session x below) ∙ is in (
+      slice_get-get_or xs session x below
+          ∙ ap (λ (y : X). Some y) (ap (λ (l : List X). get_or l 0 x) parts),
+      sym (ap (drop 1) parts),
     )
+
+-- what is taken from the front
+pub taken_first : {X : Type 0} (xs rest : List X) (x : X) → 1 ≤ length xs → x ≡ get_or xs 0 x
+    → rest ≡ drop 1 xs → xs ≡ x ∷ rest
+taken_first [] rest x some is left = absurd (omega (arith, some))
+taken_first (y ∷ xs) rest x some is left = ap (λ z. z ∷ xs) (sym is) ∙ ap (λ l. x ∷ l) (sym left)
 
 -- what stands at a place in two lists one after the other
 pub at_place : {X : Type 0} (front back : List X) (index : ℕ) (x : X)
@@ -45,6 +54,9 @@ module _ {S : Type 0} (faults : S → ℕ) (name : S → Option (List ℕ)) (bef
   AreBackSoFar now = (index : ℕ) (one other : S) → slice_get before index ≡ Some one
       → slice_get now index ≡ Some other → IsSourceBack faults name one other
 
+  same_back : (one : S) → IsSourceBack faults name one one
+  same_back one = record { later = omega arith; name_is = refl }
+
   pub back_more : (now : List S) (one other : S) → slice_get before (length now) ≡ Some one
       → AreBackSoFar now → IsSourceBack faults name one other → AreBackSoFar (now ++ other ∷ [])
   back_more now one other at so_far back index first then has also =
@@ -64,8 +76,15 @@ module _ {S : Type 0} (faults : S → ℕ) (name : S → Option (List ℕ)) (bef
       (λ (less : index < length now). so_far index first then has (parts.0 less))
       (le_or_lt (length now) index)
 
-  same_back : (one : S) → IsSourceBack faults name one one
-  same_back one = record { later = omega arith; name_is = refl }
+  -- all of them, none of which was called
+  pub itself_back : AreBack faults name before before
+  itself_back = record {
+    count = refl;
+    each = λ index one other at also.
+        let is : one ≡ other = sym (get_or_from_slice_get before index one one at)
+        ∙ get_or_from_slice_get before index other one also in
+        subst (IsSourceBack faults name one) is (same_back one);
+  }
 
   -- with those that weren't called all are back
   pub all_back : (now : List S) (session : ℕ) → length now ≡ session → session ≤ length before

@@ -20,6 +20,7 @@ pub mod Tables
 pub mod Judged
 pub mod Buckets
 pub mod Answers
+pub mod TakingNext
 pub mod Script
 pub mod ScriptKept
 pub mod Replays

@@ -1,10 +1,12 @@
 //! The answer to a journal, limits and the sources of its sessions.
 ghost use Rattle.std.specs.Prelude.{◌≡◌, ◌≢◌, ℕ, ◌+◌, ◌≤◌, ◌<◌, ◌^◌, List, length, map, All};
 ghost use Rattle.fold_law.specs.declared.limits.TheConstants.{LEAF, SESSIONS};
+ghost use Rattle.limit_table.specs.Trees.{halt_tree};
 ghost use Rattle.risk_journal.specs.JournalGrammar.{IsSound};
 ghost use Rattle.journal_check.specs.Answers.{IfNo, AreTold, AreBack, SomeRose};
 ghost use Rattle.journal_check.specs.FarRows.{IsFarRow};
 ghost use Rattle.journal_check.specs.Faults.{case_of, IsFirstFault, IsFirstKind, IsLawful, HasNoFault};
+ghost use Rattle.journal_check.specs.RowFaults.{HasNoRowFault};
 ghost use Rattle.journal_check.specs.RowNumbers.{count_all};
 ghost use Rattle.journal_check.specs.Tables.{AreCapped};
 ghost use Rattle.journal_check.specs.TreeFaults.{IsTreeFault, AreRightAll};
@@ -84,6 +86,54 @@ fn judge_trees(alloc: Global, journal: &Journal, last: u32) -> Checked
     }
 }
 
+/// Judges a journal that has no fault by its rows alone: by its sessions, and by its trees.
+fn judge_sessions<S: Source>(
+    alloc: Global,
+    limits: &Limits,
+    journal: &Journal,
+    sources: Vec<S>,
+    screens: Vec<ScreenSet>,
+) -> CheckDone<S>
+    requires few { length sources.items ≤ SESSIONS }
+    requires screens { length sources.items ≤ length screens.items }
+    requires bytes { 2 + count_all (map (λ own. own.items) journal.now.acts.items)
+        + count_all (map (λ own. own.items) journal.now.lines.items) < 2 ^ 32 }
+    requires sound { IsSound (map (λ own. own.items) journal.now.acts.items)
+        (map (λ own. own.items) journal.now.lines.items) }
+    requires rows { HasNoRowFault (length sources.items) (halt_tree limits.now)
+        (map (λ own. own.items) journal.now.acts.items)
+        (map (λ own. own.items) journal.now.lines.items) }
+    ensures yes { result.answer ≡ Checked.Yes → AreTold (map S.left sources.items)
+        → (text : List ℕ) → HasNoFault
+        (case_of limits.now text (map S.left sources.items) screens.items)
+        (map (λ own. own.items) journal.now.acts.items)
+        (map (λ own. own.items) journal.now.lines.items) }
+    ensures worth { result.answer ≡ Checked.Yes → AreTold (map S.left sources.items)
+        → (text : List ℕ) → AreWorth
+        (case_of limits.now text (map S.left sources.items) screens.items)
+        (map (λ own. own.items) journal.now.acts.items)
+        (map (λ own. own.items) journal.now.lines.items) }
+    ensures no { IfNo result.answer (λ fault. (5 ≤ fault.kind → AreTold (map S.left sources.items))
+        → (text : List ℕ) → IsFirstKind
+        (case_of limits.now text (map S.left sources.items) screens.items)
+        (map (λ own. own.items) journal.now.acts.items)
+        (map (λ own. own.items) journal.now.lines.items) fault.kind fault.row) }
+    ensures read_fault { result.answer ≡ Checked.ReadFault
+        → SomeRose S.faults sources.items result.sources.items }
+    ensures back { AreBack S.faults S.name sources.items result.sources.items }
+{
+    let done = compare_all(alloc, limits, &journal.acts, sources, screens);
+    match done.found {
+        ActsFound::Alike => {
+            let answer = judge_trees(alloc, journal, limits.halt_tree());
+            answered(answer, done.sources)
+        }
+        ActsFound::Apart(row) => answered(Checked::No(CheckFault { row, kind: 5 }), done.sources),
+        ActsFound::ReadFault => answered(Checked::ReadFault, done.sources),
+        ActsFound::Memory => answered(Checked::Memory, done.sources),
+    }
+}
+
 /// Judges a journal that was read: by its rows, by its sessions, and by its trees.
 fn judge<S: Source>(
     alloc: Global,
@@ -94,36 +144,74 @@ fn judge<S: Source>(
 ) -> CheckDone<S>
     requires few { length sources.items ≤ SESSIONS }
     requires screens { length sources.items ≤ length screens.items }
-    requires rows { 2 + count_all (map (λ own. own.items) journal.now.acts.items)
+    requires bytes { 2 + count_all (map (λ own. own.items) journal.now.acts.items)
         + count_all (map (λ own. own.items) journal.now.lines.items) < 2 ^ 32 }
     requires sound { IsSound (map (λ own. own.items) journal.now.acts.items)
         (map (λ own. own.items) journal.now.lines.items) }
     ensures yes { result.answer ≡ Checked.Yes → AreTold (map S.left sources.items)
-        → (text : List ℕ) → HasNoFault (case_of limits.now text (map S.left sources.items) screens.items)
+        → (text : List ℕ) → HasNoFault
+        (case_of limits.now text (map S.left sources.items) screens.items)
         (map (λ own. own.items) journal.now.acts.items)
         (map (λ own. own.items) journal.now.lines.items) }
     ensures worth { result.answer ≡ Checked.Yes → AreTold (map S.left sources.items)
-        → (text : List ℕ) → AreWorth (case_of limits.now text (map S.left sources.items) screens.items)
+        → (text : List ℕ) → AreWorth
+        (case_of limits.now text (map S.left sources.items) screens.items)
         (map (λ own. own.items) journal.now.acts.items)
         (map (λ own. own.items) journal.now.lines.items) }
     ensures no { IfNo result.answer (λ fault. (5 ≤ fault.kind → AreTold (map S.left sources.items))
-        → (text : List ℕ) → IsFirstKind (case_of limits.now text (map S.left sources.items) screens.items)
+        → (text : List ℕ) → IsFirstKind
+        (case_of limits.now text (map S.left sources.items) screens.items)
         (map (λ own. own.items) journal.now.acts.items)
         (map (λ own. own.items) journal.now.lines.items) fault.kind fault.row) }
     ensures read_fault { result.answer ≡ Checked.ReadFault
         → SomeRose S.faults sources.items result.sources.items }
     ensures back { AreBack S.faults S.name sources.items result.sources.items }
 {
-    let last = limits.halt_tree();
-    if let Some(fault) = first_row_fault(journal, sources.len(), last) {
-        return answered(Checked::No(fault), sources);
+    match first_row_fault(journal, sources.len(), limits.halt_tree()) {
+        Some(fault) => answered(Checked::No(fault), sources),
+        None => judge_sessions(alloc, limits, journal, sources, screens),
     }
-    let done = compare_all(alloc, limits, &journal.acts, sources, screens);
-    match done.found {
-        ActsFound::Alike => answered(judge_trees(alloc, journal, last), done.sources),
-        ActsFound::Apart(row) => answered(Checked::No(CheckFault { row, kind: 5 }), done.sources),
-        ActsFound::ReadFault => answered(Checked::ReadFault, done.sources),
-        ActsFound::Memory => answered(Checked::Memory, done.sources),
+}
+
+/// The same with screens as they come.
+fn judge_read<S: Source>(
+    alloc: Global,
+    limits: &Limits,
+    journal: &Journal,
+    sources: Vec<S>,
+    screens: Vec<Vec<Box<dyn Screen + Send>>>,
+) -> CheckDone<S>
+    requires few { length sources.items ≤ SESSIONS }
+    requires screens { length sources.items ≤ length screens.items }
+    requires bytes { 2 + count_all (map (λ own. own.items) journal.now.acts.items)
+        + count_all (map (λ own. own.items) journal.now.lines.items) < 2 ^ 32 }
+    requires sound { IsSound (map (λ own. own.items) journal.now.acts.items)
+        (map (λ own. own.items) journal.now.lines.items) }
+    ensures yes { result.answer ≡ Checked.Yes → AreTold (map S.left sources.items)
+        → (text : List ℕ) → HasNoFault
+        (case_of limits.now text (map S.left sources.items)
+        (map (λ own. map (λ b. (Screen-box b).meaning b.value) own.items) screens.items))
+        (map (λ own. own.items) journal.now.acts.items)
+        (map (λ own. own.items) journal.now.lines.items) }
+    ensures worth { result.answer ≡ Checked.Yes → AreTold (map S.left sources.items)
+        → (text : List ℕ) → AreWorth
+        (case_of limits.now text (map S.left sources.items)
+        (map (λ own. map (λ b. (Screen-box b).meaning b.value) own.items) screens.items))
+        (map (λ own. own.items) journal.now.acts.items)
+        (map (λ own. own.items) journal.now.lines.items) }
+    ensures no { IfNo result.answer (λ fault. (5 ≤ fault.kind → AreTold (map S.left sources.items))
+        → (text : List ℕ) → IsFirstKind
+        (case_of limits.now text (map S.left sources.items)
+        (map (λ own. map (λ b. (Screen-box b).meaning b.value) own.items) screens.items))
+        (map (λ own. own.items) journal.now.acts.items)
+        (map (λ own. own.items) journal.now.lines.items) fault.kind fault.row) }
+    ensures read_fault { result.answer ≡ Checked.ReadFault
+        → SomeRose S.faults sources.items result.sources.items }
+    ensures back { AreBack S.faults S.name sources.items result.sources.items }
+{
+    match screen_sets(alloc, screens) {
+        Ok(sets) => judge(alloc, limits, journal, sources, sets),
+        Err(_) => answered(Checked::Memory, sources),
     }
 }
 
@@ -156,10 +244,7 @@ pub fn check<S: Source>(
         return answered(Checked::No(CheckFault { row: 0, kind: 1 }), sources);
     }
     match read_journal(alloc, journal) {
-        Ok(told) => match screen_sets(alloc, screens) {
-            Ok(sets) => judge(alloc, limits, &told, sources, sets),
-            Err(_) => answered(Checked::Memory, sources),
-        },
+        Ok(told) => judge_read(alloc, limits, &told, sources, screens),
         Err(JournalFault::Row(row)) => {
             answered(Checked::No(CheckFault { row, kind: 1 }), sources)
         }

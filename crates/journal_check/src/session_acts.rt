@@ -7,7 +7,9 @@ ghost use Rattle.risk_journal.specs.JournalGrammar.{HasEnded};
 ghost use Rattle.journal_check.specs.Answers.{AreBack, SomeRose};
 ghost use Rattle.journal_check.specs.RowNumbers.{count_all};
 ghost use Rattle.journal_check.specs.SameActs.{IsInTrees};
+ghost use Rattle.journal_check.specs.PostBounds.{PostsAtMost};
 ghost use Rattle.journal_check.specs.Sessions.{AreAlike, IsFirstApart};
+ghost use Rattle.journal_check.specs.TakingNext.{TakesNext};
 ghost use Rattle.journal_check.specs.Tables.{AreCapped};
 
 use crate::replay::Likeness;
@@ -36,17 +38,58 @@ pub(crate) struct ActsDone<S: Source> {
     pub(crate) sources: Vec<S>,
 }
 
+/// Sources that came back, and the sources and the screens of the sessions that wait.
+#[derive(Drop)]
+struct Progress<S: Source> {
+    back: Vec<S>,
+    rest: Vec<S>,
+    screens: Vec<ScreenSet>,
+}
+
 /// The answer, with the sources that came back and those that weren't called.
-fn with_rest<S: Source>(found: ActsFound, back: Vec<S>, rest: Vec<S>) -> ActsDone<S>
-    requires { vec_len back + vec_len rest ≤ vec_capacity back }
+fn with_rest<S: Source>(found: ActsFound, progress: Progress<S>) -> ActsDone<S>
+    requires { vec_len progress.back + vec_len progress.rest ≤ vec_capacity progress.back }
     ensures found { result.found ≡ found }
-    ensures sources { result.sources.items ≡ back.items ++ rest.items }
+    ensures sources { result.sources.items ≡ progress.back.items ++ progress.rest.items }
 {
+    let Progress {
+        back,
+        rest,
+        screens: _,
+    } = progress;
     let mut sources = back;
     for source in rest {
         sources.push_reserved(source);
     }
     ActsDone { found, sources }
+}
+
+/// Compares the acts of the next session with those of its input. Its source comes back.
+fn compare_next<S: Source>(
+    alloc: Global,
+    limits: &Limits,
+    session: u32,
+    progress: &mut Progress<S>,
+    acts: &[Act],
+) -> Likeness
+    requires source { 1 ≤ length progress.old.rest.items }
+    requires set { 1 ≤ length progress.old.screens.items }
+    requires room { vec_len progress.old.back + vec_len progress.old.rest
+        ≤ vec_capacity progress.old.back }
+    requires ended { HasEnded acts.now }
+    requires trees { All (IsInTrees (halt_tree limits.now)) acts.now }
+    ensures next { TakesNext S.left S.faults S.name limits.now acts.now progress.old progress.new
+        result }
+    ensures capped { result ≡ Likeness.Alike → All (PostsAtMost LEAF) acts.now }
+    ensures inside { (index : ℕ) → result ≡ Likeness.Apart index → index < length acts.now }
+    ensures room { vec_len progress.new.back + vec_len progress.new.rest
+        ≤ vec_capacity progress.new.back }
+{
+    let set = progress.screens.remove(0);
+    let source = progress.rest.remove(0);
+    let compared = compare_with(alloc, limits, session, set, source, acts);
+    progress.back.push_reserved(compared.source);
+    compared.likeness
 }
 
 /// Compares the acts of each session with those of its input, up to the first session that differs, or
@@ -78,30 +121,29 @@ pub(crate) fn compare_all<S: Source>(
         → SomeRose S.faults sources.items result.sources.items }
     ensures back { AreBack S.faults S.name sources.items result.sources.items }
 {
-    let mut rest = sources;
-    let mut screens = screens;
     let mut back = Vec::new(alloc);
-    if back.reserve(rest.len()).is_err() {
+    let Ok(()) = back.reserve(sources.len()) else {
         return ActsDone {
             found: ActsFound::Memory,
-            sources: rest,
+            sources,
         };
-    }
+    };
+    let mut progress = Progress {
+        back,
+        rest: sources,
+        screens,
+    };
     let mut row = 2;
     for session in 0..acts.len() {
-        let own = &acts[session];
-        let set = screens.remove(0);
-        let source = rest.remove(0);
-        let compared = compare_with(alloc, limits, session as u32, set, source, own);
-        back.push_reserved(compared.source);
-        match compared.likeness {
+        let own = acts[session].as_slice();
+        match compare_next(alloc, limits, session as u32, &mut progress, own) {
             Likeness::Alike => row += own.len() as u32,
             Likeness::Apart(index) => {
-                return with_rest(ActsFound::Apart(row + index as u32), back, rest);
+                return with_rest(ActsFound::Apart(row + index as u32), progress);
             }
-            Likeness::ReadFault => return with_rest(ActsFound::ReadFault, back, rest),
-            Likeness::Memory => return with_rest(ActsFound::Memory, back, rest),
+            Likeness::ReadFault => return with_rest(ActsFound::ReadFault, progress),
+            Likeness::Memory => return with_rest(ActsFound::Memory, progress),
         }
     }
-    with_rest(ActsFound::Alike, back, rest)
+    with_rest(ActsFound::Alike, progress)
 }

@@ -7,7 +7,9 @@ use Rattle.risk_board.specs.declared.hand.Line.{Line}
 use Rattle.risk_journal.specs.declared.acts.Act.{Act}
 use Rattle.screen_kit.specs.Screens.{ScreenValue}
 use Rattle.std.proofs.lemmas.Option.{slice_get_within}
-use Rattle.journal_check.specs.Answers.{AreTold}
+use Rattle.journal_check.specs.Answers.{AreTold, IfNo}
+use Rattle.journal_check.specs.declared.judging.Checked.{Checked}
+use Rattle.journal_check.specs.declared.judging.Checked.TheVariants as answered
 use Rattle.journal_check.specs.Faults.{case_of, told, Kind, kind_number, IsFault, IsFirstKind, HasNoFault, IsWrongAct}
 use Rattle.journal_check.specs.Faults.Kind as kind
 use Rattle.journal_check.specs.LineFaults.{IsLineFault, IsWrongLine, AreRightTrees}
@@ -37,6 +39,22 @@ no_read_fault : (last : ℕ) (acts : List (List Act)) (lines : List (List Line))
 no_read_fault last acts lines right row wrong =
     wrong.wrong (right.reads wrong.tree wrong.index wrong.read
     (slice_get_within _ wrong.index wrong.read wrong.at) wrong.at)
+
+-- a fault of the trees is of a kind above those of the rows
+pub tree_kind : (last : ℕ) (acts : List (List Act)) (lines : List (List Line)) (fault : CheckFault)
+    → IsTreeFault last acts lines fault → 5 ≤ fault.kind
+tree_kind last acts lines fault found = elim found as (λ f. 5 ≤ fault.kind) [
+  | inl first ↦ let is = first.kind_is in omega (arith, is)
+  | inr first ↦ let is = first.kind_is in omega (arith, is)
+]
+
+-- what is said of a fault that is answered says something else of it
+pub if_no_more : (P Q : CheckFault → Type 0) (answer : Checked) → ((fault : CheckFault) → P fault → Q fault)
+    → IfNo answer P → IfNo answer Q
+if_no_more P Q answered.Yes more is = tt
+if_no_more P Q (answered.No fault) more is = more fault is
+if_no_more P Q answered.ReadFault more is = tt
+if_no_more P Q answered.Memory more is = tt
 
 module _ (limits : LimitsValue) (text : List ℕ) (left : List (Option (List ℕ)))
     (screens : List (List ScreenValue)) (acts : List (List Act)) (lines : List (List Line)) where

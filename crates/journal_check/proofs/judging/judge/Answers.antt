@@ -1,0 +1,37 @@
+-- a fault of the rows alone, or what the sessions and the trees say
+use Rattle.std.proofs.Common.{◌≡◌, ◌∙◌, List, ℕ, sym, subst, length, map, arith}
+use Rattle.std.proofs.lemmas.List.{length-map}
+use Rattle.limit_table.specs.Trees.{halt_tree}
+use Rattle.journal_check.specs.RowFaults.{IsRowFault, HasNoRowFault}
+use Rattle.journal_check.proofs.KindOrder.{row_first}
+use Rattle.journal_check.proofs.Kept.{kept}
+use Rattle.journal_check.proofs.Sources.{itself_back}
+use Rattle.journal_check.proofs.judging.judge.Goals as goal
+
+pub returns-in-Some-clause-no : goal.returns-in-Some-clause-no
+returns-in-Some-clause-no g c =
+    let acts = kept c.args.journal.now.acts.items in
+    let lines = kept c.args.journal.now.lines.items in
+    let left = map g.S.Source.left c.args.sources.items in
+    let ok = c.args.sources.ok in
+    let count : c.len.result ≡ length left =
+    omega (arith, c.len.ensures, length-map c.args.sources.items g.S.Source.left) in
+    rw c.answered.ensures.answer
+    (λ need text. row_first c.args.limits.now text left c.args.screens.items acts lines c.in-Some.fault
+    (subst (λ (n : ℕ). IsRowFault n (halt_tree c.args.limits.now) acts lines c.in-Some.fault) count
+    (subst (λ (t : ℕ). IsRowFault c.len.result t acts lines c.in-Some.fault) c.halt_tree.ensures.tree
+    c.in-Some.ensures.found)))
+
+pub returns-in-Some-clause-back : goal.returns-in-Some-clause-back
+returns-in-Some-clause-back g c =
+    rw c.answered.ensures.sources (itself_back g.S.Source.faults g.S.Source.name c.args.sources.items)
+
+pub judge_sessions-requires-clause-rows : goal.judge_sessions-requires-clause-rows
+judge_sessions-requires-clause-rows g c =
+    let acts = kept c.args.journal.now.acts.items in
+    let lines = kept c.args.journal.now.lines.items in
+    let ok = c.args.sources.ok in
+    let count : c.len.result ≡ length c.args.sources.items = omega (arith, c.len.ensures) in
+    subst (λ (n : ℕ). HasNoRowFault n (halt_tree c.args.limits.now) acts lines) count
+    (subst (λ (t : ℕ). HasNoRowFault c.len.result t acts lines) c.halt_tree.ensures.tree
+    (c.first_row_fault.ensures.none c.in-None.is))
