@@ -11,7 +11,7 @@ use Rattle.journal_check.specs.Answers.{AreTold, IfNo}
 use Rattle.journal_check.specs.declared.judging.Checked.{Checked}
 use Rattle.journal_check.specs.declared.judging.Checked.TheVariants as answered
 use Rattle.journal_check.specs.Faults.{case_of, told, Kind, kind_number, IsFault, IsFirstKind, HasNoFault, IsWrongAct}
-use Rattle.journal_check.specs.Faults.Kind as kind
+use Rattle.journal_check.specs.Faults.Kind.{Text, Count, EndedEarly, Tree, Acts, Lines, Reads}
 use Rattle.journal_check.specs.LineFaults.{IsLineFault, IsWrongLine, AreRightTrees}
 use Rattle.journal_check.specs.ReadFaults.{IsWrongRead}
 use Rattle.journal_check.specs.RowFaults.{IsRowFault, HasNoRowFault}
@@ -63,54 +63,54 @@ module _ (limits : LimitsValue) (text : List ℕ) (left : List (Option (List ℕ
 
   before_count : (other : Kind) (at : ℕ) → kind_number other < 2
       → ¬ IsFault (case_of limits text left screens) acts lines other at
-  before_count kind.Text at less fault = fault
-  before_count kind.Count at less fault = absurd (omega (arith, less))
-  before_count kind.EndedEarly at less fault = absurd (omega (arith, less))
-  before_count kind.Tree at less fault = absurd (omega (arith, less))
-  before_count kind.Acts at less fault = absurd (omega (arith, less))
-  before_count kind.Lines at less fault = absurd (omega (arith, less))
-  before_count kind.Reads at less fault = absurd (omega (arith, less))
+  before_count Text at less fault = fault
+  before_count Count at less fault = absurd (omega (arith, less))
+  before_count EndedEarly at less fault = absurd (omega (arith, less))
+  before_count Tree at less fault = absurd (omega (arith, less))
+  before_count Acts at less fault = absurd (omega (arith, less))
+  before_count Lines at less fault = absurd (omega (arith, less))
+  before_count Reads at less fault = absurd (omega (arith, less))
 
   before_early : length acts ≡ length left → (other : Kind) (at : ℕ) → kind_number other < 3
       → ¬ IsFault (case_of limits text left screens) acts lines other at
-  before_early count kind.Text at less fault = fault
-  before_early count kind.Count at less fault = fault.0 (count ∙ sym sessions_are)
-  before_early count kind.EndedEarly at less fault = absurd (omega (arith, less))
-  before_early count kind.Tree at less fault = absurd (omega (arith, less))
-  before_early count kind.Acts at less fault = absurd (omega (arith, less))
-  before_early count kind.Lines at less fault = absurd (omega (arith, less))
-  before_early count kind.Reads at less fault = absurd (omega (arith, less))
+  before_early count Text at less fault = fault
+  before_early count Count at less fault = fault.0 (count ∙ sym sessions_are)
+  before_early count EndedEarly at less fault = absurd (omega (arith, less))
+  before_early count Tree at less fault = absurd (omega (arith, less))
+  before_early count Acts at less fault = absurd (omega (arith, less))
+  before_early count Lines at less fault = absurd (omega (arith, less))
+  before_early count Reads at less fault = absurd (omega (arith, less))
 
   before_tree : length acts ≡ length left → ((row : ℕ) → ¬ IsEarlyRow acts row)
       → (other : Kind) (at : ℕ) → kind_number other < 4
       → ¬ IsFault (case_of limits text left screens) acts lines other at
-  before_tree count no_early kind.Text at less fault = fault
-  before_tree count no_early kind.Count at less fault = fault.0 (count ∙ sym sessions_are)
-  before_tree count no_early kind.EndedEarly at less fault = no_early at fault.wrong
-  before_tree count no_early kind.Tree at less fault = absurd (omega (arith, less))
-  before_tree count no_early kind.Acts at less fault = absurd (omega (arith, less))
-  before_tree count no_early kind.Lines at less fault = absurd (omega (arith, less))
-  before_tree count no_early kind.Reads at less fault = absurd (omega (arith, less))
+  before_tree count no_early Text at less fault = fault
+  before_tree count no_early Count at less fault = fault.0 (count ∙ sym sessions_are)
+  before_tree count no_early EndedEarly at less fault = no_early at fault.wrong
+  before_tree count no_early Tree at less fault = absurd (omega (arith, less))
+  before_tree count no_early Acts at less fault = absurd (omega (arith, less))
+  before_tree count no_early Lines at less fault = absurd (omega (arith, less))
+  before_tree count no_early Reads at less fault = absurd (omega (arith, less))
 
   -- a fault of the rows alone is the first
   pub row_first : (fault : CheckFault) → IsRowFault (length left) (halt_tree limits) acts lines fault
       → IsFirstKind (case_of limits text left screens) acts lines fault.kind fault.row
   row_first fault found = elim found as (λ f. IsFirstKind (case_of limits text left screens) acts lines fault.kind fault.row) [
     | inl first ↦ record {
-      of_kind = kind.Count;
+      of_kind = Count;
       kind_is = first.kind_is;
       fault = ((λ same. first.apart (same ∙ sessions_are)), first.row_is);
       before = before_count;
     }
     | inr other ↦ elim other as (λ f. IsFirstKind (case_of limits text left screens) acts lines fault.kind fault.row) [
       | inl first ↦ record {
-        of_kind = kind.EndedEarly;
+        of_kind = EndedEarly;
         kind_is = first.kind_is;
         fault = first.first;
         before = before_early first.count;
       }
       | inr first ↦ record {
-        of_kind = kind.Tree;
+        of_kind = Tree;
         kind_is = first.kind_is;
         fault = first.first;
         before = before_tree first.count first.no_early;
@@ -121,19 +121,19 @@ module _ (limits : LimitsValue) (text : List ℕ) (left : List (Option (List ℕ
   module _ (rows : HasNoRowFault (length left) (halt_tree limits) acts lines) where
     before_acts : (other : Kind) (at : ℕ) → kind_number other < 5
         → ¬ IsFault (case_of limits text left screens) acts lines other at
-    before_acts kind.Text at less fault = fault
-    before_acts kind.Count at less fault = fault.0 (rows.count ∙ sym sessions_are)
-    before_acts kind.EndedEarly at less fault = rows.no_early at fault.wrong
-    before_acts kind.Tree at less fault = rows.no_far at fault.wrong
-    before_acts kind.Acts at less fault = absurd (omega (arith, less))
-    before_acts kind.Lines at less fault = absurd (omega (arith, less))
-    before_acts kind.Reads at less fault = absurd (omega (arith, less))
+    before_acts Text at less fault = fault
+    before_acts Count at less fault = fault.0 (rows.count ∙ sym sessions_are)
+    before_acts EndedEarly at less fault = rows.no_early at fault.wrong
+    before_acts Tree at less fault = rows.no_far at fault.wrong
+    before_acts Acts at less fault = absurd (omega (arith, less))
+    before_acts Lines at less fault = absurd (omega (arith, less))
+    before_acts Reads at less fault = absurd (omega (arith, less))
 
     -- so is an act that differs, where the rows have none
     pub acts_first : (row : ℕ) → AreTold left → IsFirstApart limits left screens acts row
         → IsFirstKind (case_of limits text left screens) acts lines 5 row
     acts_first row are_told first = record {
-      of_kind = kind.Acts;
+      of_kind = Acts;
       kind_is = refl;
       fault = first_apart limits text left screens acts are_told rows.count row first;
       before = before_acts;
@@ -145,36 +145,36 @@ module _ (limits : LimitsValue) (text : List ℕ) (left : List (Option (List ℕ
 
       before_lines : (other : Kind) (at : ℕ) → kind_number other < 6
           → ¬ IsFault (case_of limits text left screens) acts lines other at
-      before_lines kind.Text at less fault = fault
-      before_lines kind.Count at less fault = fault.0 (rows.count ∙ sym sessions_are)
-      before_lines kind.EndedEarly at less fault = rows.no_early at fault.wrong
-      before_lines kind.Tree at less fault = rows.no_far at fault.wrong
-      before_lines kind.Acts at less fault = no_act at fault.wrong
-      before_lines kind.Lines at less fault = absurd (omega (arith, less))
-      before_lines kind.Reads at less fault = absurd (omega (arith, less))
+      before_lines Text at less fault = fault
+      before_lines Count at less fault = fault.0 (rows.count ∙ sym sessions_are)
+      before_lines EndedEarly at less fault = rows.no_early at fault.wrong
+      before_lines Tree at less fault = rows.no_far at fault.wrong
+      before_lines Acts at less fault = no_act at fault.wrong
+      before_lines Lines at less fault = absurd (omega (arith, less))
+      before_lines Reads at less fault = absurd (omega (arith, less))
 
       before_reads : AreRightTrees acts lines → (other : Kind) (at : ℕ) → kind_number other < 7
           → ¬ IsFault (case_of limits text left screens) acts lines other at
-      before_reads right kind.Text at less fault = fault
-      before_reads right kind.Count at less fault = fault.0 (rows.count ∙ sym sessions_are)
-      before_reads right kind.EndedEarly at less fault = rows.no_early at fault.wrong
-      before_reads right kind.Tree at less fault = rows.no_far at fault.wrong
-      before_reads right kind.Acts at less fault = no_act at fault.wrong
-      before_reads right kind.Lines at less fault = no_line_fault acts lines right at fault
-      before_reads right kind.Reads at less fault = absurd (omega (arith, less))
+      before_reads right Text at less fault = fault
+      before_reads right Count at less fault = fault.0 (rows.count ∙ sym sessions_are)
+      before_reads right EndedEarly at less fault = rows.no_early at fault.wrong
+      before_reads right Tree at less fault = rows.no_far at fault.wrong
+      before_reads right Acts at less fault = no_act at fault.wrong
+      before_reads right Lines at less fault = no_line_fault acts lines right at fault
+      before_reads right Reads at less fault = absurd (omega (arith, less))
 
       -- so is a fault of the trees, where the sessions have none
       pub trees_first : (fault : CheckFault) → IsTreeFault (halt_tree limits) acts lines fault
           → IsFirstKind (case_of limits text left screens) acts lines fault.kind fault.row
       trees_first fault found = elim found as (λ f. IsFirstKind (case_of limits text left screens) acts lines fault.kind fault.row) [
         | inl first ↦ record {
-          of_kind = kind.Lines;
+          of_kind = Lines;
           kind_is = first.kind_is;
           fault = first.first;
           before = before_lines;
         }
         | inr first ↦ record {
-          of_kind = kind.Reads;
+          of_kind = Reads;
           kind_is = first.kind_is;
           fault = first.first;
           before = before_reads first.right;
@@ -184,11 +184,11 @@ module _ (limits : LimitsValue) (text : List ℕ) (left : List (Option (List ℕ
       -- and where they have none either, there is none
       pub no_kind : AreRightAll (halt_tree limits) acts lines
           → HasNoFault (case_of limits text left screens) acts lines
-      no_kind right kind.Text at fault = fault
-      no_kind right kind.Count at fault = fault.0 (rows.count ∙ sym sessions_are)
-      no_kind right kind.EndedEarly at fault = rows.no_early at fault.wrong
-      no_kind right kind.Tree at fault = rows.no_far at fault.wrong
-      no_kind right kind.Acts at fault = no_act at fault.wrong
-      no_kind right kind.Lines at fault = no_line_fault acts lines right.right at fault
-      no_kind right kind.Reads at fault =
+      no_kind right Text at fault = fault
+      no_kind right Count at fault = fault.0 (rows.count ∙ sym sessions_are)
+      no_kind right EndedEarly at fault = rows.no_early at fault.wrong
+      no_kind right Tree at fault = rows.no_far at fault.wrong
+      no_kind right Acts at fault = no_act at fault.wrong
+      no_kind right Lines at fault = no_line_fault acts lines right.right at fault
+      no_kind right Reads at fault =
           no_read_fault (halt_tree limits) acts lines right at fault.wrong

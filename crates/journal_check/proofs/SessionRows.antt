@@ -2,6 +2,7 @@
 use Rattle.std.proofs.Common.{◌≡◌, ◌≢◌, ℕ, ◌+◌, ◌<◌, ◌≤◌, List, [], length, map, take, ap, sym, subst, ◌∙◌}
 use Rattle.std.proofs.Common.{arith, ⊎_elim, get_or, refl}
 use Rattle.std.specs.Prelude.{slice_get, Option, Some, None, IfSome, IsSome}
+use Rattle.std.proofs.lemmas.Bool.{true≢false}
 use Rattle.std.proofs.lemmas.List.{get_or-map, take-take}
 use Rattle.std.proofs.lemmas.Option.{slice_get_within, get_or_from_slice_get}
 use Rattle.limit_table.specs.Trees.{LimitsValue}
@@ -22,7 +23,7 @@ use Rattle.journal_check.proofs.SessionIsOne.{session_is_one}
 
 some_told : (left : Option (List ℕ)) → IsSome left → left ≡ Some (told left)
 some_told (Some bytes) is = refl
-some_told None is = absurd is
+some_told None is = absurd (true≢false (sym is))
 
 module _ (limits : LimitsValue) (screens : List ScreenValue) (bytes : List ℕ) (own : List Act) where
   -- acts that are right differ nowhere

@@ -9,19 +9,24 @@ use Rattle.journal_check.specs.Answers.{IsSourceBack}
 use Rattle.journal_check.specs.SessionActs.{IsOwnSession, DiffersAt}
 use Rattle.journal_check.specs.declared.replay.Likeness.{Likeness}
 use Rattle.journal_check.specs.declared.replay.Likeness.TheVariants.{Alike, Apart, ReadFault}
-use Rattle.journal_check.specs.declared.session_acts.Progress.{Progress}
+
+-- Sources that came back, and the sources and the screens of the sessions that wait.
+pub record Waiting (S : Type 0) : Type 0 where
+  pub back : List S
+  pub rest : List S
+  pub screens : List (List ScreenValue)
 
 -- The first source that waits is called, with the first set of screens, and comes back as the last.
 -- What is said of its session's acts is so, where it tells its bytes.
 pub record TakesNext {S : Type 0} (left : S → Option (List ℕ)) (faults : S → ℕ)
-    (name : S → Option (List ℕ)) (limits : LimitsValue) (acts : List Act) (before now : Progress S)
+    (name : S → Option (List ℕ)) (limits : LimitsValue) (acts : List Act) (before now : Waiting S)
     (likeness : Likeness) : Type 0 where
   pub one : S
   pub other : S
   pub set : List ScreenValue
-  pub rest_is : before.rest.items ≡ one ∷ now.rest.items
-  pub screens_is : before.screens.items ≡ set ∷ now.screens.items
-  pub back_is : now.back.items ≡ before.back.items ++ other ∷ []
+  pub rest_is : before.rest ≡ one ∷ now.rest
+  pub screens_is : before.screens ≡ set ∷ now.screens
+  pub back_is : now.back ≡ before.back ++ other ∷ []
   pub is_back : IsSourceBack faults name one other
   pub alike : likeness ≡ Alike → IfSome (left one) (λ bytes.
       IsOwnSession limits (armed_for limits set) bytes acts)

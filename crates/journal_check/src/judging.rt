@@ -92,7 +92,7 @@ fn judge_sessions<S: Source>(
     limits: &Limits,
     journal: &Journal,
     sources: Vec<S>,
-    screens: Vec<ScreenSet>,
+    screens: Vec<ScreenSet<Box<dyn Screen + Send>>>,
 ) -> CheckDone<S>
     requires few { length sources.items ≤ SESSIONS }
     requires screens { length sources.items ≤ length screens.items }
@@ -140,7 +140,7 @@ fn judge<S: Source>(
     limits: &Limits,
     journal: &Journal,
     sources: Vec<S>,
-    screens: Vec<ScreenSet>,
+    screens: Vec<ScreenSet<Box<dyn Screen + Send>>>,
 ) -> CheckDone<S>
     requires few { length sources.items ≤ SESSIONS }
     requires screens { length sources.items ≤ length screens.items }

@@ -20,24 +20,24 @@ use std::marker::Model;
 
 /// The screens of a session, which contracts see as what they mean.
 #[derive(Drop)]
-pub(crate) struct ScreenSet {
-    screens: Vec<Box<dyn Screen + Send>>,
+pub(crate) struct ScreenSet<K: Screen> {
+    screens: Vec<K>,
 }
 
-impl Model for ScreenSet {
+impl<K: Screen> Model for ScreenSet<K> {
     ghost use Rattle.std.specs.Prelude.{List, map};
     ghost use Rattle.screen_kit.specs.Screens.{ScreenValue};
 
     ghost Value = { List ScreenValue };
 
-    ghost view = { λ a. map (λ b. (Screen-box b).meaning b.value) a.screens.items };
+    ghost view = { λ a. map K.meaning a.screens.items };
 }
 
 /// Each session's screens as one value.
 pub(crate) fn screen_sets(
     alloc: Global,
     screens: Vec<Vec<Box<dyn Screen + Send>>>,
-) -> Result<Vec<ScreenSet>, Memory>
+) -> Result<Vec<ScreenSet<Box<dyn Screen + Send>>>, Memory>
     ensures { IfOk result (λ sets. sets.items
         ≡ map (λ own. map (λ b. (Screen-box b).meaning b.value) own.items) screens.items) }
 {
@@ -56,7 +56,7 @@ pub(crate) fn compare_with<S: Source>(
     alloc: Global,
     limits: &Limits,
     session: u32,
-    set: ScreenSet,
+    set: ScreenSet<Box<dyn Screen + Send>>,
     source: S,
     acts: &[Act],
 ) -> Compared<S>

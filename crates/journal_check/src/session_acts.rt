@@ -17,6 +17,7 @@ use crate::screen_sets::{ScreenSet, compare_with};
 use gate_ports::Source;
 use limit_table::Limits;
 use risk_journal::Act;
+use screen_kit::Screen;
 use std::alloc::Global;
 
 /// How the acts of all sessions compare with those of their inputs.
@@ -43,7 +44,7 @@ pub(crate) struct ActsDone<S: Source> {
 struct Progress<S: Source> {
     back: Vec<S>,
     rest: Vec<S>,
-    screens: Vec<ScreenSet>,
+    screens: Vec<ScreenSet<Box<dyn Screen + Send>>>,
 }
 
 /// The answer, with the sources that came back and those that weren't called.
@@ -78,7 +79,11 @@ fn compare_next<S: Source>(
         ≤ vec_capacity progress.old.back }
     requires ended { HasEnded acts.now }
     requires trees { All (IsInTrees (halt_tree limits.now)) acts.now }
-    ensures next { TakesNext S.left S.faults S.name limits.now acts.now progress.old progress.new
+    ensures next { TakesNext S.left S.faults S.name limits.now acts.now
+        (record { back = progress.old.back.items; rest = progress.old.rest.items;
+          screens = progress.old.screens.items })
+        (record { back = progress.new.back.items; rest = progress.new.rest.items;
+          screens = progress.new.screens.items })
         result }
     ensures capped { result ≡ Likeness.Alike → All (PostsAtMost LEAF) acts.now }
     ensures inside { (index : ℕ) → result ≡ Likeness.Apart index → index < length acts.now }
@@ -100,7 +105,7 @@ pub(crate) fn compare_all<S: Source>(
     limits: &Limits,
     acts: &[Vec<Act>],
     sources: Vec<S>,
-    screens: Vec<ScreenSet>,
+    screens: Vec<ScreenSet<Box<dyn Screen + Send>>>,
 ) -> ActsDone<S>
     requires count { length acts.now ≡ length sources.items }
     requires few { length sources.items ≤ SESSIONS }
