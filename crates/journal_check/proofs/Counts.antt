@@ -35,8 +35,12 @@ module _ {X : Type 0} where
   count_grows (own ∷ lists) zero many le = omega arith
   count_grows (own ∷ lists) (suc few) zero le = absurd (omega (arith, le))
   count_grows (own ∷ lists) (suc few) (suc many) le =
-      omega (arith, count-cons own (take few lists), count-cons own (take many lists),
-      count_grows lists few many (omega (arith, le)))
+      omega (
+        arith,
+        count-cons own (take few lists),
+        count-cons own (take many lists),
+        count_grows lists few many (omega (arith, le)),
+      )
 
   pub count_whole : (lists : List (List X)) (many : ℕ)
       → count_all (take many lists) ≤ count_all lists

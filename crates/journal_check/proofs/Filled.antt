@@ -145,8 +145,8 @@ module _ (tree session : ℕ) (done : List (List ℕ)) (number : session ≡ len
       (steps tree session (row + 1) (cond b (with_post session value before) before) acts).posts
       ≡ done ++ (own ++ posted (cond b (Posted value ∷ events_of tree acts) (events_of tree acts))) ∷ rest) [
         | true ↦ steps_posts (row + 1) acts (with_post session value before) (own ++ value ∷ [])
-          (seam_set before.posts own value are)
-          ∙ ap (λ s. done ++ s ∷ rest) (append_assoc own (value ∷ []) (posted (events_of tree acts)))
+            (seam_set before.posts own value are)
+            ∙ ap (λ s. done ++ s ∷ rest) (append_assoc own (value ∷ []) (posted (events_of tree acts)))
         | false ↦ steps_posts (row + 1) acts before own are
       ]
   steps_posts row (Read in_tree stamp place value ∷ acts) before own are =
@@ -174,9 +174,9 @@ module _ (tree session : ℕ) (done : List (List ℕ)) (number : session ≡ len
       ≡ before.reads ++ session_reads session (length own) before.least
       (cond b ((row, Posted value) ∷ told_events tree (row + 1) acts) (told_events tree (row + 1) acts))) [
         | true ↦ steps_reads (row + 1) acts (with_post session value before) (own ++ value ∷ [])
-          (seam_set before.posts own value are)
-          ∙ ap (λ n. before.reads ++ session_reads session n before.least (told_events tree (row + 1) acts))
-          (length-append own (value ∷ []))
+            (seam_set before.posts own value are)
+            ∙ ap (λ n. before.reads ++ session_reads session n before.least (told_events tree (row + 1) acts))
+            (length-append own (value ∷ []))
         | false ↦ steps_reads (row + 1) acts before own are
       ]
   steps_reads row (Read in_tree stamp place value ∷ acts) before own are =
@@ -195,8 +195,8 @@ module _ (tree session : ℕ) (done : List (List ℕ)) (number : session ≡ len
       ≡ before.reads ++ session_reads session (length own) before.least
       (cond b ((row, Saw stamp place value) ∷ told_events tree (row + 1) acts) (told_events tree (row + 1) acts))) [
         | true ↦ steps_reads (row + 1) acts (with_read (read_row row session stamp place value) before) own are
-          ∙ append_assoc before.reads (read (length (get_or before.posts session [])) ∷ []) later
-          ∙ ap (λ s. before.reads ++ read (length s) ∷ later) (seam_get before.posts own are)
+            ∙ append_assoc before.reads (read (length (get_or before.posts session [])) ∷ []) later
+            ∙ ap (λ s. before.reads ++ read (length s) ∷ later) (seam_get before.posts own are)
         | false ↦ steps_reads (row + 1) acts before own are
       ]
   steps_reads row (Sent frame ∷ acts) before own are = steps_reads (row + 1) acts before own are

@@ -8,7 +8,7 @@ use Rattle.risk_journal.specs.declared.acts.Act.TheVariants.{Post, Read, Sent, R
 use Rattle.journal_check.specs.ActFaults.{IsAbove}
 use Rattle.journal_check.specs.FarRows.{IsFarRow}
 use Rattle.journal_check.specs.RowNumbers.{act_row}
-use Rattle.journal_check.specs.SameActs.{IsInTrees}
+use Rattle.session_replay.specs.SameActs.{IsInTrees}
 use Rattle.journal_check.proofs.Cases.{le_or_lt}
 
 not_above : (last tree : ℕ) → ¬ (last < tree) → tree ≤ last

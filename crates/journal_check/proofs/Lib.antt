@@ -18,17 +18,10 @@ pub mod Kept
 pub mod ReadTrees
 pub mod LineBounds
 pub mod TextRows
-pub mod SessionIsOne
 pub mod SessionRows
 pub mod KindOrder
 pub mod WorthOf
 pub mod FarLines
-pub mod Comparing
-pub mod Differing
-pub mod FirstApart
-pub mod SameSession
-pub mod ScriptCalls
-pub mod ScriptedReads
 pub mod Sources
 pub mod InTrees
 pub mod SessionSteps

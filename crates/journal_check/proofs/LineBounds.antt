@@ -11,7 +11,7 @@ use Rattle.risk_journal.specs.ActLists.{events_of}
 use Rattle.risk_journal.specs.declared.acts.Act.{Act}
 use Rattle.risk_journal.specs.declared.acts.Act.TheVariants.{Post, Read, Sent, Refused, Noted, Ended}
 use Rattle.journal_check.specs.LineFaults.{IsRightTree}
-use Rattle.journal_check.specs.PostBounds.{PostsAtMost}
+use Rattle.session_replay.specs.PostBounds.{PostsAtMost}
 use Rattle.journal_check.specs.RightLines.{IsNextLine}
 use Rattle.journal_check.specs.Tables.{AreCapped}
 use Rattle.journal_check.specs.Trees.{tree_events, tree_posts, tree_lines}
@@ -68,9 +68,14 @@ module _ (acts : List (List Act)) (lines : List (List Line)) (tree : ℕ)
   pub lines_below : (components : ℕ) → length acts ≤ components
       → All (λ (line : Line). line.session < components) (tree_lines tree lines)
   lines_below components le index d less =
-      omega (arith, le, has_next (tree_posts tree acts) (take index (tree_lines tree lines))
-      (get_or (tree_lines tree lines) index d) (next_at index d less),
-      length-map (tree_events tree acts) posted, length-map acts (events_of tree))
+      omega (
+        arith,
+        le,
+        has_next (tree_posts tree acts) (take index (tree_lines tree lines))
+            (get_or (tree_lines tree lines) index d) (next_at index d less),
+        length-map (tree_events tree acts) posted,
+        length-map acts (events_of tree),
+      )
 
   pub lines_capped : (most : ℕ) → AreCapped most acts
       → All (λ (line : Line). line.value ≤ most) (tree_lines tree lines)

@@ -9,8 +9,8 @@ use Rattle.risk_journal.specs.declared.acts.Act.{Act}
 use Rattle.screen_kit.specs.Screens.{ScreenValue}
 use Rattle.journal_check.specs.Answers.{AreBack, SomeRose}
 use Rattle.journal_check.specs.TakingNext.{TakesNext, Waiting}
-use Rattle.journal_check.specs.declared.replay.Likeness.{Likeness}
-use Rattle.journal_check.specs.declared.replay.Likeness.TheVariants.{ReadFault}
+use Rattle.session_replay.specs.declared.replay.Likeness.{Likeness}
+use Rattle.session_replay.specs.declared.replay.Likeness.TheVariants.{ReadFault}
 use Rattle.journal_check.proofs.Sources.{AreBackSoFar, first_left, back_more, all_back, last_back}
 
 module _ {S : Type 0} {left : S → Option (List ℕ)} {faults : S → ℕ} {name : S → Option (List ℕ)}

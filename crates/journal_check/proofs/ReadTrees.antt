@@ -99,23 +99,29 @@ module _ (last : ℕ) (acts : List (List Act)) (lines : List (List Line)) where
   so_far_more count (Some row) (Some next) before here = ⊎_elim
       (λ (le : row ≤ next).
       let is : row ≡ min row next = omega (arith, le) in
-      subst (λ (r : ℕ). IsFirstSoFar last acts lines (count + 1) (Some r)) is
-      (before.0, with_next count row (λ tree less index read at sooner. before.1 tree index read less at sooner)
-      (own_right count next row le here)))
+      subst (λ (r : ℕ). IsFirstSoFar last acts lines (count + 1) (Some r)) is (
+        before.0,
+        with_next count row (λ tree less index read at sooner. before.1 tree index read less at sooner)
+            (own_right count next row le here),
+      ))
       (λ (lt : next < row).
       let is : next ≡ min row next = omega (arith, lt) in
-      subst (λ (r : ℕ). IsFirstSoFar last acts lines (count + 1) (Some r)) is
-      (own_wrong count next here,
-      with_next count next
-      (λ tree less index read at sooner. before.1 tree index read less at (omega (arith, sooner, lt)))
-      (own_right count next next (omega arith) here)))
+      subst (λ (r : ℕ). IsFirstSoFar last acts lines (count + 1) (Some r)) is (
+        own_wrong count next here,
+        with_next count next
+            (λ tree less index read at sooner. before.1 tree index read less at (omega (arith, sooner, lt)))
+            (own_right count next next (omega arith) here),
+      ))
       (le_or_lt row next)
 
   none_past : (count tree index : ℕ) (read : ReadRow) → EndsBefore count acts lines → count ≤ tree
       → slice_get (tree_reads tree acts) index ≡ Some read → ⊥
   none_past count tree index read ends past at =
-      absurd (omega (arith, slice_get_within (tree_reads tree acts) index read at,
-      ap length (ends.reads_none tree past)))
+      absurd (omega (
+        arith,
+        slice_get_within (tree_reads tree acts) index read at,
+        ap length (ends.reads_none tree past),
+      ))
 
   pub found_first : (count row : ℕ) → IsFirstSoFar last acts lines count (Some row)
       → EndsBefore count acts lines → IsFirstRow (IsWrongRead last acts lines) row

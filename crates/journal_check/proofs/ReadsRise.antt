@@ -34,9 +34,9 @@ session_rise tree session row made least (Post in_tree index value ∷ acts) lat
     elim (in_tree == tree) as (λ b. Rise row (session_reads session made least
     (cond b ((row, Posted value) ∷ told_events tree (row + 1) acts) (told_events tree (row + 1) acts)) ++ later)) [
       | true ↦ rise_lower row (row + 1) _ (omega arith)
-        (session_rise tree session (row + 1) (made + 1) least acts later more)
+          (session_rise tree session (row + 1) (made + 1) least acts later more)
       | false ↦ rise_lower row (row + 1) _ (omega arith)
-        (session_rise tree session (row + 1) made least acts later more)
+          (session_rise tree session (row + 1) made least acts later more)
     ]
 session_rise tree session row made least (Read in_tree stamp place value ∷ acts) later rise =
     let more = next row acts later rise in
@@ -48,7 +48,7 @@ session_rise tree session row made least (Read in_tree stamp place value ∷ act
             (session_rise tree session (row + 1) made stamp acts later more),
       )
       | false ↦ rise_lower row (row + 1) _ (omega arith)
-        (session_rise tree session (row + 1) made least acts later more)
+          (session_rise tree session (row + 1) made least acts later more)
     ]
 session_rise tree session row made least (Sent frame ∷ acts) later rise =
     rise_lower row (row + 1) _ (omega arith)
@@ -97,8 +97,12 @@ pub earlier_row : (tree : ℕ) (acts : List (List Act)) (index place : ℕ) (rea
     → slice_get (tree_reads tree acts) place ≡ Some other → other.row < read.row → place < index
 earlier_row tree acts index place read other at also less = ⊎_elim
     (λ (le : index ≤ place).
-    absurd (omega (arith, less, rows_in_order 2 (tree_reads tree acts) index place read other
-    (reads_rise tree 0 2 acts) le at also)))
+    absurd (omega (
+      arith,
+      less,
+      rows_in_order 2 (tree_reads tree acts) index place read other
+          (reads_rise tree 0 2 acts) le at also,
+    )))
     (λ (lt : place < index). lt)
     (le_or_lt index place)
 

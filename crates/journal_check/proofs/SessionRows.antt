@@ -14,12 +14,12 @@ use Rattle.journal_check.specs.Answers.{AreTold}
 use Rattle.journal_check.specs.Faults.{case_of, told, bytes_in, armed_in, IsSessionRight, IsWrongAct}
 use Rattle.journal_check.specs.Firsts.{IsFirstRow}
 use Rattle.journal_check.specs.RowNumbers.{count_all}
-use Rattle.journal_check.specs.SessionActs.{IsOwnSession, DiffersAt}
+use Rattle.session_replay.specs.SessionActs.{IsOwnSession, DiffersAt}
 use Rattle.journal_check.specs.Sessions.{IsAlike, AreAlike, IsFirstApart}
 use Rattle.journal_check.proofs.Cases.{same_or, le_or_lt}
 use Rattle.journal_check.proofs.Counts.{count_later}
 use Rattle.journal_check.proofs.FirstActs.{one_own}
-use Rattle.journal_check.proofs.SessionIsOne.{session_is_one}
+use Rattle.session_replay.proofs.SessionIsOne.{session_is_one}
 
 some_told : (left : Option (List ℕ)) → IsSome left → left ≡ Some (told left)
 some_told (Some bytes) is = refl
@@ -127,8 +127,15 @@ module _ (limits : LimitsValue) (text : List ℕ) (left : List (Option (List ℕ
             (λ (high : first.session < other.session).
             let long : length (get_or acts first.session []) ≡ length first.own =
             ap length (get_or_from_slice_get acts first.session first.own [] first.of_session) in
-            absurd (omega (arith, count_later acts first.session other.session high, long, less,
-            first.row_is, other.row_is, first.inside)))
+            absurd (omega (
+              arith,
+              count_later acts first.session other.session high,
+              long,
+              less,
+              first.row_is,
+              other.row_is,
+              first.inside,
+            )))
             (le_or_lt other.session first.session))
             (same_or other.session first.session);
       }

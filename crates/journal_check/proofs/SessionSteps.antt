@@ -5,7 +5,7 @@ use Rattle.limit_table.specs.Trees.{LimitsValue}
 use Rattle.risk_journal.specs.declared.acts.Act.{Act}
 use Rattle.screen_kit.specs.Screens.{ScreenValue}
 use Rattle.session_engine.specs.Session.{armed_for}
-use Rattle.journal_check.specs.SessionActs.{IsOwnSession, DiffersAt}
+use Rattle.session_replay.specs.SessionActs.{IsOwnSession, DiffersAt}
 use Rattle.journal_check.specs.Sessions.{IsAlike, AreAlike}
 use Rattle.journal_check.proofs.Cases.{same_or}
 use Rattle.journal_check.proofs.FirstActs.{one_own}

@@ -29,21 +29,28 @@ sessions_long : (first : ℕ) (acts : List (List Act))
     → count_all acts ≤ length (flat_map session_text (enumerate_from first acts))
 sessions_long first [] = omega arith
 sessions_long first (own ∷ acts) =
-    omega (arith, count-cons own acts,
-    texts_long (act_text first) (λ act. row_some (act_cells first act)) own,
-    sessions_long (first + 1) acts,
-    length-append (flat_map (act_text first) own) (flat_map session_text (enumerate_from (first + 1) acts)))
+    omega (
+      arith,
+      count-cons own acts,
+      texts_long (act_text first) (λ act. row_some (act_cells first act)) own,
+      sessions_long (first + 1) acts,
+      length-append (flat_map (act_text first) own) (flat_map session_text (enumerate_from (first + 1) acts)),
+    )
 
 trees_long : (first : ℕ) (lines : List (List Line))
     → count_all lines ≤ length (flat_map tree_text (enumerate_from first lines))
 trees_long first [] = omega arith
 trees_long first (own ∷ lines) =
-    omega (arith, count-cons own lines,
-    texts_long (λ (placed : ℕ × Line). line_text first placed.0 placed.1) (λ placed. line_some first placed.0 placed.1)
-    (enumerate_from 1 own),
-    length-enumerate_from 1 own, trees_long (first + 1) lines,
-    length-append (flat_map (λ (placed : ℕ × Line). line_text first placed.0 placed.1) (enumerate_from 1 own))
-    (flat_map tree_text (enumerate_from (first + 1) lines)))
+    omega (
+      arith,
+      count-cons own lines,
+      texts_long (λ (placed : ℕ × Line). line_text first placed.0 placed.1) (λ placed. line_some first placed.0 placed.1)
+          (enumerate_from 1 own),
+      length-enumerate_from 1 own,
+      trees_long (first + 1) lines,
+      length-append (flat_map (λ (placed : ℕ × Line). line_text first placed.0 placed.1) (enumerate_from 1 own))
+          (flat_map tree_text (enumerate_from (first + 1) lines)),
+    )
 
 -- the rows are few where the text is short
 pub rows_within : (text : List ℕ) (acts : List (List Act)) (lines : List (List Line))
@@ -51,5 +58,11 @@ pub rows_within : (text : List ℕ) (acts : List (List Act)) (lines : List (List
 rows_within text acts lines journal =
     let sessions = flat_map session_text (enumerate_from 0 acts) in
     let trees = flat_map tree_text (enumerate_from 0 lines) in
-    omega (arith, ap length journal.is, sessions_long 0 acts, trees_long 0 lines,
-    length-append header_text sessions, length-append (header_text ++ sessions) trees)
+    omega (
+      arith,
+      ap length journal.is,
+      sessions_long 0 acts,
+      trees_long 0 lines,
+      length-append header_text sessions,
+      length-append (header_text ++ sessions) trees,
+    )

@@ -14,7 +14,7 @@ use Rattle.journal_check.specs.declared.judging.TheConstants.{JOURNAL_MOST}
 use Rattle.journal_check.specs.Firsts.{IsFirstRow}
 use Rattle.journal_check.specs.RowNumbers.{act_row}
 use Rattle.journal_check.specs.FarRows.{IsEarlyRow, IsFarRow}
-use Rattle.journal_check.specs.SessionActs.{IsOwnSession, DiffersAt}
+use Rattle.session_replay.specs.SessionActs.{IsOwnSession, DiffersAt}
 use Rattle.journal_check.specs.LineFaults.{IsLineFault}
 use Rattle.journal_check.specs.ReadFaults.{IsWrongRead}
 

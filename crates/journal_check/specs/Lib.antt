@@ -1,10 +1,7 @@
 pub mod Firsts
 pub mod RowNumbers
 pub mod Trees
-pub mod SessionActs
-pub mod SameActs
 pub mod Sessions
-pub mod PostBounds
 pub mod RightLines
 pub mod ReadRows
 pub mod ActFaults
@@ -21,6 +18,3 @@ pub mod Judged
 pub mod Buckets
 pub mod Answers
 pub mod TakingNext
-pub mod Script
-pub mod ScriptKept
-pub mod Replays

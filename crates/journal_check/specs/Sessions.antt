@@ -6,7 +6,7 @@ use Rattle.risk_journal.specs.declared.acts.Act.{Act}
 use Rattle.screen_kit.specs.Screens.{ScreenValue}
 use Rattle.session_engine.specs.Session.{armed_for}
 use Rattle.journal_check.specs.RowNumbers.{act_row}
-use Rattle.journal_check.specs.SessionActs.{IsOwnSession, DiffersAt}
+use Rattle.session_replay.specs.SessionActs.{IsOwnSession, DiffersAt}
 
 -- the acts of a session are those of its input and of their reads, where its source tells its bytes
 abbrev pub IsAlike : LimitsValue → List (Option (List ℕ)) → List (List ScreenValue) → ℕ → List Act

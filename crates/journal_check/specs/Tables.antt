@@ -3,7 +3,7 @@ use Rattle.std.specs.Prelude.{◌≡◌, ◌↔◌, ℕ, ◌+◌, ◌≤◌, ◌
 use Rattle.std.specs.Prelude.{Option, Some, None, slice_get, min}
 use Rattle.std.specs.List.{All}
 use Rattle.risk_journal.specs.declared.acts.Act.{Act}
-use Rattle.journal_check.specs.PostBounds.{PostsAtMost}
+use Rattle.session_replay.specs.PostBounds.{PostsAtMost}
 use Rattle.journal_check.specs.Firsts.{AllBefore}
 use Rattle.journal_check.specs.ReadRows.{ReadRow, FitsLines}
 use Rattle.risk_board.specs.declared.hand.Line.{Line}

@@ -6,9 +6,9 @@ use Rattle.risk_journal.specs.declared.acts.Act.{Act}
 use Rattle.screen_kit.specs.Screens.{ScreenValue}
 use Rattle.session_engine.specs.Session.{armed_for}
 use Rattle.journal_check.specs.Answers.{IsSourceBack}
-use Rattle.journal_check.specs.SessionActs.{IsOwnSession, DiffersAt}
-use Rattle.journal_check.specs.declared.replay.Likeness.{Likeness}
-use Rattle.journal_check.specs.declared.replay.Likeness.TheVariants.{Alike, Apart, ReadFault}
+use Rattle.session_replay.specs.SessionActs.{IsOwnSession, DiffersAt}
+use Rattle.session_replay.specs.declared.replay.Likeness.{Likeness}
+use Rattle.session_replay.specs.declared.replay.Likeness.TheVariants.{Alike, Apart, ReadFault}
 
 -- Sources that came back, and the sources and the screens of the sessions that wait.
 pub record Waiting (S : Type 0) : Type 0 where

@@ -6,13 +6,10 @@ mod agreement;
 mod far_rows;
 mod judging;
 mod read_rows;
-mod replay;
 mod right_lines;
 mod right_reads;
 mod rows_first;
 mod screen_sets;
-mod same_acts;
-mod script;
 mod session_acts;
 mod tables;
 mod tree_acts;
@@ -21,7 +18,7 @@ mod tree_lines;
 mod tree_reads;
 
 pub use judging::{CheckDone, CheckFault, Checked, JOURNAL_MOST, check};
-pub use script::ScriptHand;
+pub use session_replay::ScriptHand;
 
 #[cfg(test)]
 mod tests;

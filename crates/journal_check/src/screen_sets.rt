@@ -5,16 +5,16 @@ ghost use Rattle.gate_ports.specs.Faults.{Rose};
 ghost use Rattle.limit_table.specs.Trees.{halt_tree};
 ghost use Rattle.risk_journal.specs.JournalGrammar.{HasEnded};
 ghost use Rattle.session_engine.specs.Session.{armed_for};
-ghost use Rattle.journal_check.specs.PostBounds.{PostsAtMost};
-ghost use Rattle.journal_check.specs.SameActs.{IsInTrees};
-ghost use Rattle.journal_check.specs.SessionActs.{IsOwnSession, DiffersAt};
+ghost use Rattle.session_replay.specs.PostBounds.{PostsAtMost};
+ghost use Rattle.session_replay.specs.SameActs.{IsInTrees};
+ghost use Rattle.session_replay.specs.SessionActs.{IsOwnSession, DiffersAt};
 
-use crate::replay::{Compared, Likeness, compare};
 use fold_law::Memory;
 use gate_ports::Source;
 use limit_table::Limits;
 use risk_journal::Act;
 use screen_kit::Screen;
+use session_replay::{Compared, Likeness, compare};
 use std::alloc::Global;
 use std::marker::Model;
 

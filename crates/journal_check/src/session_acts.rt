@@ -6,18 +6,18 @@ ghost use Rattle.limit_table.specs.Trees.{halt_tree};
 ghost use Rattle.risk_journal.specs.JournalGrammar.{HasEnded};
 ghost use Rattle.journal_check.specs.Answers.{AreBack, SomeRose};
 ghost use Rattle.journal_check.specs.RowNumbers.{count_all};
-ghost use Rattle.journal_check.specs.SameActs.{IsInTrees};
-ghost use Rattle.journal_check.specs.PostBounds.{PostsAtMost};
+ghost use Rattle.session_replay.specs.SameActs.{IsInTrees};
+ghost use Rattle.session_replay.specs.PostBounds.{PostsAtMost};
 ghost use Rattle.journal_check.specs.Sessions.{AreAlike, IsFirstApart};
 ghost use Rattle.journal_check.specs.TakingNext.{TakesNext};
 ghost use Rattle.journal_check.specs.Tables.{AreCapped};
 
-use crate::replay::Likeness;
 use crate::screen_sets::{ScreenSet, compare_with};
 use gate_ports::Source;
 use limit_table::Limits;
 use risk_journal::Act;
 use screen_kit::Screen;
+use session_replay::Likeness;
 use std::alloc::Global;
 
 /// How the acts of all sessions compare with those of their inputs.
@@ -80,10 +80,16 @@ fn compare_next<S: Source>(
     requires ended { HasEnded acts.now }
     requires trees { All (IsInTrees (halt_tree limits.now)) acts.now }
     ensures next { TakesNext S.left S.faults S.name limits.now acts.now
-        (record { back = progress.old.back.items; rest = progress.old.rest.items;
-          screens = progress.old.screens.items })
-        (record { back = progress.new.back.items; rest = progress.new.rest.items;
-          screens = progress.new.screens.items })
+        (record {
+          back = progress.old.back.items;
+          rest = progress.old.rest.items;
+          screens = progress.old.screens.items;
+        })
+        (record {
+          back = progress.new.back.items;
+          rest = progress.new.rest.items;
+          screens = progress.new.screens.items;
+        })
         result }
     ensures capped { result ≡ Likeness.Alike → All (PostsAtMost LEAF) acts.now }
     ensures inside { (index : ℕ) → result ≡ Likeness.Apart index → index < length acts.now }

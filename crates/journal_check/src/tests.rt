@@ -97,33 +97,141 @@ struct Case {
 /// The faults alone, and before each later one. The rows of acts are 2 to 10, and those of lines 11 to
 /// 13.
 const CASES: &[Case] = &[
-    Case { name: "no change", changes: &[], answer: Checked::Yes },
-    Case { name: "text", changes: &[(1, b"kind\n")], answer: fault(1, 1) },
-    Case { name: "text in a later row", changes: &[(4, b"posted,0,2,1,1000,\n")], answer: fault(1, 4) },
-    Case { name: "count", changes: &[(10, b"ended,0,0,,,\nended,1,0,,,\n")], answer: fault(2, 0) },
-    Case { name: "early", changes: &[(10, b"ended,0,4,,,\n")], answer: fault(3, 10) },
-    Case { name: "an act's tree", changes: &[(5, b"read,0,4,0,0,0\n")], answer: fault(4, 5) },
-    Case { name: "a line's tree", changes: &[(13, b"line,0,4,1,1,1000\n")], answer: fault(4, 13) },
-    Case { name: "acts", changes: &[(9, b"sent,0,1,,,\n")], answer: fault(5, 9) },
-    Case { name: "an act less", changes: &[(9, b"")], answer: fault(5, 9) },
-    Case { name: "an act more", changes: &[(9, b"sent,0,0,,,\nsent,0,0,,,\n")], answer: fault(5, 10) },
-    Case { name: "a line's value", changes: &[(12, b"line,0,1,1,1,1001\n")], answer: fault(6, 12) },
-    Case { name: "a line's index", changes: &[(11, b"line,0,0,1,2,1000\n")], answer: fault(6, 11) },
-    Case { name: "a line's session", changes: &[(11, b"line,1,0,1,1,1000\n")], answer: fault(6, 11) },
-    Case { name: "a line more", changes: &[(13, b"line,0,2,1,1,1000\nline,0,2,2,2,1000\n")], answer: fault(6, 14) },
-    Case { name: "no line", changes: &[(11, b""), (12, b""), (13, b"")], answer: fault(6, 0) },
-    Case { name: "a read's value", changes: &[(7, b"read,0,1,1,1,1001\n")], answer: fault(7, 7) },
-    Case { name: "a read's place", changes: &[(8, b"read,0,2,1,0,1000\n")], answer: fault(7, 8) },
-    Case { name: "a place past the history", changes: &[(5, b"read,0,3,0,1,0\n")], answer: fault(7, 5) },
-    Case { name: "text before count", changes: &[(1, b"kind\n"), (10, b"ended,0,0,,,\nended,1,0,,,\n")], answer: fault(1, 1) },
-    Case { name: "count before early", changes: &[(10, b"ended,0,4,,,\nended,1,0,,,\n")], answer: fault(2, 0) },
-    Case { name: "early before tree", changes: &[(2, b"post,0,4,1,1000,\n"), (10, b"ended,0,6,,,\n")], answer: fault(3, 10) },
-    Case { name: "tree before acts", changes: &[(2, b"post,0,0,1,999,\n"), (13, b"line,0,4,1,1,1000\n")], answer: fault(4, 13) },
-    Case { name: "acts before lines", changes: &[(9, b"sent,0,1,,,\n"), (11, b"line,0,0,1,2,1000\n")], answer: fault(5, 9) },
-    Case { name: "lines before reads", changes: &[(5, b"read,0,3,0,1,0\n"), (12, b"line,0,1,1,1,1001\n")], answer: fault(6, 12) },
-    Case { name: "a missing line before reads", changes: &[(5, b"read,0,3,0,1,0\n"), (13, b"")], answer: fault(6, 0) },
-    Case { name: "the first of two reads", changes: &[(7, b"read,0,1,1,1,1001\n"), (8, b"read,0,2,1,1,1001\n")], answer: fault(7, 7) },
-    Case { name: "a wrong line before a missing one", changes: &[(11, b""), (12, b"line,0,1,1,1,1001\n")], answer: fault(6, 11) },
+    Case {
+        name: "no change",
+        changes: &[],
+        answer: Checked::Yes,
+    },
+    Case {
+        name: "text",
+        changes: &[(1, b"kind\n")],
+        answer: fault(1, 1),
+    },
+    Case {
+        name: "text in a later row",
+        changes: &[(4, b"posted,0,2,1,1000,\n")],
+        answer: fault(1, 4),
+    },
+    Case {
+        name: "count",
+        changes: &[(10, b"ended,0,0,,,\nended,1,0,,,\n")],
+        answer: fault(2, 0),
+    },
+    Case {
+        name: "early",
+        changes: &[(10, b"ended,0,4,,,\n")],
+        answer: fault(3, 10),
+    },
+    Case {
+        name: "an act's tree",
+        changes: &[(5, b"read,0,4,0,0,0\n")],
+        answer: fault(4, 5),
+    },
+    Case {
+        name: "a line's tree",
+        changes: &[(13, b"line,0,4,1,1,1000\n")],
+        answer: fault(4, 13),
+    },
+    Case {
+        name: "acts",
+        changes: &[(9, b"sent,0,1,,,\n")],
+        answer: fault(5, 9),
+    },
+    Case {
+        name: "an act less",
+        changes: &[(9, b"")],
+        answer: fault(5, 9),
+    },
+    Case {
+        name: "an act more",
+        changes: &[(9, b"sent,0,0,,,\nsent,0,0,,,\n")],
+        answer: fault(5, 10),
+    },
+    Case {
+        name: "a line's value",
+        changes: &[(12, b"line,0,1,1,1,1001\n")],
+        answer: fault(6, 12),
+    },
+    Case {
+        name: "a line's index",
+        changes: &[(11, b"line,0,0,1,2,1000\n")],
+        answer: fault(6, 11),
+    },
+    Case {
+        name: "a line's session",
+        changes: &[(11, b"line,1,0,1,1,1000\n")],
+        answer: fault(6, 11),
+    },
+    Case {
+        name: "a line more",
+        changes: &[(13, b"line,0,2,1,1,1000\nline,0,2,2,2,1000\n")],
+        answer: fault(6, 14),
+    },
+    Case {
+        name: "no line",
+        changes: &[(11, b""), (12, b""), (13, b"")],
+        answer: fault(6, 0),
+    },
+    Case {
+        name: "a read's value",
+        changes: &[(7, b"read,0,1,1,1,1001\n")],
+        answer: fault(7, 7),
+    },
+    Case {
+        name: "a read's place",
+        changes: &[(8, b"read,0,2,1,0,1000\n")],
+        answer: fault(7, 8),
+    },
+    Case {
+        name: "a place past the history",
+        changes: &[(5, b"read,0,3,0,1,0\n")],
+        answer: fault(7, 5),
+    },
+    Case {
+        name: "text before count",
+        changes: &[(1, b"kind\n"), (10, b"ended,0,0,,,\nended,1,0,,,\n")],
+        answer: fault(1, 1),
+    },
+    Case {
+        name: "count before early",
+        changes: &[(10, b"ended,0,4,,,\nended,1,0,,,\n")],
+        answer: fault(2, 0),
+    },
+    Case {
+        name: "early before tree",
+        changes: &[(2, b"post,0,4,1,1000,\n"), (10, b"ended,0,6,,,\n")],
+        answer: fault(3, 10),
+    },
+    Case {
+        name: "tree before acts",
+        changes: &[(2, b"post,0,0,1,999,\n"), (13, b"line,0,4,1,1,1000\n")],
+        answer: fault(4, 13),
+    },
+    Case {
+        name: "acts before lines",
+        changes: &[(9, b"sent,0,1,,,\n"), (11, b"line,0,0,1,2,1000\n")],
+        answer: fault(5, 9),
+    },
+    Case {
+        name: "lines before reads",
+        changes: &[(5, b"read,0,3,0,1,0\n"), (12, b"line,0,1,1,1,1001\n")],
+        answer: fault(6, 12),
+    },
+    Case {
+        name: "a missing line before reads",
+        changes: &[(5, b"read,0,3,0,1,0\n"), (13, b"")],
+        answer: fault(6, 0),
+    },
+    Case {
+        name: "the first of two reads",
+        changes: &[(7, b"read,0,1,1,1,1001\n"), (8, b"read,0,2,1,1,1001\n")],
+        answer: fault(7, 7),
+    },
+    Case {
+        name: "a wrong line before a missing one",
+        changes: &[(11, b""), (12, b"line,0,1,1,1,1001\n")],
+        answer: fault(6, 11),
+    },
 ];
 
 /// The bytes, with SOH for each bar.
@@ -205,7 +313,10 @@ fn worked_journals_have_their_answers(rt: HostRuntime) -> Result<(), Fail> {
     let alloc = rt.alloc();
     assert_eq!(rt; said(&rt, alloc, SENT, &[ORDER], NEVER)?, Checked::Yes);
     assert_eq!(rt; said(&rt, alloc, OTHER_READ, &[ORDER], NEVER)?, fault(7, 6));
-    assert_eq!(rt; said(&rt, alloc, FEWER_LINES, &[ORDER], NEVER)?, fault(6, 0));
+    assert_eq!(rt;
+        said(&rt, alloc, FEWER_LINES, &[ORDER], NEVER)?,
+        fault(6, 0)
+    );
     assert_eq!(rt; said(&rt, alloc, OTHER_POST, &[ORDER], NEVER)?, fault(5, 2));
     Ok(())
 }
@@ -225,10 +336,18 @@ fn each_fault_comes_alone_and_before_later_ones(rt: HostRuntime) -> Result<(), F
 fn another_input_is_not_the_journals(rt: HostRuntime) -> Result<(), Fail> {
     let alloc = rt.alloc();
     assert_eq!(rt; said(&rt, alloc, SENT, &[NOTHING], NEVER)?, fault(5, 2));
-    assert_eq!(rt; said(&rt, alloc, b"kind,session,a,b,c,d\n", &[NOTHING], NEVER)?, fault(2, 0));
-    assert_eq!(
-        rt;
-        said(&rt, alloc, b"kind,session,a,b,c,d\nended,0,0,,,\n", &[NOTHING], NEVER)?,
+    assert_eq!(rt;
+        said(&rt, alloc, b"kind,session,a,b,c,d\n", &[NOTHING], NEVER)?,
+        fault(2, 0)
+    );
+    assert_eq!(rt;
+        said(
+            &rt,
+            alloc,
+            b"kind,session,a,b,c,d\nended,0,0,,,\n",
+            &[NOTHING],
+            NEVER
+        )?,
         Checked::Yes
     );
     Ok(())
@@ -247,8 +366,14 @@ fn a_source_that_fails_is_told(rt: HostRuntime) -> Result<(), Fail> {
 fn sessions_are_told_apart(rt: HostRuntime) -> Result<(), Fail> {
     let alloc = rt.alloc();
     let two = b"kind,session,a,b,c,d\nended,0,0,,,\nended,1,0,,,\n";
-    assert_eq!(rt; said(&rt, alloc, two, &[NOTHING, NOTHING], NEVER)?, Checked::Yes);
-    assert_eq!(rt; said(&rt, alloc, two, &[NOTHING, ORDER], NEVER)?, fault(5, 3));
+    assert_eq!(rt;
+        said(&rt, alloc, two, &[NOTHING, NOTHING], NEVER)?,
+        Checked::Yes
+    );
+    assert_eq!(rt;
+        said(&rt, alloc, two, &[NOTHING, ORDER], NEVER)?,
+        fault(5, 3)
+    );
     assert_eq!(rt; said(&rt, alloc, two, &[ORDER, ORDER], NEVER)?, fault(5, 2));
     Ok(())
 }

@@ -94,7 +94,8 @@ fn add_read(own: &mut TreeActs, read: ReadRow) -> Result<(), Memory>
         made,
         least,
         ..read
-    }) else {
+    })
+    else {
         return Err(Memory);
     };
     own.least = read.stamp;
@@ -102,12 +103,7 @@ fn add_read(own: &mut TreeActs, read: ReadRow) -> Result<(), Memory>
 }
 
 /// Adds a post to the tree with this number, if there is one.
-fn add_post_in(
-    trees: &mut [TreeActs],
-    tree: u32,
-    session: u32,
-    value: u64,
-) -> Result<(), Memory>
+fn add_post_in(trees: &mut [TreeActs], tree: u32, session: u32, value: u64) -> Result<(), Memory>
     ensures { OnOk result (map tree_value trees.new
         ≡ changed_at tree (with_post session value) (map tree_value trees.old)) }
 {

@@ -26,8 +26,14 @@ overflow_cast-result c =
 pub overflow_add-result : goal.overflow_add-result
 overflow_add-result c =
     let at = kept_own c.args.acts.now c.loop-own.own-index c.own-item.result c.loop-own-test.true c.own-item.is in
-    omega (arith, c.requires, c.loop-own.invariant.row, inside c, ap length at,
-    count_own (kept c.args.acts.now) c.loop-own.own-index)
+    omega (
+      arith,
+      c.requires,
+      c.loop-own.invariant.row,
+      inside c,
+      ap length at,
+      count_own (kept c.args.acts.now) c.loop-own.own-index,
+    )
 
 pub returns-in-Some-clause-found : goal.returns-in-Some-clause-found
 returns-in-Some-clause-found c =
@@ -47,15 +53,26 @@ overflow_cast-row c =
 pub overflow_add-row : goal.overflow_add-row
 overflow_add-row c =
     let at = kept_own c.args.acts.now c.loop-own.own-index c.own-item.result c.loop-own-test.true c.own-item.is in
-    omega (arith, c.requires, c.loop-own.invariant.row, long c, ap length at,
-    count_own (kept c.args.acts.now) c.loop-own.own-index)
+    omega (
+      arith,
+      c.requires,
+      c.loop-own.invariant.row,
+      long c,
+      ap length at,
+      count_own (kept c.args.acts.now) c.loop-own.own-index,
+    )
 
 pub loop-own-preserved : goal.loop-own-preserved
 loop-own-preserved c =
     let at = kept_own c.args.acts.now c.loop-own.own-index c.own-item.result c.loop-own-test.true c.own-item.is in
     record {
-      row = omega (arith, c.loop-own.invariant.row, long c, ap length at,
-          count_next (kept c.args.acts.now) c.loop-own.own-index);
+      row = omega (
+        arith,
+        c.loop-own.invariant.row,
+        long c,
+        ap length at,
+        count_next (kept c.args.acts.now) c.loop-own.own-index,
+      );
       none = none_more (Has c.args.fault) (kept c.args.acts.now) c.loop-own.own-index
           c.own-item.result.items
           (kept_at c.args.acts.now c.loop-own.own-index c.own-item.result c.loop-own-test.true c.own-item.is)

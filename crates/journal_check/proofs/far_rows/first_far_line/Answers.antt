@@ -18,13 +18,22 @@ long c =
 
 pub overflow_add-row-in-loop-tree : goal.overflow_add-row-in-loop-tree
 overflow_add-row-in-loop-tree c =
-    omega (arith, c.requires, c.loop-tree.invariant.row, long c,
-    count_own (kept c.args.journal.now.lines.items) c.loop-tree.tree)
+    omega (
+      arith,
+      c.requires,
+      c.loop-tree.invariant.row,
+      long c,
+      count_own (kept c.args.journal.now.lines.items) c.loop-tree.tree,
+    )
 
 pub loop-tree-preserved : goal.loop-tree-preserved
 loop-tree-preserved c = record {
-  row = omega (arith, c.loop-tree.invariant.row, long c,
-      count_next (kept c.args.journal.now.lines.items) c.loop-tree.tree);
+  row = omega (
+    arith,
+    c.loop-tree.invariant.row,
+    long c,
+    count_next (kept c.args.journal.now.lines.items) c.loop-tree.tree,
+  );
   none = far_more c.args.last (kept c.args.journal.now.acts.items)
       (kept c.args.journal.now.lines.items) c.loop-tree.tree c.loop-tree.invariant.none
       (λ far.

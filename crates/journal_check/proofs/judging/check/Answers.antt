@@ -16,8 +16,11 @@ use Rattle.journal_check.proofs.judging.check.Goals as goal
 
 pub judge_read-requires-clause-bytes : goal.judge_read-requires-clause-bytes
 judge_read-requires-clause-bytes g c =
-    omega (arith, rows_within c.args.journal.now (kept c.in-Ok.told.acts.items)
-    (kept c.in-Ok.told.lines.items) c.in-Ok.ensures.read)
+    omega (
+      arith,
+      rows_within c.args.journal.now (kept c.in-Ok.told.acts.items)
+          (kept c.in-Ok.told.lines.items) c.in-Ok.ensures.read,
+    )
 
 pub judge_read-requires-clause-sound : goal.judge_read-requires-clause-sound
 judge_read-requires-clause-sound g c = c.in-Ok.ensures.read.sound

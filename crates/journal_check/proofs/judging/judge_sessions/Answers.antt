@@ -9,7 +9,7 @@ use Rattle.journal_check.specs.Answers.{AreTold, IfNo}
 use Rattle.journal_check.specs.FarRows.{IsFarRow}
 use Rattle.journal_check.specs.RowFaults.{HasNoRowFault}
 use Rattle.journal_check.specs.RowNumbers.{count_all}
-use Rattle.journal_check.specs.SameActs.{IsInTrees}
+use Rattle.session_replay.specs.SameActs.{IsInTrees}
 use Rattle.journal_check.specs.Sessions.{AreAlike, IsFirstApart}
 use Rattle.journal_check.specs.Tables.{AreCapped}
 use Rattle.journal_check.specs.TreeFaults.{AreRightAll, IsTreeFault}

@@ -7,8 +7,8 @@ use Rattle.fold_law.specs.declared.limits.TheConstants.{LEAF}
 use Rattle.limit_table.specs.Trees.{halt_tree}
 use Rattle.risk_journal.specs.JournalGrammar.{HasEnded}
 use Rattle.risk_journal.specs.declared.acts.Act.{Act}
-use Rattle.journal_check.specs.PostBounds.{PostsAtMost}
-use Rattle.journal_check.specs.SameActs.{IsInTrees}
+use Rattle.session_replay.specs.PostBounds.{PostsAtMost}
+use Rattle.session_replay.specs.SameActs.{IsInTrees}
 use Rattle.journal_check.specs.Sessions.{IsAlike}
 use Rattle.journal_check.proofs.Counts.{count_next, count_own}
 use Rattle.journal_check.proofs.Kept.{kept, kept_count, kept_own, kept_at}
@@ -36,14 +36,25 @@ loop-session-init g c =
 pub compare_next-requires-clause-source : goal.compare_next-requires-clause-source
 compare_next-requires-clause-source g c =
     let long = ap length c.loop-session.invariant.rest in
-    omega (arith, long, length-drop c.loop-session.session c.args.sources.items, c.requires.count,
-    c.loop-session-test.true)
+    omega (
+      arith,
+      long,
+      length-drop c.loop-session.session c.args.sources.items,
+      c.requires.count,
+      c.loop-session-test.true,
+    )
 
 pub compare_next-requires-clause-set : goal.compare_next-requires-clause-set
 compare_next-requires-clause-set g c =
     let long = ap length c.loop-session.invariant.screens in
-    omega (arith, long, length-drop c.loop-session.session c.args.screens.items, c.requires.count,
-    c.requires.screens, c.loop-session-test.true)
+    omega (
+      arith,
+      long,
+      length-drop c.loop-session.session c.args.screens.items,
+      c.requires.count,
+      c.requires.screens,
+      c.loop-session-test.true,
+    )
 
 pub compare_next-requires-clause-ended : goal.compare_next-requires-clause-ended
 compare_next-requires-clause-ended g c =

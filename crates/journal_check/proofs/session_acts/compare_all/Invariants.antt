@@ -3,7 +3,7 @@ use Rattle.std.proofs.Common.{◌≡◌, ◌+◌, ◌≤◌, ◌<◌, ℕ, List,
 use Rattle.std.specs.Prelude.{slice_get, Some}
 use Rattle.fold_law.specs.declared.limits.TheConstants.{LEAF}
 use Rattle.risk_journal.specs.declared.acts.Act.{Act}
-use Rattle.journal_check.specs.PostBounds.{PostsAtMost}
+use Rattle.session_replay.specs.PostBounds.{PostsAtMost}
 use Rattle.journal_check.specs.RowNumbers.{count_all}
 use Rattle.journal_check.specs.Sessions.{AreAlike}
 use Rattle.journal_check.proofs.Sources.{AreBackSoFar}

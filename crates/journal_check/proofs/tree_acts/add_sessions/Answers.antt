@@ -9,8 +9,14 @@ use Rattle.journal_check.proofs.tree_acts.add_sessions.Goals as goal
 pub add_acts-requires : goal.add_acts-requires
 add_acts-requires c =
     let at = kept_own c.args.acts.now c.loop-own.own-index c.own-item.result c.loop-own-test.true c.own-item.is in
-    omega (arith, c.requires.rows, c.loop-own.invariant.row, ap length at, ap length c.deref.ensures.value,
-    count_own (kept c.args.acts.now) c.loop-own.own-index)
+    omega (
+      arith,
+      c.requires.rows,
+      c.loop-own.invariant.row,
+      ap length at,
+      ap length c.deref.ensures.value,
+      count_own (kept c.args.acts.now) c.loop-own.own-index,
+    )
 
 long : (c : goal.After-len) → c.len.result ≡ length c.own-item.result.items
 long c = c.len.ensures ∙ sym c.deref.ensures.len ∙ ap length c.deref.ensures.value
@@ -23,16 +29,27 @@ overflow_cast-row c =
 pub overflow_add-row : goal.overflow_add-row
 overflow_add-row c =
     let at = kept_own c.args.acts.now c.loop-own.own-index c.own-item.result c.loop-own-test.true c.own-item.is in
-    omega (arith, c.requires.rows, c.loop-own.invariant.row, long c, ap length at,
-    count_own (kept c.args.acts.now) c.loop-own.own-index)
+    omega (
+      arith,
+      c.requires.rows,
+      c.loop-own.invariant.row,
+      long c,
+      ap length at,
+      count_own (kept c.args.acts.now) c.loop-own.own-index,
+    )
 
 pub loop-own-preserved : goal.loop-own-preserved
 loop-own-preserved c =
     let at = kept_own c.args.acts.now c.loop-own.own-index c.own-item.result c.loop-own-test.true c.own-item.is in
     record {
       session = ap (λ n. n + 1) c.loop-own.invariant.session;
-      row = omega (arith, c.loop-own.invariant.row, long c, ap length at,
-          count_next (kept c.args.acts.now) c.loop-own.own-index);
+      row = omega (
+        arith,
+        c.loop-own.invariant.row,
+        long c,
+        ap length at,
+        count_next (kept c.args.acts.now) c.loop-own.own-index,
+      );
       told = session_told c.loop-own.session c.loop-own.row (map tree_value c.loop-own.trees)
           (map tree_value c.begin_session.new.trees) (map tree_value c.add_acts.new.trees)
           (kept c.args.acts.now) c.loop-own.own-index c.len.result c.deref.result.now

@@ -49,8 +49,13 @@ overflow_cast-result c =
 
 pub overflow_add-result : goal.overflow_add-result
 overflow_add-result c =
-    omega (arith, c.requires.rows, c.loop-tree.invariant.row, inside c,
-    count_own (kept c.args.journal.now.lines.items) c.loop-tree.tree)
+    omega (
+      arith,
+      c.requires.rows,
+      c.loop-tree.invariant.row,
+      inside c,
+      count_own (kept c.args.journal.now.lines.items) c.loop-tree.tree,
+    )
 
 pub returns-in-Wrong-clause-found : goal.returns-in-Wrong-clause-found
 returns-in-Wrong-clause-found c =
@@ -83,8 +88,13 @@ long c =
 
 pub overflow_add-row-in-loop-tree : goal.overflow_add-row-in-loop-tree
 overflow_add-row-in-loop-tree c =
-    omega (arith, c.requires.rows, c.loop-tree.invariant.row, long c,
-    count_own (kept c.args.journal.now.lines.items) c.loop-tree.tree)
+    omega (
+      arith,
+      c.requires.rows,
+      c.loop-tree.invariant.row,
+      long c,
+      count_own (kept c.args.journal.now.lines.items) c.loop-tree.tree,
+    )
 
 pub loop-tree-preserved : goal.loop-tree-preserved
 loop-tree-preserved c =
@@ -97,21 +107,21 @@ loop-tree-preserved c =
     omega (arith, last.row, long c, count_next lines tree) in
     elim c.match-branch-2.branch [
       | in-Lacking w ↦
-        let is = subst (IsFoundOf (tree_posts tree acts) (tree_lines tree lines)) w.in-Lacking.is (joined c) in
-        record {
-          row = more;
-          right = right_more acts lines tree last.right is.0;
-          lacks = λ yes. record { tree = tree; lacks = is.1 };
-          all = λ no. absurd (true≢false (sym w.lacks-is ∙ no));
-        }
+          let is = subst (IsFoundOf (tree_posts tree acts) (tree_lines tree lines)) w.in-Lacking.is (joined c) in
+          record {
+            row = more;
+            right = right_more acts lines tree last.right is.0;
+            lacks = λ yes. record { tree = tree; lacks = is.1 };
+            all = λ no. absurd (true≢false (sym w.lacks-is ∙ no));
+          }
       | in-Right w ↦
-        let is = subst (IsFoundOf (tree_posts tree acts) (tree_lines tree lines)) w.in-Right.is (joined c) in
-        record {
-          row = more;
-          right = right_more acts lines tree last.right is.0;
-          lacks = λ yes. last.lacks (sym w.lacks-is ∙ yes);
-          all = λ no. all_more acts lines tree (last.all (sym w.lacks-is ∙ no)) is.1;
-        }
+          let is = subst (IsFoundOf (tree_posts tree acts) (tree_lines tree lines)) w.in-Right.is (joined c) in
+          record {
+            row = more;
+            right = right_more acts lines tree last.right is.0;
+            lacks = λ yes. last.lacks (sym w.lacks-is ∙ yes);
+            all = λ no. all_more acts lines tree (last.all (sym w.lacks-is ∙ no)) is.1;
+          }
     ]
 
 pub returns-then-lacks-clause-found : goal.returns-then-lacks-clause-found

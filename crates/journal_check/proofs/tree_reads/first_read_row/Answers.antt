@@ -39,8 +39,12 @@ enough : (c : goal.After-deref-in-loop-tree)
     → length (kept c.args.journal.now.acts.items) ≤ c.components-components.result
 enough c =
     let ok = c.args.journal.now.acts.ok in
-    omega (arith, c.components-components.ensures.least, c.len.ensures,
-    kept_count c.args.journal.now.acts.items)
+    omega (
+      arith,
+      c.components-components.ensures.least,
+      c.len.ensures,
+      kept_count c.args.journal.now.acts.items,
+    )
 
 pub first_in-requires-clause-own_lines : goal.first_in-requires-clause-own_lines
 first_in-requires-clause-own_lines c =
@@ -60,9 +64,12 @@ first_in-requires-clause-own_reads c =
     let acts : List (List Act) = kept c.args.journal.now.acts.items in
     subst (λ (r : List ReadRow). All (λ read. read.session < c.components-components.result) r)
     (sym (reads_are c))
-    (λ index d less. omega (arith, enough c,
-    reads_below c.loop-tree.tree acts index (get_or (tree_reads c.loop-tree.tree acts) index d)
-    (slice_get-get_or (tree_reads c.loop-tree.tree acts) index d less)))
+    (λ index d less. omega (
+      arith,
+      enough c,
+      reads_below c.loop-tree.tree acts index (get_or (tree_reads c.loop-tree.tree acts) index d)
+          (slice_get-get_or (tree_reads c.loop-tree.tree acts) index d less),
+    ))
 
 pub loop-tree-preserved : goal.loop-tree-preserved
 loop-tree-preserved c = λ last is.

@@ -21,12 +21,12 @@ pub struct ScriptHand {
 }
 
 impl Model for ScriptHand {
-    ghost use Rattle.journal_check.specs.Script.{ScriptValue};
+    ghost use Rattle.session_replay.specs.Script.{ScriptValue};
 
     ghost Value = { ScriptValue };
 
     ghost use Rattle.std.specs.Prelude.{vec_len, vec_capacity};
-    ghost use Rattle.journal_check.specs.ScriptKept.{script_of, IsScripted};
+    ghost use Rattle.session_replay.specs.ScriptKept.{script_of, IsScripted};
 
     ghost view = { λ h.
         script_of h.session h.quota h.cap h.spare h.posts.items h.calls.items h.reads.items };
@@ -37,8 +37,8 @@ impl Model for ScriptHand {
 }
 
 impl ScriptHand {
-    ghost use Rattle.journal_check.specs.Script.{opening_script, script_answer};
-    ghost use Rattle.journal_check.specs.Script.{AnswersByScript, ArePostsCapped};
+    ghost use Rattle.session_replay.specs.Script.{opening_script, script_answer};
+    ghost use Rattle.session_replay.specs.Script.{AnswersByScript, ArePostsCapped};
 
     /// A hand without calls, for so many trees, and at most so many posts in each. It has room for no
     /// call.
@@ -89,7 +89,7 @@ impl Hand for ScriptHand {
     ghost use Rattle.risk_board.specs.declared.hand.Call.TheVariants as Call;
     ghost use Rattle.risk_board.specs.Calls.{post_count};
     ghost use Rattle.risk_board.specs.Hands.{with_call};
-    ghost use Rattle.journal_check.specs.Script.{KeepsScript, script_meaning};
+    ghost use Rattle.session_replay.specs.Script.{KeepsScript, script_meaning};
 
     ghost meaning = { script_meaning };
 
@@ -136,8 +136,8 @@ impl Hand for ScriptHand {
         seen
     }
 
-    ghost use Rattle.journal_check.specs.Script.{keeps_script_itself, keeps_script_through};
-    ghost use Rattle.journal_check.specs.Script.{keeps_script_means};
+    ghost use Rattle.session_replay.specs.Script.{keeps_script_itself, keeps_script_through};
+    ghost use Rattle.session_replay.specs.Script.{keeps_script_means};
 
     ghost origin_same = { keeps_script_itself };
 

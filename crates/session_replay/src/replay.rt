@@ -10,11 +10,11 @@ ghost use Rattle.frame_run.specs.Ends.{IsByInput};
 ghost use Rattle.risk_journal.specs.ActLists.{calls_below, calls_at};
 ghost use Rattle.risk_journal.specs.JournalGrammar.{HasEnded};
 ghost use Rattle.session_engine.specs.Session.{armed_for};
-ghost use Rattle.journal_check.specs.Replays.{AreScripted, CallsByScripts, IsComparedBy};
-ghost use Rattle.journal_check.specs.SameActs.{IsInTrees};
-ghost use Rattle.journal_check.specs.Script.{seen_there, seen_elsewhere};
-ghost use Rattle.journal_check.specs.PostBounds.{PostsAtMost};
-ghost use Rattle.journal_check.specs.SessionActs.{IsOwnSession, DiffersAt};
+ghost use Rattle.session_replay.specs.Replays.{AreScripted, CallsByScripts, IsComparedBy};
+ghost use Rattle.session_replay.specs.SameActs.{IsInTrees};
+ghost use Rattle.session_replay.specs.Script.{seen_there, seen_elsewhere};
+ghost use Rattle.session_replay.specs.PostBounds.{PostsAtMost};
+ghost use Rattle.session_replay.specs.SessionActs.{IsOwnSession, DiffersAt};
 
 use crate::same_acts::first_difference;
 use crate::script::ScriptHand;
@@ -174,7 +174,7 @@ fn replay<S: Source>(
 
 /// How the acts of a session compare with those of its input and of their own reads.
 #[derive(Clone, Copy, Debug, PartialEq, Eq)]
-pub(crate) enum Likeness {
+pub enum Likeness {
     /// They are the same.
     Alike,
     /// They differ first at this index, from 0.
@@ -187,9 +187,9 @@ pub(crate) enum Likeness {
 
 /// A session that was compared, and its source.
 #[derive(Drop)]
-pub(crate) struct Compared<S: Source> {
-    pub(crate) likeness: Likeness,
-    pub(crate) source: S,
+pub struct Compared<S: Source> {
+    pub likeness: Likeness,
+    pub source: S,
 }
 
 /// How the acts of a run that ended so compare with these.
@@ -213,7 +213,7 @@ fn likeness_of(end: End, mine: &[Act], theirs: &[Act]) -> Likeness
 }
 
 /// Runs a session again, over what the reads of its acts saw, and compares what it did with the acts.
-pub(crate) fn compare<S: Source>(
+pub fn compare<S: Source>(
     alloc: Global,
     limits: &Limits,
     session: u32,

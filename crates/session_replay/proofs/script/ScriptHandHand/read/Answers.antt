@@ -1,8 +1,8 @@
 use Rattle.std.proofs.Common.{◌≡◌, ◌-◌, ◌≤◌, ap, sym, subst, arith}
-use Rattle.journal_check.specs.Script.{ScriptValue, script_answer}
-use Rattle.journal_check.specs.ScriptKept.{script_of}
-use Rattle.journal_check.proofs.ScriptCalls.{scripted-read}
-use Rattle.journal_check.proofs.script.ScriptHandHand.read.Goals as goal
+use Rattle.session_replay.specs.Script.{ScriptValue, script_answer}
+use Rattle.session_replay.specs.ScriptKept.{script_of}
+use Rattle.session_replay.proofs.ScriptCalls.{scripted-read}
+use Rattle.session_replay.proofs.script.ScriptHandHand.read.Goals as goal
 
 pub invariant_of-self : goal.invariant_of-self
 invariant_of-self c =

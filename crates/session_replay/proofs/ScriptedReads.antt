@@ -14,12 +14,12 @@ use Rattle.risk_journal.specs.declared.acts.Act.{Act}
 use Rattle.risk_journal.specs.declared.acts.Act.TheVariants.{Post, Read, Sent, Refused, Noted, Ended}
 use Rattle.admit_core.specs.Tapes.{read_act}
 use Rattle.admit_core.proofs.CallLemmas.{calls_below-append, calls_at-append}
-use Rattle.journal_check.specs.Replays.{CallsByScripts}
-use Rattle.journal_check.specs.SameActs.{AreSame, IsInTrees}
-use Rattle.journal_check.specs.Script.{AnswersByScript, ArePostsCapped, answers_in, seen_there}
-use Rattle.journal_check.specs.Script.{seen_elsewhere}
-use Rattle.journal_check.specs.PostBounds.{PostsAtMost}
-use Rattle.journal_check.proofs.FirstApart.{SeeAlike}
+use Rattle.session_replay.specs.Replays.{CallsByScripts}
+use Rattle.session_replay.specs.SameActs.{AreSame, IsInTrees}
+use Rattle.session_replay.specs.Script.{AnswersByScript, ArePostsCapped, answers_in, seen_there}
+use Rattle.session_replay.specs.Script.{seen_elsewhere}
+use Rattle.session_replay.specs.PostBounds.{PostsAtMost}
+use Rattle.session_replay.proofs.FirstApart.{SeeAlike}
 
 -- a read of the halt tree is one call there, and none below
 there_by : (here : Bool) (stamp value : ℕ) (seen : List Seen) (calls : List Call)

@@ -1,6 +1,6 @@
 use Rattle.std.proofs.Common.{◌≡◌, ◌≤◌, ◌-◌, length, map, take}
 use Rattle.risk_journal.specs.ActLists.{unplaced}
-use Rattle.journal_check.proofs.same_acts.first_difference.Given as goal
+use Rattle.session_replay.proofs.same_acts.first_difference.Given as goal
 
 abbrev pub invariant-loop-index : goal.invariant-loop-index
 invariant-loop-index l = record {

@@ -21,9 +21,9 @@ use Rattle.session_engine.proofs.MovedTapes.{reads_made, seen_unplaced, unset, u
 use Rattle.session_engine.proofs.PartedSessions.{frames_part}
 use Rattle.session_engine.proofs.PartedTapes.{parts_append}
 use Rattle.session_engine.proofs.PlacedFollows.{acts_alike, exact_acts, sees_no_place, takes_in_order}
-use Rattle.journal_check.specs.SameActs.{AreSame, DifferFirst}
-use Rattle.journal_check.specs.SessionActs.{IsSessionOf, IsOwnSession, DiffersAt}
-use Rattle.journal_check.proofs.FirstApart.{SeeAlike, apart_too}
+use Rattle.session_replay.specs.SameActs.{AreSame, DifferFirst}
+use Rattle.session_replay.specs.SessionActs.{IsSessionOf, IsOwnSession, DiffersAt}
+use Rattle.session_replay.proofs.FirstApart.{SeeAlike, apart_too}
 
 -- the first of reads without their places are the first without theirs
 first_reads-unplaced : (count : ℕ) (reads : List SeenAt)

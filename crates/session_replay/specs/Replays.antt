@@ -10,11 +10,11 @@ use Rattle.risk_journal.specs.ActLists.{calls_below, calls_at}
 use Rattle.risk_journal.specs.declared.acts.Act.{Act}
 use Rattle.risk_journal.specs.declared.acts.End.{End}
 use Rattle.risk_journal.specs.declared.acts.End.TheVariants as ending
-use Rattle.journal_check.specs.declared.replay.Likeness.{Likeness}
-use Rattle.journal_check.specs.declared.replay.Likeness.TheVariants as likeness
-use Rattle.journal_check.specs.SameActs.{AreSame, DifferFirst}
-use Rattle.journal_check.specs.Script.{ScriptValue, AnswersByScript, ArePostsCapped, seen_there}
-use Rattle.journal_check.specs.Script.{seen_elsewhere}
+use Rattle.session_replay.specs.declared.replay.Likeness.{Likeness}
+use Rattle.session_replay.specs.declared.replay.Likeness.TheVariants as likeness
+use Rattle.session_replay.specs.SameActs.{AreSame, DifferFirst}
+use Rattle.session_replay.specs.Script.{ScriptValue, AnswersByScript, ArePostsCapped, seen_there}
+use Rattle.session_replay.specs.Script.{seen_elsewhere}
 
 -- hands of these limits without a call, which answer as the reads of the acts saw: one on the trees of
 -- sums, one on the halt tree

@@ -3,7 +3,7 @@ use Rattle.std.specs.Prelude.{◌≡◌, ℕ, ◌+◌, ◌≤◌, ◌<◌, List,
 use Rattle.risk_board.specs.declared.hand.Call.{Call}
 use Rattle.risk_board.specs.declared.hand.Seen.{Seen}
 use Rattle.risk_board.specs.Calls.{post_count}
-use Rattle.journal_check.specs.Script.{ScriptValue, AnswersByScript, ArePostsCapped, read_count}
+use Rattle.session_replay.specs.Script.{ScriptValue, AnswersByScript, ArePostsCapped, read_count}
 
 -- the hand that its parts are
 abbrev pub script_of : ℕ → ℕ → ℕ → ℕ → List ℕ → List Call → List Seen → ScriptValue

@@ -12,9 +12,9 @@ use Rattle.risk_board.specs.declared.hand.Seen.{Seen}
 use Rattle.risk_board.specs.Calls.{post_count}
 use Rattle.risk_board.specs.Hands.{with_call}
 use Rattle.risk_board.proofs.Events.{post_count-post, post_count-other_post, post_count-read}
-use Rattle.journal_check.specs.Script.{ScriptValue, AnswersByScript, ArePostsCapped, script_answer}
-use Rattle.journal_check.specs.Script.{first_answer, is_read_call, read_count}
-use Rattle.journal_check.specs.ScriptKept.{IsScripted}
+use Rattle.session_replay.specs.Script.{ScriptValue, AnswersByScript, ArePostsCapped, script_answer}
+use Rattle.session_replay.specs.Script.{first_answer, is_read_call, read_count}
+use Rattle.session_replay.specs.ScriptKept.{IsScripted}
 
 read_count-cons : (call : Call) (calls : List Call)
     → read_count (call ∷ calls) ≡ cond (is_read_call call) 1 0 + read_count calls

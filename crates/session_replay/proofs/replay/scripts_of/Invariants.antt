@@ -1,7 +1,7 @@
 use Rattle.std.proofs.Common.{◌≡◌, take}
 use Rattle.std.specs.List.{flat_map}
-use Rattle.journal_check.specs.Script.{seen_there, seen_elsewhere}
-use Rattle.journal_check.proofs.replay.scripts_of.Given as goal
+use Rattle.session_replay.specs.Script.{seen_there, seen_elsewhere}
+use Rattle.session_replay.proofs.replay.scripts_of.Given as goal
 
 abbrev pub invariant-loop-act : goal.invariant-loop-act
 invariant-loop-act l = record {

@@ -15,7 +15,7 @@ use Rattle.risk_journal.specs.declared.acts.Act.TheVariants.{Ended}
 use Rattle.risk_journal.specs.declared.acts.End.{End}
 use Rattle.screen_kit.specs.Screens.{ScreenValue}
 use Rattle.session_engine.specs.Session.{LimitsValue, opening, after_frames}
-use Rattle.journal_check.specs.SessionActs.{IsSessionOf}
+use Rattle.session_replay.specs.SessionActs.{IsSessionOf}
 
 -- what ends a run is no frame
 ended_by_none : (goes_on : Bool) (next : Found) (end : End) → EndsBy goes_on next end

@@ -1,9 +1,9 @@
 use Rattle.std.proofs.Common.{◌+◌, ◌-◌, ◌≤◌, ◌<◌, ap, sym, subst, arith, length, length-set}
 use Rattle.risk_board.specs.Calls.{post_count}
-use Rattle.journal_check.specs.Script.{ScriptValue}
-use Rattle.journal_check.specs.ScriptKept.{script_of}
-use Rattle.journal_check.proofs.ScriptCalls.{scripted-post}
-use Rattle.journal_check.proofs.script.ScriptHandHand.post.Goals as goal
+use Rattle.session_replay.specs.Script.{ScriptValue}
+use Rattle.session_replay.specs.ScriptKept.{script_of}
+use Rattle.session_replay.proofs.ScriptCalls.{scripted-post}
+use Rattle.session_replay.proofs.script.ScriptHandHand.post.Goals as goal
 
 pub invariant_of-self : goal.invariant_of-self
 invariant_of-self c =

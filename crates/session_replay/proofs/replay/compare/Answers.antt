@@ -1,9 +1,9 @@
 -- What a comparison says, from what the run says and how its acts compare.
 use Rattle.std.proofs.Common.{[], subst}
-use Rattle.journal_check.specs.Replays.{IsComparedBy}
-use Rattle.journal_check.proofs.Comparing.{alike_follows, capped_follows, apart_follows}
-use Rattle.journal_check.proofs.Comparing.{calls_answered}
-use Rattle.journal_check.proofs.replay.compare.Goals as goal
+use Rattle.session_replay.specs.Replays.{IsComparedBy}
+use Rattle.session_replay.proofs.Comparing.{alike_follows, capped_follows, apart_follows}
+use Rattle.session_replay.proofs.Comparing.{calls_answered}
+use Rattle.session_replay.proofs.replay.compare.Goals as goal
 
 pub returns-clause-alike : goal.returns-clause-alike
 returns-clause-alike g c =

@@ -1,7 +1,7 @@
 //! Whether two lists of acts are the same but for the places of reads.
 ghost use Rattle.std.specs.Prelude.{◌≡◌, ◌↔◌, IsTrue, IfSome, None};
 ghost use Rattle.risk_journal.specs.ActLists.{unplaced};
-ghost use Rattle.journal_check.specs.SameActs.{AreSame, DifferFirst};
+ghost use Rattle.session_replay.specs.SameActs.{AreSame, DifferFirst};
 
 use risk_journal::Act;
 

@@ -12,16 +12,16 @@ use Rattle.risk_journal.specs.declared.acts.End.{End}
 use Rattle.risk_journal.specs.declared.acts.End.TheVariants as ending
 use Rattle.screen_kit.specs.Screens.{ScreenValue}
 use Rattle.fold_law.specs.declared.limits.TheConstants.{LEAF}
-use Rattle.journal_check.specs.declared.replay.Likeness.{Likeness}
-use Rattle.journal_check.specs.declared.replay.Likeness.TheVariants as likeness
-use Rattle.journal_check.specs.Replays.{AreScripted, CallsByScripts, DifferBy, IsComparedBy}
-use Rattle.journal_check.specs.SameActs.{AreSame, IsInTrees}
-use Rattle.journal_check.specs.Script.{ScriptValue, answers_in}
-use Rattle.journal_check.specs.PostBounds.{PostsAtMost}
-use Rattle.journal_check.specs.SessionActs.{IsOwnSession, DiffersAt}
-use Rattle.journal_check.proofs.SameSession.{differs_inside, differs_too, same_too}
-use Rattle.journal_check.proofs.ScriptedReads.{scripts_see_alike, capped_alike, there_is}
-use Rattle.journal_check.proofs.ScriptedReads.{elsewhere_is}
+use Rattle.session_replay.specs.declared.replay.Likeness.{Likeness}
+use Rattle.session_replay.specs.declared.replay.Likeness.TheVariants as likeness
+use Rattle.session_replay.specs.Replays.{AreScripted, CallsByScripts, DifferBy, IsComparedBy}
+use Rattle.session_replay.specs.SameActs.{AreSame, IsInTrees}
+use Rattle.session_replay.specs.Script.{ScriptValue, answers_in}
+use Rattle.session_replay.specs.PostBounds.{PostsAtMost}
+use Rattle.session_replay.specs.SessionActs.{IsOwnSession, DiffersAt}
+use Rattle.session_replay.proofs.SameSession.{differs_inside, differs_too, same_too}
+use Rattle.session_replay.proofs.ScriptedReads.{scripts_see_alike, capped_alike, there_is}
+use Rattle.session_replay.proofs.ScriptedReads.{elsewhere_is}
 
 -- a session that ended has an act
 pub some_act : (acts : List Act) → HasEnded acts → 0 < length acts

@@ -5,7 +5,7 @@ use Rattle.std.proofs.lemmas.List.{take_more, map-append, length-map, length-tak
 use Rattle.std.proofs.Math.Seq.{get_or-append_seam}
 use Rattle.risk_journal.specs.declared.acts.Act.{Act}
 use Rattle.risk_journal.specs.ActLists.{unplaced}
-use Rattle.journal_check.specs.SameActs.{AreSame, DifferFirst}
+use Rattle.session_replay.specs.SameActs.{AreSame, DifferFirst}
 
 longer : (acts : List Act) (index : ℕ) (d : Act) → index < length acts
     → map unplaced (take (index + 1) acts)

@@ -1,0 +1,6 @@
+pub mod Script
+pub mod ScriptKept
+pub mod SameActs
+pub mod PostBounds
+pub mod SessionActs
+pub mod Replays
