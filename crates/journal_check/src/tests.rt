@@ -1,6 +1,6 @@
 //! Journals against the answers that were worked out for them by hand, each fault alone and before each
 //! later one; and a source that fails. Bytes of inputs have a bar for SOH.
-use crate::{CheckFault, Checked, JOURNAL_MOST, check};
+use crate::{CheckFault, Checked, check};
 use fold_law::SESSIONS;
 use gate_ports::MemSource;
 use limit_table::{Limits, read_limits};
@@ -379,18 +379,5 @@ fn sessions_are_told_apart(rt: HostRuntime) -> Result<(), Fail> {
         fault(5, 3)
     );
     assert_eq!(rt; said(&rt, alloc, two, &[ORDER, ORDER], NEVER)?, fault(5, 2));
-    Ok(())
-}
-
-#[test]
-fn a_journal_of_one_byte_too_many_is_not_read(rt: HostRuntime) -> Result<(), Fail> {
-    let alloc = rt.alloc();
-    let text = vec![in alloc; 0u8; JOURNAL_MOST + 1]?;
-    assert_eq!(rt; said(&rt, alloc, &text, &[NOTHING], NEVER)?, fault(1, 0));
-    assert!(rt; text.len() > JOURNAL_MOST, "a byte more");
-    assert_eq!(rt;
-        said(&rt, alloc, &text[..JOURNAL_MOST], &[NOTHING], NEVER)?,
-        fault(1, 1)
-    );
     Ok(())
 }
