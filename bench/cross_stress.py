@@ -11,22 +11,17 @@ every fifth run what was passed is then run by `run`, over the same limits, and 
 does. It ends with status 1 at the first run that is wrong, whose files it leaves in FOLDER, where one
 is given.
 """
-import argparse
 import random
-import shutil
-import sys
 import tempfile
 import time
-from collections import Counter
 
 import broken
 import loads
 from model.cross_judge import judge_run
 from model.frames import Frame, next_frame
-from model.judge import Wrong
 from model.judge import judge_run as judge_gate
 from rows import base
-from stress import PROGRAM, call, count, read, results
+from stress import call, count, parser_of, read, results, run_all
 
 SECOND = "symbol,ABC,100000,1,10,500"
 
@@ -94,27 +89,9 @@ def judge(asked, folder, number, counts):
         counts["run on"] += 1
 
 
-def arguments():
-    """What the command line asks for."""
-    parser = argparse.ArgumentParser()
-    parser.add_argument("--runs", type=int, default=1_000)
-    parser.add_argument("--seed", type=int, default=1)
-    parser.add_argument("--gate", default=PROGRAM)
-    parser.add_argument("--keep")
-    return parser.parse_args()
-
-
 def main():
-    asked, start, counts = arguments(), time.monotonic(), Counter()
-    for number in range(asked.runs):
-        with tempfile.TemporaryDirectory() as folder:
-            try:
-                judge(asked, folder, number, counts)
-            except (Wrong, OSError) as wrong:
-                if asked.keep:
-                    shutil.copytree(folder, asked.keep)
-                print(f"run {number} of seed {asked.seed} is wrong: {wrong!r}")
-                sys.exit(1)
+    start = time.monotonic()
+    counts = run_all(parser_of(1_000).parse_args(), judge)
     print(f"{counts['runs']:,} runs of {counts['sessions']:,} sessions, which met in "
           f"{counts['met']:,} of them, {time.monotonic() - start:.0f} s; "
           f"{counts['run on']:,} were run on")

@@ -11,21 +11,15 @@ in `model/desk.py` over its input and its reads, and the status and the fault of
 It prints what it ran and saw, and ends with status 1 at the first run that is wrong, whose files it
 leaves in FOLDER, where one is given.
 """
-import argparse
 import os
 import random
-import shutil
 import subprocess
-import sys
-import tempfile
 import time
-from collections import Counter
 
 import broken
 import loads
 from model.desk_judge import judge_run
-from model.judge import Wrong
-from stress import PROGRAM, count, read, write
+from stress import count, parser_of, read, run_all, write
 
 ROWS = ("firm,", "firm,", "account,ACC", "symbol,XYZ")
 VALUES = ("0", "100", "500", "2000", "9000", "none", "none", "274877906942", "000000000700")
@@ -88,27 +82,9 @@ def judge(asked, folder, number, counts):
     count(counts, acts)
 
 
-def arguments():
-    """What the command line asks for."""
-    parser = argparse.ArgumentParser()
-    parser.add_argument("--runs", type=int, default=1_000)
-    parser.add_argument("--seed", type=int, default=1)
-    parser.add_argument("--gate", default=PROGRAM)
-    parser.add_argument("--keep")
-    return parser.parse_args()
-
-
 def main():
-    asked, start, counts = arguments(), time.monotonic(), Counter()
-    for number in range(asked.runs):
-        with tempfile.TemporaryDirectory() as folder:
-            try:
-                judge(asked, folder, number, counts)
-            except (Wrong, OSError) as wrong:
-                if asked.keep:
-                    shutil.copytree(folder, asked.keep)
-                print(f"run {number} of seed {asked.seed} is wrong: {wrong!r}")
-                sys.exit(1)
+    start = time.monotonic()
+    counts = run_all(parser_of(1_000).parse_args(), judge)
     causes = ", ".join(f"{code}: {counts['refused', code]:,}" for code in range(1, 19))
     print(f"{counts['runs']:,} runs with {counts['officers']:,} officers, of which {counts['faults']:,} "
           f"runs had a wrong officer's file; sessions met in {counts['met']:,}, "

@@ -105,15 +105,21 @@ def count(counts, acts):
             counts[act[0]] += 1
 
 
-def arguments():
-    """What the command line asks for."""
+def parser_of(runs):
+    """What each script of random runs takes, with as many runs where none are asked for."""
     parser = argparse.ArgumentParser()
-    parser.add_argument("--runs", type=int, default=2_000)
+    parser.add_argument("--runs", type=int, default=runs)
     parser.add_argument("--seed", type=int, default=1)
-    parser.add_argument("--sessions", type=int)
-    parser.add_argument("--check", action="store_true")
     parser.add_argument("--gate", default=PROGRAM)
     parser.add_argument("--keep")
+    return parser
+
+
+def arguments():
+    """What the command line asks for."""
+    parser = parser_of(2_000)
+    parser.add_argument("--sessions", type=int)
+    parser.add_argument("--check", action="store_true")
     return parser.parse_args()
 
 
@@ -130,19 +136,24 @@ def tell(counts, seconds):
     print(f"noted by code    {notes}")
 
 
-def run_all(asked):
+def judge(asked, folder, number, counts):
+    """Judges a run."""
+    limits, inputs = made(asked.seed * 1_000_003 + number, asked.sessions)
+    done, out = call(asked.gate, folder, limits, inputs)
+    found = results(done, out, len(inputs))
+    count(counts, judge_run(limits, inputs, *found))
+    if asked.check:
+        told = check(asked.gate, folder, found[2].encode(), len(inputs))
+        demand(told == LAWFUL, "its own check", told)
+
+
+def run_all(asked, judge_one):
     """Judges all runs. Gives the counts, or ends with status 1 at the first run that is wrong."""
     counts = Counter()
     for number in range(asked.runs):
-        limits, inputs = made(asked.seed * 1_000_003 + number, asked.sessions)
         with tempfile.TemporaryDirectory() as folder:
             try:
-                done, out = call(asked.gate, folder, limits, inputs)
-                found = results(done, out, len(inputs))
-                count(counts, judge_run(limits, inputs, *found))
-                if asked.check:
-                    told = check(asked.gate, folder, found[2].encode(), len(inputs))
-                    demand(told == LAWFUL, "its own check", told)
+                judge_one(asked, folder, number, counts)
             except (Wrong, OSError) as wrong:
                 if asked.keep:
                     shutil.copytree(folder, asked.keep)
@@ -153,7 +164,7 @@ def run_all(asked):
 
 def main():
     asked, start = arguments(), time.monotonic()
-    tell(run_all(asked), time.monotonic() - start)
+    tell(run_all(asked, judge), time.monotonic() - start)
 
 
 if __name__ == "__main__":

@@ -7,7 +7,7 @@ of sells. In both the larger is what may cross more, and 0 is no order.
 from .answers import Stream, refused_order, refused_request
 from .frames import Frame, next_frame
 from .messages import Fault, read_message
-from .session import ENDS, INPUT_MOST
+from .session import ENDS, INPUT_MOST, Calls
 
 HALF, TOP = 2 ** 19, 2 ** 19 - 1
 BUY, LIMIT = b"1", b"2"
@@ -97,26 +97,12 @@ class Resting:
             del self.terms[places[-1]]
 
 
-class CrossSession:
-    """A session while it takes frames. `reads` are (stamp, place, value), in order; trees are those
-    of the symbols, from 0."""
+class CrossSession(Calls):
+    """A session while it takes frames. Trees are those of the symbols, from 0."""
 
     def __init__(self, limits, reads):
-        self.limits, self.reads = limits, iter(reads)
-        self.acts, self.passed, self.client = [], b"", Stream()
-        self.orders, self.posted, self.posts, self.frame = [], {}, {}, 0
-
-    def post(self, tree, value):
-        """Posts a value."""
-        self.posts[tree] = self.posts.get(tree, 0) + 1
-        self.posted[tree] = value
-        self.acts.append(("post", tree, self.posts[tree], value))
-
-    def read(self, tree):
-        """The value of the next read, which is of this tree."""
-        stamp, place, value = next(self.reads, (0, 0, 0))
-        self.acts.append(("read", tree, stamp, place, value))
-        return value
+        super().__init__(reads)
+        self.limits, self.passed, self.client, self.orders, self.frame = limits, b"", Stream(), [], 0
 
     def last(self, own_id, symbol=None, side=None):
         """The last open order that has an id, of a symbol and a side where these are given."""

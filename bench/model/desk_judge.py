@@ -2,7 +2,7 @@
 too, and each officer and each session did what its file and its reads say."""
 from .desk import Officer, run_desk
 from .journal import Fault, read_journal
-from .judge import Wrong, demand, judge_tree
+from .judge import Wrong, demand, judge_session, judge_tree
 from .limits import Limits
 
 
@@ -10,18 +10,6 @@ def folds(limits):
     """The fold of each tree: sums, the halt tree's largest, and a smallest for each sum."""
     sums = limits.halt_tree()
     return ["sum"] * sums + ["max"] + ["min"] * sums
-
-
-def judge_session(number, limits, data, acts, venue, client):
-    """A session's acts and streams are those of its input and its reads. Gives its end."""
-    reads = [act[2:] for act in acts if act[0] == "read"]
-    model, end = run_desk(limits, data, reads)
-    for place, (wanted, found) in enumerate(zip(model.acts, acts)):
-        demand(wanted == found, "an act", number, place, "wanted", wanted, "found", found)
-    demand(len(model.acts) == len(acts), "how many acts", number, len(model.acts), len(acts))
-    demand(model.venue.data == venue, "the venue's stream", number)
-    demand(model.client.data == client, "the client's stream", number)
-    return end
 
 
 def first_fault(limits, officers):
@@ -50,7 +38,7 @@ def judge_run(limit_text, officers, inputs, venues, clients, journal, told, stat
         judge_tree(acts, lines.get(tree, []), tree, fold, None)
     for number, (data, own) in enumerate(zip(officers, acts)):
         demand(own == Officer(limits, data).acts(), "an officer's acts", number)
-    ends = [judge_session(number, limits, *one) for number, one in
+    ends = [judge_session(number, limits, *one, run=run_desk) for number, one in
             enumerate(zip(inputs, acts[len(officers):], venues, clients), len(officers))]
     wanted = 0 if all(word == "whole" for word, _ in ends) else 4
     demand((status, told) == (wanted, f"status {wanted}\n"), "the status", status, told)

@@ -92,10 +92,11 @@ def judge_journal(text, limits):
     return acts, lines
 
 
-def judge_session(number, limits, data, acts, venue, client):
-    """A session's acts and streams are those of its input and its reads. Gives its end."""
+def judge_session(number, limits, data, acts, venue, client, run=run_session):
+    """A session's acts and streams are those that its model, run so, has of its input and its reads.
+    Gives its end."""
     reads = [act[2:] for act in acts if act[0] == "read"]
-    model, end = run_session(limits, data, reads)
+    model, end = run(limits, data, reads)
     for place, (wanted, found) in enumerate(zip(model.acts, acts)):
         demand(wanted == found, "an act", number, place, "wanted", wanted, "found", found)
     demand(len(model.acts) == len(acts), "how many acts", number, len(model.acts), len(acts))

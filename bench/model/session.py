@@ -11,14 +11,11 @@ ENDS = {"whole": 0, "cut": 1, "broken": 2, "long": 3}
 NOTE_UNSOUND, NOTE_OTHER, NOTE_STRAY, NOTE_OVER, NOTE_FAULT, NOTE_QUOTA = 1, 2, 3, 4, 5, 6
 
 
-class Session:
-    """A session while it takes frames. `reads` are (stamp, place, value), in order."""
+class Calls:
+    """What a session posts and reads, as acts. `reads` are (stamp, place, value), in order."""
 
-    def __init__(self, limits, screens, reads):
-        self.limits, self.screens, self.reads = limits, screens, iter(reads)
-        self.acts, self.venue, self.client = [], Stream(), Stream()
-        self.book, self.posted, self.posts = Book(limits.nets), {}, {}
-        self.frame, self.orders, self.firms, self.target = 0, 0, 0, b"CLIENT"
+    def __init__(self, reads):
+        self.reads, self.acts, self.posted, self.posts = iter(reads), [], {}, {}
 
     def post(self, tree, value):
         """Posts a value."""
@@ -31,6 +28,16 @@ class Session:
         stamp, place, value = next(self.reads, (0, 0, 0))
         self.acts.append(("read", tree, stamp, place, value))
         return value
+
+
+class Session(Calls):
+    """A session while it takes frames."""
+
+    def __init__(self, limits, screens, reads):
+        super().__init__(reads)
+        self.limits, self.screens, self.book = limits, screens, Book(limits.nets)
+        self.venue, self.client = Stream(), Stream()
+        self.frame, self.orders, self.firms, self.target = 0, 0, 0, b"CLIENT"
 
     def note(self, code, tag=0, reason=0):
         """Notes the frame."""
