@@ -10,10 +10,12 @@ use Rattle.admit_core.specs.declared.ask.Verdict.{Verdict}
 use Rattle.admit_core.specs.declared.ask.Verdict.TheVariants as verdict
 use Rattle.admit_core.specs.Tapes.{Tape, tape, next_read, with_post, with_read, read_act}
 use Rattle.admit_core.specs.Legs.{Leg, trees_of}
-use Rattle.admit_core.specs.Asking.{Asked, is_short, post_new, post_old, read_root, roots_of}
+use Rattle.admit_core.specs.Asking.{Asked, is_short, post_new, read_root, roots_of}
 use Rattle.admit_core.specs.Asking.{first_above, verdict_of, settled, posted_and_read, asking}
+use Rattle.admit_core.proofs.AskedTrees.{post_by}
 use Rattle.session_engine.specs.Parting.{PartAtRead}
-use Rattle.session_engine.proofs.GrownActs.{Grows, reading_roots, settling_legs}
+use Rattle.session_engine.proofs.AddedActs.{Grows}
+use Rattle.session_engine.proofs.MovedTapes.{asked_by, reading_roots, settling as settling_moves}
 
 -- acts that part at a read do so with more behind
 pub parts_append : (one other more more_other : List Act) → PartAtRead one other
@@ -34,9 +36,9 @@ parts_append one other more more_other parts = record {
 }
 
 -- acts that part at a read do so whatever comes then
-pub parts_later : (one other later later_other : List Act) → PartAtRead one other
+pub parts_later : {one other later later_other : List Act} → PartAtRead one other
     → Grows one later → Grows other later_other → PartAtRead later later_other
-parts_later one other later later_other parts grows grows_other =
+parts_later {one} {other} {later} {later_other} parts grows grows_other =
     subst (λ acts. PartAtRead acts later_other) (sym grows.is)
     (subst (PartAtRead (one ++ grows.more)) (sym grows_other.is)
     (parts_append one other grows.more grows_other.more parts))
@@ -75,19 +77,12 @@ abbrev pub SameActs : Tape → Tape → Type 0
 SameActs one other = (reads : List SeenAt) × (other ≡ record one { reads = reads })
 
 -- posts don't know the reads to come
-posting_new : (legs : List Leg) (acts : List Act) (reads others : List SeenAt)
-    → fold post_new (tape acts others) legs
-    ≡ record (fold post_new (tape acts reads) legs) { reads = others }
-posting_new [] acts reads others = refl
-posting_new (leg ∷ legs) acts reads others =
-    posting_new legs (with_post leg.tree leg.new acts) reads others
-
-posting_old : (legs : List Leg) (acts : List Act) (reads others : List SeenAt)
-    → fold post_old (tape acts others) legs
-    ≡ record (fold post_old (tape acts reads) legs) { reads = others }
-posting_old [] acts reads others = refl
-posting_old (leg ∷ legs) acts reads others =
-    posting_old legs (with_post leg.tree leg.old acts) reads others
+posting_all : (value : Leg → ℕ) (legs : List Leg) (acts : List Act) (reads others : List SeenAt)
+    → fold (post_by value) (tape acts others) legs
+    ≡ record (fold (post_by value) (tape acts reads) legs) { reads = others }
+posting_all value [] acts reads others = refl
+posting_all value (leg ∷ legs) acts reads others =
+    posting_all value legs (with_post leg.tree (value leg) acts) reads others
 
 -- roots are read alike, or the acts part
 abbrev ReadAlikeOrPart : List ℕ → List Act → List Act → List SeenAt → List SeenAt → Type 0
@@ -131,8 +126,7 @@ read_apart tree trees acts reads others differ =
       other_is = refl;
       differ = differ;
     } in
-    inr (parts_later one.acts other.acts (fold read_root one trees).acts
-    (fold read_root other trees).acts here (reading_roots trees one) (reading_roots trees other))
+    inr (parts_later here (reading_roots trees one).grows (reading_roots trees other).grows)
 
 reading : (trees : List ℕ) (acts : List Act) (reads others : List SeenAt)
     → ReadAlikeOrPart trees acts acts reads others
@@ -168,11 +162,11 @@ settling : (legs : List Leg) (answer : Verdict) (acts : List Act) (reads others 
     → settled legs answer (tape acts others)
     ≡ record (settled legs answer (tape acts reads)) { reads = others }
 settling legs verdict.Sent acts reads others = refl
-settling legs verdict.Firm acts reads others = posting_old legs acts reads others
-settling legs verdict.Account acts reads others = posting_old legs acts reads others
-settling legs verdict.Symbol acts reads others = posting_old legs acts reads others
-settling legs verdict.Halt acts reads others = posting_old legs acts reads others
-settling legs verdict.Quota acts reads others = posting_old legs acts reads others
+settling legs verdict.Firm acts reads others = posting_all (λ leg. leg.old) legs acts reads others
+settling legs verdict.Account acts reads others = posting_all (λ leg. leg.old) legs acts reads others
+settling legs verdict.Symbol acts reads others = posting_all (λ leg. leg.old) legs acts reads others
+settling legs verdict.Halt acts reads others = posting_all (λ leg. leg.old) legs acts reads others
+settling legs verdict.Quota acts reads others = posting_all (λ leg. leg.old) legs acts reads others
 
 -- what is asked goes alike, or parts at a read
 abbrev pub AskAlikeOrPart : Asked → Asked → Type 0
@@ -195,18 +189,9 @@ posting_and_reading limits legs acts reads others =
     (AnswerAlike roots reads others × SameActs (fold read_root one roots) (fold read_root two roots))
     ⊎ PartAtRead (fold read_root one roots).acts (fold read_root two roots).acts in
     subst (λ one. Goal one (fold post_new (tape acts others) legs))
-    (sym (posting_new legs acts reads reads))
-    (subst (Goal (tape posted reads)) (sym (posting_new legs acts reads others))
+    (sym (posting_all (λ leg. leg.new) legs acts reads reads))
+    (subst (Goal (tape posted reads)) (sym (posting_all (λ leg. leg.new) legs acts reads others))
     (reading roots posted reads others))
-
--- what asking comes to by whether too few posts are left, and by the verdict
-abbrev asked_by : LimitsValue → List Leg → Bool → Verdict → Tape → Asked
-asked_by limits legs short answer before =
-    if short then record { verdict = verdict.Quota; tape = before }
-    else record {
-      verdict = answer;
-      tape = settled legs answer (posted_and_read limits legs before);
-    }
 
 asking_by : (limits : LimitsValue) (legs : List Leg) (short : Bool) (acts : List Act)
     (reads others : List SeenAt)
@@ -245,9 +230,8 @@ asking_by limits legs false acts reads others =
     parted : PartAtRead one.acts two.acts
         → AskAlikeOrPart (make answer (settled legs answer one))
         (make other_answer (settled legs other_answer two))
-    parted parts = inr (parts_later one.acts two.acts (settled legs answer one).acts
-        (settled legs other_answer two).acts parts (settling_legs legs answer one)
-        (settling_legs legs other_answer two))
+    parted parts = inr (parts_later parts (settling_moves legs answer one).grows
+        (settling_moves legs other_answer two).grows)
 
 pub asking_parts : (limits : LimitsValue) (legs : List Leg) (acts : List Act)
     (reads others : List SeenAt)

@@ -6,6 +6,7 @@ use Rattle.std.specs.Io.KnownBytes.{Appends}
 use Rattle.std.proofs.lemmas.List.{append-nil}
 use Rattle.fix_fields.specs.Fields.{FieldValue}
 use Rattle.exposure_book.specs.Books.{BookValue}
+use Rattle.exposure_book.specs.Reports.{outcome_of_report, outcome_of_reject}
 use Rattle.fix_orders.specs.declared.message.CancelReject.{CancelReject}
 use Rattle.fix_orders.specs.declared.message.Head.{Head}
 use Rattle.fix_orders.specs.declared.message.Message.{Message}
@@ -26,7 +27,7 @@ use Rattle.session_engine.specs.Reaches.{with_reads}
 use Rattle.session_engine.specs.Taken.{Kept, StandsAs, Takes, counted_client, note_acts, note_by}
 use Rattle.session_engine.proofs.MessageFacts.{ReportFacts}
 use Rattle.session_engine.proofs.QuietActs.{notes_unread, reads_of-quiet}
-use Rattle.session_engine.proofs.SettledReads.{report_reads, reject_reads}
+use Rattle.session_engine.proofs.AddedActs.{settled_adds}
 use Rattle.session_engine.proofs.TakenLemmas.{frame_by, counted, next_by, takes_next}
 use Rattle.session_engine.proofs.TakenLemmas.{steps_quiet, appends_nothing}
 
@@ -47,7 +48,9 @@ report_told report = record {
   message = message.Report report;
   head = report.head;
   settle = λ limits. report_settled limits report;
-  reads = λ limits. report_reads limits report;
+  reads = λ limits book acts.
+      let outcome = outcome_of_report book report in
+      (settled_adds limits (record book { orders = outcome.orders }) acts outcome.answer).unread;
   by = λ limits fields session. refl;
 }
 
@@ -56,7 +59,9 @@ reject_told reject = record {
   message = message.CancelReject reject;
   head = reject.head;
   settle = λ limits. reject_settled limits reject;
-  reads = λ limits. reject_reads limits reject;
+  reads = λ limits book acts.
+      let outcome = outcome_of_reject book reject in
+      (settled_adds limits (record book { orders = outcome.orders }) acts outcome.answer).unread;
   by = λ limits fields session. refl;
 }
 
