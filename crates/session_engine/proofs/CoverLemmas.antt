@@ -1,5 +1,6 @@
--- After each frame what is posted backs the orders of the book, and it is admitted.
-use Rattle.std.proofs.Common.{List, [], ◌∷◌}
+-- After each frame what is posted backs the orders of the book, and it is admitted; and the halt tree was
+-- tripped once where as many requests as the trip number were refused as Firm, and never else.
+use Rattle.std.proofs.Common.{List, [], ◌∷◌, ◌++◌, ◌∙◌}
 use Rattle.std.specs.Prelude.{Bool, true, false, Option, Some, None, Result, Ok, Err}
 use Rattle.fix_fields.specs.Fields.{FieldValue}
 use Rattle.fix_fields.specs.Frames.{FrameValue}
@@ -7,22 +8,29 @@ use Rattle.fix_orders.specs.declared.message.FieldFault.{FieldFault}
 use Rattle.fix_orders.specs.declared.message.Message.{Message}
 use Rattle.fix_orders.specs.declared.message.Message.TheVariants as message
 use Rattle.fix_orders.specs.Reading.{read_of}
+use Rattle.risk_journal.specs.declared.acts.Act.{Act}
 use Rattle.risk_journal.specs.declared.acts.Act.TheVariants.{Sent, Refused, Noted}
 use Rattle.risk_journal.specs.ActLists.{SeenAt}
 use Rattle.screen_kit.specs.Screens.{ScreenValue}
 use Rattle.order_desk.specs.declared.effect.Effect.{Effect}
 use Rattle.order_desk.specs.declared.effect.Effect.TheVariants as effect
 use Rattle.order_desk.specs.declared.refusal.Refusal.{Refusal}
+use Rattle.limit_table.specs.Trees.{halt_tree}
+use Rattle.admit_core.specs.Tapes.{IsNoCall}
+use Rattle.admit_core.proofs.Noted.{noted_keeps}
 use Rattle.order_desk.specs.Backing.{Covers}
+use Rattle.order_desk.specs.Halting.{KeepsHalt}
 use Rattle.order_desk.specs.Decisions.{Decision, new_screened, cancel_decided, replace_screened}
 use Rattle.order_desk.specs.Offers.{new_offer, replace_offer}
 use Rattle.order_desk.specs.Reported.{Settled, report_settled, reject_settled}
 use Rattle.order_desk.proofs.Covers.{first_covers, covers_noted}
 use Rattle.order_desk.proofs.DecidedCovers.{new_covers, cancel_covers, replace_covers}
+use Rattle.order_desk.proofs.HaltKept.{new_keeps, cancel_keeps, replace_keeps, report_keeps}
+use Rattle.order_desk.proofs.HaltKept.{reject_keeps}
 use Rattle.order_desk.proofs.ReportedCovers.{report_covers, reject_covers}
 use Rattle.session_engine.specs.declared.note.Note.{Note}
 use Rattle.session_engine.specs.declared.note.Note.TheVariants as note
-use Rattle.session_engine.specs.Admitted.{CoversOrders}
+use Rattle.session_engine.specs.Admitted.{CoversOrders, TripsOnce}
 use Rattle.session_engine.specs.Answers.{Wording, order_refusal, cancel_refusal, replace_refusal}
 use Rattle.session_engine.specs.Answers.{refused_act, fault_code, note_code}
 use Rattle.session_engine.specs.Session.{LimitsValue, SessionValue, opening, tape_of, after_answer}
@@ -31,115 +39,139 @@ use Rattle.session_engine.specs.Session.{after_effect, after_settling, after_fau
 use Rattle.session_engine.specs.Session.{after_message, after_result, after_content, after_frame}
 use Rattle.session_engine.specs.Session.{taken_up}
 use Rattle.session_engine.specs.Session.{after_frames, with_asked}
-use Rattle.session_engine.proofs.TripLemmas.{covers_refused}
+use Rattle.session_engine.proofs.TripLemmas.{covers_refused, no_trip, tripped_posts}
 
-covers_note : (limits : LimitsValue) (what : Note) (session : SessionValue)
-    → CoversOrders limits session → CoversOrders limits (after_noting what session)
-covers_note limits what session own =
-    covers_noted limits session.acts session.book
-    (Noted session.frames (note_code what) 0 0) tt own
+-- the orders of the book are covered, and the halt tree was tripped as often as it is to be
+record IsRight (limits : LimitsValue) (session : SessionValue) : Type 0 where
+  covers : CoversOrders limits session
+  trips : TripsOnce limits session
 
-covers_answered : (limits : LimitsValue) (wording : Wording) (fields : List FieldValue)
-    (answer : Option Refusal) (session : SessionValue) → CoversOrders limits session
-    → CoversOrders limits (after_answer wording fields answer session)
-covers_answered limits wording fields None session own =
-    covers_noted limits session.acts session.book (Sent session.frames) tt own
-covers_answered limits wording fields (Some why) session own =
-    covers_noted limits session.acts session.book
-    (refused_act session.frames why) tt own
+module _ (limits : LimitsValue) where
+  -- an act that is no call
+  told : (session : SessionValue) (act : Act) → IsNoCall act → IsRight limits session
+      → IsRight limits (record session { acts = session.acts ++ act ∷ [] })
+  told session act none own = record {
+    covers = covers_noted limits session.acts session.book act none own.covers;
+    trips = (noted_keeps (halt_tree limits) session.acts act none).posts ∙ own.trips;
+  }
 
-covers_decided : (limits : LimitsValue) (wording : Wording) (fields : List FieldValue)
-    (decision : Decision) (session : SessionValue)
-    → Covers limits decision.tape.acts decision.book
-    → CoversOrders limits (after_decision limits wording fields decision session)
-covers_decided limits wording fields decision session own =
-    covers_answered limits wording fields decision.refusal
-    (after_trip limits decision.refusal (decided decision session))
-    (covers_refused limits session.firms decision.tape.acts decision.refusal decision.book own)
+  answered : (wording : Wording) (fields : List FieldValue) (answer : Option Refusal)
+      (session : SessionValue) → IsRight limits session
+      → IsRight limits (after_answer wording fields answer session)
+  answered wording fields None session own =
+      let next = told session (Sent session.frames) tt own in
+      record { covers = next.covers; trips = next.trips }
+  answered wording fields (Some why) session own =
+      let next = told session (refused_act session.frames why) tt own in
+      record { covers = next.covers; trips = next.trips }
 
-covers_effect : (limits : LimitsValue) (what : Effect) (session : SessionValue)
-    → CoversOrders limits session → CoversOrders limits (after_effect what session)
-covers_effect limits effect.Applied session own = own
-covers_effect limits effect.NotLowered session own = covers_note limits note.NotLowered session own
-covers_effect limits effect.Stray session own = covers_note limits note.Stray session own
-covers_effect limits effect.Over session own = covers_note limits note.Over session own
+  right_decided : (wording : Wording) (fields : List FieldValue) (decision : Decision)
+      (session : SessionValue) → Covers limits decision.tape.acts decision.book
+      → KeepsHalt limits session.acts decision.tape.acts → IsRight limits session
+      → IsRight limits (after_decision limits wording fields decision session)
+  right_decided wording fields decision session covers keeps own =
+      answered wording fields decision.refusal
+      (after_trip limits decision.refusal (decided decision session)) (record {
+        covers = covers_refused limits session.firms decision.tape.acts decision.refusal
+            decision.book covers;
+        trips = tripped_posts limits session.firms decision.tape.acts decision.refusal
+            (keeps ∙ own.trips);
+      })
 
-covers_settled : (limits : LimitsValue) (fields : List FieldValue) (settled : Settled)
-    (session : SessionValue) → Covers limits settled.acts settled.book
-    → CoversOrders limits (after_settling fields settled session)
-covers_settled limits fields settled session own =
-    covers_effect limits settled.effect
-    (record session { acts = settled.acts; book = settled.book }) own
+  noted : (what : Note) (session : SessionValue) → IsRight limits session
+      → IsRight limits (after_noting what session)
+  noted what session own = told session (Noted session.frames (note_code what) 0 0) tt own
 
-covers_fault : (limits : LimitsValue) (request : Bool) (fields : List FieldValue)
-    (fault : FieldFault) (session : SessionValue) → CoversOrders limits session
-    → CoversOrders limits (after_fault request fields fault session)
-covers_fault limits true fields fault session own =
-    covers_noted limits session.acts session.book
-    (Refused session.frames fault_code fault.tag fault.reason) tt own
-covers_fault limits false fields fault session own =
-    covers_noted limits session.acts session.book
-    (Noted session.frames (note_code note.FaultyField) fault.tag fault.reason) tt own
+  right_effect : (what : Effect) (session : SessionValue) → IsRight limits session
+      → IsRight limits (after_effect what session)
+  right_effect effect.Applied session own = own
+  right_effect effect.NotLowered session own = noted note.NotLowered session own
+  right_effect effect.Stray session own = noted note.Stray session own
+  right_effect effect.Over session own = noted note.Over session own
 
-covers_message : (limits : LimitsValue) (fields : List FieldValue) (whole : Message)
-    (session : SessionValue) → CoversOrders limits session
-    → CoversOrders limits (after_message limits fields whole session)
-covers_message limits fields (message.New order) session own =
-    covers_decided limits order_refusal fields
-    (new_screened limits order session.screens session.book (tape_of session))
-    (with_asked (new_offer limits order session.book) session)
-    (new_covers limits order session.screens session.book (tape_of session) own)
-covers_message limits fields (message.Cancel request) session own =
-    covers_decided limits cancel_refusal fields
-    (cancel_decided request session.book (tape_of session)) session
-    (cancel_covers limits request session.book (tape_of session) own)
-covers_message limits fields (message.Replace request) session own =
-    covers_decided limits replace_refusal fields
-    (replace_screened limits request session.screens session.book (tape_of session))
-    (with_asked (replace_offer limits request session.book) session)
-    (replace_covers limits request session.screens session.book (tape_of session) own)
-covers_message limits fields (message.Report report) session own =
-    covers_settled limits fields (report_settled limits report session.book session.acts) session
-    (report_covers limits session.acts session.book own report)
-covers_message limits fields (message.CancelReject report) session own =
-    covers_settled limits fields (reject_settled limits report session.book session.acts) session
-    (reject_covers limits session.acts session.book own report)
-covers_message limits fields message.Admin session own = own
-covers_message limits fields message.Other session own =
-    covers_note limits note.OtherType session own
+  right_settled : (fields : List FieldValue) (settled : Settled) (session : SessionValue)
+      → Covers limits settled.acts settled.book → KeepsHalt limits session.acts settled.acts
+      → IsRight limits session → IsRight limits (after_settling fields settled session)
+  right_settled fields settled session covers keeps own =
+      let next = right_effect settled.effect
+      (record session { acts = settled.acts; book = settled.book })
+      (record { covers = covers; trips = keeps ∙ own.trips }) in
+      record { covers = next.covers; trips = next.trips }
 
-covers_result : (limits : LimitsValue) (request : Bool) (fields : List FieldValue)
-    (read : Result Message FieldFault) (session : SessionValue) → CoversOrders limits session
-    → CoversOrders limits (after_result limits request fields read session)
-covers_result limits request fields (Ok whole) session own =
-    covers_message limits fields whole session own
-covers_result limits request fields (Err fault) session own =
-    covers_fault limits request fields fault session own
+  right_fault : (request : Bool) (fields : List FieldValue) (fault : FieldFault)
+      (session : SessionValue) → IsRight limits session
+      → IsRight limits (after_fault request fields fault session)
+  right_fault true fields fault session own =
+      let next = told session (Refused session.frames fault_code fault.tag fault.reason) tt own in
+      record { covers = next.covers; trips = next.trips }
+  right_fault false fields fault session own =
+      let act = Noted session.frames (note_code note.FaultyField) fault.tag fault.reason in
+      let next = told session act tt own in
+      record { covers = next.covers; trips = next.trips }
 
-covers_content : (limits : LimitsValue) (fields : Option (List FieldValue))
-    (session : SessionValue) → CoversOrders limits session
-    → CoversOrders limits (after_content limits fields session)
-covers_content limits None session own = covers_note limits note.NotSound session own
-covers_content limits (Some fields) session own =
-    covers_result limits (asks fields) fields (read_of fields)
-    (named (asks fields) fields (taken_up limits fields session)) own
+  right_message : (fields : List FieldValue) (whole : Message) (session : SessionValue)
+      → IsRight limits session → IsRight limits (after_message limits fields whole session)
+  right_message fields (message.New order) session own =
+      right_decided order_refusal fields
+      (new_screened limits order session.screens session.book (tape_of session))
+      (with_asked (new_offer limits order session.book) session)
+      (new_covers limits order session.screens session.book (tape_of session) own.covers)
+      (new_keeps limits order session.screens session.book (tape_of session))
+      (record { covers = own.covers; trips = own.trips })
+  right_message fields (message.Cancel request) session own =
+      right_decided cancel_refusal fields
+      (cancel_decided request session.book (tape_of session)) session
+      (cancel_covers limits request session.book (tape_of session) own.covers)
+      (cancel_keeps limits request session.book (tape_of session)) own
+  right_message fields (message.Replace request) session own =
+      right_decided replace_refusal fields
+      (replace_screened limits request session.screens session.book (tape_of session))
+      (with_asked (replace_offer limits request session.book) session)
+      (replace_covers limits request session.screens session.book (tape_of session) own.covers)
+      (replace_keeps limits request session.screens session.book (tape_of session) own.covers)
+      (record { covers = own.covers; trips = own.trips })
+  right_message fields (message.Report report) session own =
+      right_settled fields (report_settled limits report session.book session.acts) session
+      (report_covers limits session.acts session.book own.covers report)
+      (report_keeps limits session.acts session.book own.covers report) own
+  right_message fields (message.CancelReject report) session own =
+      right_settled fields (reject_settled limits report session.book session.acts) session
+      (reject_covers limits session.acts session.book own.covers report)
+      (reject_keeps limits session.acts session.book own.covers report) own
+  right_message fields message.Admin session own = own
+  right_message fields message.Other session own = noted note.OtherType session own
 
--- a frame keeps the orders of the book covered
-pub covers_frame : (limits : LimitsValue) (fields : Option (List FieldValue))
-    (session : SessionValue) → CoversOrders limits session
-    → CoversOrders limits (after_frame limits fields session)
-covers_frame limits fields session own = covers_content limits fields session own
+  right_result : (request : Bool) (fields : List FieldValue) (read : Result Message FieldFault)
+      (session : SessionValue) → IsRight limits session
+      → IsRight limits (after_result limits request fields read session)
+  right_result request fields (Ok whole) session own = right_message fields whole session own
+  right_result request fields (Err fault) session own = right_fault request fields fault session own
 
-covers_frames : (limits : LimitsValue) (frames : List FrameValue) (session : SessionValue)
-    → CoversOrders limits session → CoversOrders limits (after_frames limits session frames)
-covers_frames limits [] session own = own
-covers_frames limits (frame ∷ frames) session own =
-    covers_frames limits frames (after_frame limits frame.fields session)
-    (covers_frame limits frame.fields session own)
+  right_content : (fields : Option (List FieldValue)) (session : SessionValue)
+      → IsRight limits session → IsRight limits (after_content limits fields session)
+  right_content None session own = noted note.NotSound session own
+  right_content (Some fields) session own =
+      right_result (asks fields) fields (read_of fields)
+      (named (asks fields) fields (taken_up limits fields session))
+      (record { covers = own.covers; trips = own.trips })
 
--- After any frames what is posted backs the orders of the book, and it is admitted.
-pub covers_orders : (limits : LimitsValue) (screens : List ScreenValue) (reads : List SeenAt)
-    (frames : List FrameValue)
-    → CoversOrders limits (after_frames limits (opening limits screens reads) frames)
-covers_orders limits screens reads frames =
-    covers_frames limits frames (opening limits screens reads) (first_covers limits)
+  right_frames : (frames : List FrameValue) (session : SessionValue) → IsRight limits session
+      → IsRight limits (after_frames limits session frames)
+  right_frames [] session own = own
+  right_frames (frame ∷ frames) session own =
+      let next = right_content frame.fields session own in
+      right_frames frames (after_frame limits frame.fields session)
+      (record { covers = next.covers; trips = next.trips })
+
+  module _ (screens : List ScreenValue) (reads : List SeenAt) (frames : List FrameValue) where
+    right : IsRight limits (after_frames limits (opening limits screens reads) frames)
+    right =
+        right_frames frames (opening limits screens reads)
+        (record { covers = first_covers limits; trips = no_trip limits.trip })
+
+    pub covers_orders :
+        CoversOrders limits (after_frames limits (opening limits screens reads) frames)
+    covers_orders = right.covers
+
+    pub trips_once : TripsOnce limits (after_frames limits (opening limits screens reads) frames)
+    trips_once = right.trips
