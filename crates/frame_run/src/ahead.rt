@@ -35,7 +35,8 @@ fn fetch_front<S: Source>(source: &mut S, room: &mut [u8], most: usize) -> Resul
     source.fetch(&mut room[..count])
 }
 
-/// Fetches once into the buffer, at most so many bytes, and says how many.
+/// Fetches once into the buffer, at most so many bytes, and says how many. Its head is long because each
+/// answer has its clauses: some bytes, the end of the source, and a failure.
 fn fetch_into<S: Source>(
     source: &mut S,
     buffer: &mut FrameBuffer,

@@ -44,7 +44,8 @@ pub trait TakesFrames {
         → Took input start frames now → Stopped PortFault.Memory input start frames now };
 }
 
-/// Takes the frames of a source up to what is no frame, and says how the run ends.
+/// Takes the frames of a source up to what is no frame, and says how the run ends. Its head is long
+/// because it says all of a run that `take_input` does.
 fn take_frames<T: TakesFrames, S: Source>(
     taker: &mut T,
     source: &mut S,

@@ -1,6 +1,6 @@
 -- A session that stopped early did what the session function says of its first frames.
-use Rattle.std.proofs.Common.{◌≡◌, ℕ, ◌+◌, ◌≤◌, List, [], ◌∷◌, ◌++◌, length, map, take, drop, refl, sym}
-use Rattle.std.proofs.Common.{ap, ◌∙◌, subst, arith, inl, inr}
+use Rattle.std.proofs.Common.{◌≡◌, ℕ, ◌+◌, ◌*◌, ◌^◌, ◌≤◌, ◌<◌, List, [], ◌∷◌, ◌++◌, length, map, take, drop}
+use Rattle.std.proofs.Common.{refl, sym, ap, ◌∙◌, subst, arith, inl, inr}
 use Rattle.std.specs.Prelude.{Option, Some, None, ◌⊎◌}
 use Rattle.std.specs.List.{concat}
 use Rattle.std.specs.Io.KnownBytes.{Appends}
@@ -22,11 +22,13 @@ use Rattle.frame_run.specs.Sinks.{SinkValue}
 use Rattle.frame_run.specs.Taking.{SplitsTo, StopsBy, TakesSource}
 use Rattle.frame_run.proofs.Fetches.{consumes_none}
 use Rattle.session_engine.specs.Follows.{Follows, IsByInput, IsBetween, StopsBehind, StopsSource}
-use Rattle.session_engine.specs.Follows.{HasGiven}
+use Rattle.session_engine.specs.Follows.{HasGiven, EndsAs}
 use Rattle.session_engine.specs.Follows.{FailsLast, DoesNothing, input_most, session_of, session_with}
-use Rattle.session_engine.specs.Later.{rose_later}
+use Rattle.session_engine.specs.Done.{Ran}
+use Rattle.session_engine.specs.Later.{rose_later, same_sink}
 use Rattle.session_engine.specs.Reaches.{with_reads}
-use Rattle.session_engine.specs.Running.{Running, kept_of, GivesNext, TookFrames, StoppedFrames}
+use Rattle.session_engine.specs.Running.{Running, Continues, kept_of, frame_acts, GivesNext}
+use Rattle.session_engine.specs.Running.{TookFrames, StoppedFrames}
 use Rattle.session_engine.specs.Session.{SessionValue, after_frame}
 use Rattle.session_engine.specs.Taken.{GivesFront, TakesFrom, Takes, with_message, text_in}
 use Rattle.session_engine.proofs.CoverLemmas.{covers_orders}
@@ -353,19 +355,8 @@ module _ {H M K : Type 0} (meaning : K → ScreenValue) where
               stops.fetches.few stops.fetches.split stopped);
         })
 
-    -- however it ended
-    pub follows_by : (end : End)
-        → (IsByInput end → TakesSource (λ input. TookFrames meaning) start now left end)
-        → StopsBy (λ input. TookFrames meaning) (λ why input. StoppedFrames meaning why) start now left left_after end
-        → Follows start.desk.limits (map meaning start.desk.screens) left left_after
-        (now.desk.hands.acts ++ Ended end ∷ []) end start.venue now.venue start.client now.client
-    follows_by end takes stops = record {
-      input = λ by_input. follows_source meaning start now left end (takes by_input);
-      early = follows_stopped end stops;
-    }
-
     -- where it ended by a failed write, a sink failed
-    pub sink_failed : (end : End)
+    sink_failed : (end : End)
         → StopsBy (λ input. TookFrames meaning) (λ why input. StoppedFrames meaning why) start now left left_after end
         → end ≡ ending.WriteFault → Rose start.venue.faults now.venue.faults
         ⊎ Rose start.client.faults now.client.faults
@@ -381,6 +372,33 @@ module _ {H M K : Type 0} (meaning : K → ScreenValue) where
         which (inl (first, second)) = inl first
         which (inr (first, second)) = inr first
 
+    -- however it ended: the same sinks, after few frames
+    pub ran_by : (SameSum : H → H → Type 0) (SameHalt : M → M → Type 0) (end : End)
+        → start.desk.hands.acts ≡ []
+        → ((count : ℕ) × (count ≤ input_most)
+        × Continues SameSum SameHalt start now (frame_acts * count))
+        → (IsByInput end → TakesSource (λ input. TookFrames meaning) start now left end)
+        → StopsBy (λ input. TookFrames meaning) (λ why input. StoppedFrames meaning why) start now left left_after end
+        → Ran start.desk.limits (map meaning start.desk.screens) left left_after
+        (now.desk.hands.acts ++ Ended end ∷ []) end start.venue now.venue start.client now.client
+    ran_by SameSum SameHalt end none (count, few, continues) takes stops = record {
+      follows = record {
+        input = λ by_input. follows_source meaning start now left end (takes by_input);
+        early = follows_stopped end stops;
+      };
+      ends = inl (now.desk.hands.acts, refl);
+      few = omega (
+        arith,
+        few,
+        continues.desk_is.hands_are.few,
+        ap length none,
+        length-append now.desk.hands.acts (Ended end ∷ []),
+      );
+      venue_is = continues.venue_is;
+      client_is = continues.client_is;
+      write_fault = sink_failed end stops;
+    }
+
 -- what is told of a session that had no room to begin with
 pub told_first : (acts : List Act) (NoRoom : Type 0)
     → (acts ≡ Ended ending.Memory ∷ []) ⊎ ((acts ≡ []) × NoRoom)
@@ -389,7 +407,7 @@ told_first acts NoRoom (inl ended) = inl ended
 told_first acts NoRoom (inr (none, _)) = inr none
 
 -- a session that took no frame, for want of memory
-pub follows_first : (limits : LimitsValue) (screens : List ScreenValue) (left : Option (List ℕ))
+follows_first : (limits : LimitsValue) (screens : List ScreenValue) (left : Option (List ℕ))
     (acts : List Act) (venue client : SinkValue)
     → (acts ≡ Ended ending.Memory ∷ []) ⊎ (acts ≡ [])
     → Follows limits screens left left acts ending.Memory venue venue client client
@@ -423,3 +441,24 @@ follows_first limits screens left acts venue client is = record {
       };
       covered = λ count. covers_orders limits screens (reads_of acts) (take count []);
     })
+
+pub ran_first : (limits : LimitsValue) (screens : List ScreenValue) (left : Option (List ℕ))
+    (acts : List Act) (venue client : SinkValue)
+    → (acts ≡ Ended ending.Memory ∷ []) ⊎ (acts ≡ [])
+    → Ran limits screens left left acts ending.Memory venue venue client client
+ran_first limits screens left acts venue client is = record {
+  follows = follows_first limits screens left acts venue client is;
+  ends = ends is;
+  few = few is;
+  venue_is = same_sink venue;
+  client_is = same_sink client;
+  write_fault = λ is. absurd cc;
+}
+  where
+    ends : (acts ≡ Ended ending.Memory ∷ []) ⊎ (acts ≡ []) → EndsAs acts ending.Memory
+    ends (inl ended) = inl ([], ended)
+    ends (inr none) = inr (none, refl)
+
+    few : (acts ≡ Ended ending.Memory ∷ []) ⊎ (acts ≡ []) → length acts < 2 ^ 32
+    few (inl ended) = omega (arith, ap length ended)
+    few (inr none) = omega (arith, ap length none)

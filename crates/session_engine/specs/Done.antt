@@ -1,16 +1,26 @@
 -- How a session begins, and how it leaves its hands and its ports.
-use Rattle.std.specs.Prelude.{◌≡◌, ◌⊎◌, ℕ, ◌^◌, ◌≤◌, ◌<◌, List, length, Option, Bool, true}
-use Rattle.limit_table.specs.Trees.{LimitsValue}
+use Rattle.std.specs.Prelude.{◌≡◌, ◌⊎◌, ℕ, ◌^◌, ◌≤◌, ◌<◌, List, [], length, Option, Bool, true}
+use Rattle.limit_table.specs.Trees.{LimitsValue, halt_tree}
 use Rattle.gate_ports.specs.Faults.{Rose}
 use Rattle.exposure_book.specs.Books.{BookValue}
 use Rattle.risk_board.specs.Hands.{HandValue}
-use Rattle.risk_board.specs.declared.hand.Call.{Call}
 use Rattle.risk_journal.specs.declared.acts.Act.{Act}
 use Rattle.risk_journal.specs.declared.acts.End.{End}
 use Rattle.risk_journal.specs.declared.acts.End.TheVariants as ending
-use Rattle.admit_core.specs.Hands.{HandsValue, IsFresh}
+use Rattle.risk_journal.specs.ActLists.{calls_below, calls_at}
+use Rattle.screen_kit.specs.Screens.{ScreenValue}
+use Rattle.admit_core.specs.Hands.{HandsValue, IsFresh, IsSumHand, IsHaltHand}
+use Rattle.frame_run.specs.Sinks.{SinkValue, IsLaterSink}
 use Rattle.order_desk.specs.Values.{first_book}
-use Rattle.session_engine.specs.Follows.{EndsWith, FetchesInput}
+use Rattle.session_engine.specs.Follows.{EndsAs, FetchesInput, Follows}
+
+-- a hand on the trees of sums that has made no call
+abbrev pub IsIdleSumHand : LimitsValue → HandValue → Type 0
+IsIdleSumHand limits hand = IsSumHand limits hand × (hand.calls ≡ [])
+
+-- a hand on the halt tree that has made no call
+abbrev pub IsIdleHaltHand : HandValue → Type 0
+IsIdleHaltHand hand = IsHaltHand hand × (hand.calls ≡ [])
 
 -- no call was made yet, and the book has no order
 pub record IsBeginning {H M : Type 0} (limits : LimitsValue) (hands : HandsValue H M)
@@ -18,16 +28,28 @@ pub record IsBeginning {H M : Type 0} (limits : LimitsValue) (hands : HandsValue
   pub fresh : IsFresh limits hands.sum hands.halt hands
   pub book : own_book ≡ first_book limits
 
--- the last act says how the session ended, and they are few
-pub record EndsInFew (acts : List Act) (end : End) : Type 0 where
-  pub ends : EndsWith acts end
-  pub few : length acts < 2 ^ 32
+-- the same hands, which made the calls that the acts tell
+pub record AreHandsDone {H M : Type 0} (limits : LimitsValue) (SameSum : H → H → Type 0)
+    (sum_meaning : H → HandValue) (SameHalt : M → M → Type 0) (halt_meaning : M → HandValue)
+    (sum sum_after : H) (halt halt_after : M) (acts : List Act) : Type 0 where
+  pub sum_origin : SameSum sum sum_after
+  pub halt_origin : SameHalt halt halt_after
+  pub sum_calls : (sum_meaning sum_after).calls ≡ calls_below (halt_tree limits) acts
+  pub halt_calls : (halt_meaning halt_after).calls ≡ calls_at (halt_tree limits) acts
 
--- the same hand, which made these calls
-pub record IsHandDone {H : Type 0} (SameOrigin : H → H → Type 0) (meaning : H → HandValue)
-    (before now : H) (calls : List Call) : Type 0 where
-  pub origin : SameOrigin before now
-  pub calls_are : (meaning now).calls ≡ calls
+-- What a session did and wrote, and with which last act; its acts are few. Its sinks are the same, of
+-- which one failed where the end says so.
+pub record Ran (limits : LimitsValue) (screens : List ScreenValue)
+    (left left_after : Option (List ℕ)) (acts : List Act) (end : End)
+    (venue venue_after client client_after : SinkValue) : Type 0 where
+  pub follows : Follows limits screens left left_after acts end venue venue_after client
+      client_after
+  pub ends : EndsAs acts end
+  pub few : length acts < 2 ^ 32
+  pub venue_is : IsLaterSink venue venue_after
+  pub client_is : IsLaterSink client client_after
+  pub write_fault : end ≡ ending.WriteFault
+      → Rose venue.faults venue_after.faults ⊎ Rose client.faults client_after.faults
 
 -- The same source, of which few bytes were fetched. It failed where the end says so, and saw its end
 -- where the end is whole.
@@ -36,17 +58,5 @@ pub record IsSourceDone {S : Type 0} (left : S → Option (List ℕ)) (faults : 
   pub fetched : FetchesInput (left before) (left now) end
   pub later : faults before ≤ faults now
   pub name_is : name now ≡ name before
-  pub failed : end ≡ ending.ReadFault → Rose (faults before) (faults now)
+  pub read_fault : end ≡ ending.ReadFault → Rose (faults before) (faults now)
   pub whole : end ≡ ending.Whole → is_ended now ≡ true
-
--- the same sinks, of which one failed where the end says so
-pub record AreSinksDone {V C : Type 0} (venue_faults : V → ℕ) (venue_name : V → Option (List ℕ))
-    (client_faults : C → ℕ) (client_name : C → Option (List ℕ)) (venue venue_after : V)
-    (client client_after : C) (end : End) : Type 0 where
-  pub venue_later : venue_faults venue ≤ venue_faults venue_after
-  pub client_later : client_faults client ≤ client_faults client_after
-  pub venue_name_is : venue_name venue_after ≡ venue_name venue
-  pub client_name_is : client_name client_after ≡ client_name client
-  pub failed : end ≡ ending.WriteFault
-      → Rose (venue_faults venue) (venue_faults venue_after)
-      ⊎ Rose (client_faults client) (client_faults client_after)

@@ -1,16 +1,14 @@
 //! A session from its first frame to its end.
-ghost use Rattle.std.specs.Prelude.{◌≡◌, ◌^◌, ◌≤◌, ◌<◌, [], ◌∷◌, ◌++◌, ◌⊎◌, IsTrue};
-ghost use Rattle.std.specs.Prelude.{length, map, vec_capacity};
+ghost use Rattle.std.specs.Prelude.{◌≡◌, [], ◌∷◌, ◌++◌, map, vec_capacity};
 ghost use Rattle.frame_run.specs.Sinks.{sink_of};
-ghost use Rattle.gate_ports.specs.Faults.{Rose};
 ghost use Rattle.limit_table.specs.Trees.{halt_tree};
 ghost use Rattle.risk_journal.specs.ActLists.{calls_below, calls_at};
-ghost use Rattle.admit_core.specs.Hands.{IsSumHand, IsHaltHand, IsFresh};
+ghost use Rattle.admit_core.specs.Hands.{IsFresh};
 ghost use Rattle.order_desk.specs.Values.{first_book};
 ghost use Rattle.session_engine.specs.Counted.{no_counts};
-ghost use Rattle.session_engine.specs.Done.{IsBeginning, IsHandDone, IsSourceDone, AreSinksDone};
-ghost use Rattle.session_engine.specs.Done.{EndsInFew};
-ghost use Rattle.session_engine.specs.Follows.{Follows, FetchesInput, EndsAs};
+ghost use Rattle.session_engine.specs.Done.{IsIdleSumHand, IsIdleHaltHand, IsBeginning};
+ghost use Rattle.session_engine.specs.Done.{AreHandsDone, IsSourceDone, Ran};
+ghost use Rattle.session_engine.specs.Follows.{EndsWith};
 ghost use Rattle.session_engine.specs.Session.{armed_for, unnamed_client};
 
 use crate::counts::Counts;
@@ -49,6 +47,7 @@ pub struct SessionDone<H: Hand, M: Hand, S, V, C> {
 /// What a session begins with, beside its screens and its source.
 #[derive(Drop)]
 struct Start<'a, H: Hand, M: Hand, V: Sink, C: Sink> {
+    alloc: Global,
     limits: &'a Limits,
     hands: admit_core::Hands<H, M>,
     book: Book,
@@ -124,21 +123,19 @@ impl<'a, H: Hand, M: Hand, K: Screen, V: Sink, C: Sink> Session<'a, H, M, K, V, 
     }
 }
 
-/// Arms the screens, takes the frames of the source, and ends. Its head is long because its clauses are
-/// those of `run_session`, by what each speaks of.
+/// Arms the screens, takes the frames of the source, and ends. Its head is long because it says all that
+/// `run_session` does.
 fn run_start<'a, H: Hand, M: Hand, K: Screen, S: Source, V: Sink, C: Sink, G: Gate>(
-    alloc: Global,
     start: Start<'a, H, M, V, C>,
     mut screens: Vec<K>,
     mut source: S,
     gate: NumberedGate<'a, G>,
 ) -> SessionDone<H, M, S, V, C>
     requires { IsBeginning start.limits.now start.hands start.book.value }
-    ensures sum { IsHandDone H.SameOrigin H.meaning start.entry.hands.sum result.hands.sum
-        (calls_below (halt_tree start.entry.limits.now) result.acts.items) }
-    ensures halt { IsHandDone M.SameOrigin M.meaning start.entry.hands.halt result.hands.halt
-        (calls_at (halt_tree start.entry.limits.now) result.acts.items) }
-    ensures follows { Follows start.entry.limits.now
+    ensures hands { AreHandsDone start.entry.limits.now H.SameOrigin H.meaning M.SameOrigin M.meaning
+        start.entry.hands.sum result.hands.sum start.entry.hands.halt result.hands.halt
+        result.acts.items }
+    ensures follows { Ran start.entry.limits.now
         (armed_for start.entry.limits.now (map K.meaning screens.items)) (S.left source)
         (S.left result.source) result.acts.items result.end
         (sink_of V.held V.faults V.name start.entry.venue)
@@ -146,10 +143,9 @@ fn run_start<'a, H: Hand, M: Hand, K: Screen, S: Source, V: Sink, C: Sink, G: Ga
         (sink_of C.held C.faults C.name start.entry.client)
         (sink_of C.held C.faults C.name result.client) }
     ensures source { IsSourceDone S.left S.faults S.name S.is_ended source result.source result.end }
-    ensures sinks { AreSinksDone V.faults V.name C.faults C.name start.entry.venue result.venue
-        start.entry.client result.client result.end }
-    ensures acts { EndsInFew result.acts.items result.end }
+    ensures ends { EndsWith result.acts.items result.end }
 {
+    let alloc = start.alloc;
     let terms = Terms {
         repeat: start.limits.repeat(),
     };
@@ -196,8 +192,8 @@ fn without_frames<H: Hand, M: Hand, S: Source, V: Sink, C: Sink>(
 /// Runs a session, whose number counts from 0, up to its end, over at most so many bytes of its
 /// source. The screens are armed before the first frame, which ends it with `Memory` where it is
 /// refused, and dropped at the end. Before each order, a sound frame of type D or G, the gate is
-/// called with the session's number and the order's, from 0. Its parameters and clauses are many because
-/// they are all that a caller may rest on.
+/// called with the session's number and the order's, from 0. Its parameters are many because each is
+/// lent or given by another part of the caller, and its head is long because each stands on a line.
 pub fn run_session<H: Hand, M: Hand, S: Source, V: Sink, C: Sink, G: Gate>(
     alloc: Global,
     session: u32,
@@ -209,37 +205,17 @@ pub fn run_session<H: Hand, M: Hand, S: Source, V: Sink, C: Sink, G: Gate>(
     client: C,
     gate: &G,
 ) -> SessionDone<H, M, S, V, C>
-    requires sum { IsSumHand limits.now (H.meaning hands.sum) }
-    requires halt { IsHaltHand (M.meaning hands.halt) }
-    requires sum_idle { (H.meaning hands.sum).calls ≡ [] }
-    requires halt_idle { (M.meaning hands.halt).calls ≡ [] }
-    ensures sum_origin { H.SameOrigin hands.sum result.hands.sum }
-    ensures halt_origin { M.SameOrigin hands.halt result.hands.halt }
-    ensures sum_calls { (H.meaning result.hands.sum).calls
-        ≡ calls_below (halt_tree limits.now) result.acts.items }
-    ensures halt_calls { (M.meaning result.hands.halt).calls
-        ≡ calls_at (halt_tree limits.now) result.acts.items }
-    ensures follows { Follows limits.now
+    requires sum { IsIdleSumHand limits.now (H.meaning hands.sum) }
+    requires halt { IsIdleHaltHand (M.meaning hands.halt) }
+    ensures hands { AreHandsDone limits.now H.SameOrigin H.meaning M.SameOrigin M.meaning
+        hands.sum result.hands.sum hands.halt result.hands.halt result.acts.items }
+    ensures follows { Ran limits.now
         (armed_for limits.now (map (λ b. (Screen-box b).meaning b.value) screens.items))
         (S.left source) (S.left result.source) result.acts.items result.end
         (sink_of V.held V.faults V.name venue) (sink_of V.held V.faults V.name result.venue)
         (sink_of C.held C.faults C.name client) (sink_of C.held C.faults C.name result.client) }
-    ensures fetched { FetchesInput (S.left source) (S.left result.source) result.end }
-    ensures read_fault { result.end ≡ End.ReadFault
-        → Rose (S.faults source) (S.faults result.source) }
-    ensures write_fault { result.end ≡ End.WriteFault
-        → Rose (V.faults venue) (V.faults result.venue)
-        ⊎ Rose (C.faults client) (C.faults result.client) }
-    ensures source_later { S.faults source ≤ S.faults result.source }
-    ensures venue_later { V.faults venue ≤ V.faults result.venue }
-    ensures client_later { C.faults client ≤ C.faults result.client }
-    ensures source_name { S.name result.source ≡ S.name source }
-    ensures venue_name { V.name result.venue ≡ V.name venue }
-    ensures client_name { C.name result.client ≡ C.name client }
-    ensures whole { result.end ≡ End.Whole → IsTrue (S.is_ended result.source) }
-    ensures ends { EndsAs result.acts.items result.end }
+    ensures source { IsSourceDone S.left S.faults S.name S.is_ended source result.source result.end }
     ensures no_room { result.acts.items ≡ [] → vec_capacity result.acts ≡ 0 }
-    ensures few { length result.acts.items < 2 ^ 32 }
 {
     let own = match admit_core::Hands::open(alloc, limits, hands.sum, hands.halt) {
         Ok(own) => own,
@@ -250,6 +226,7 @@ pub fn run_session<H: Hand, M: Hand, S: Source, V: Sink, C: Sink, G: Gate>(
         Err(_) => return without_frames(own.end(End::Memory), source, venue, client),
     };
     let start = Start {
+        alloc,
         limits,
         hands: own,
         book,
@@ -260,5 +237,5 @@ pub fn run_session<H: Hand, M: Hand, S: Source, V: Sink, C: Sink, G: Gate>(
         number: session,
         gate,
     };
-    run_start(alloc, start, screens, source, numbered)
+    run_start(start, screens, source, numbered)
 }

@@ -9,26 +9,21 @@ use Rattle.risk_journal.specs.ActLists.{calls_below, calls_at}
 use Rattle.screen_kit.specs.Screens.{armed}
 use Rattle.session_engine.specs.Running.{Running}
 use Rattle.session_engine.proofs.RunLemmas.{took_none}
-use Rattle.session_engine.proofs.Stopping.{follows_by, follows_first}
+use Rattle.session_engine.proofs.Stopping.{ran_by, ran_first}
 use Rattle.session_engine.proofs.run.run_start.Goals as goal
 
 -- where the screens were not armed, nothing was done
-pub returns-then-is_err-clause-sum : goal.returns-then-is_err-clause-sum
-returns-then-is_err-clause-sum g c =
-    let own = c.close.ensures.sum ∙ ap (λ (r : Running _ _ _). r.desk.hands.sum) c.open.ensures in
+pub returns-then-is_err-clause-hands : goal.returns-then-is_err-clause-hands
+returns-then-is_err-clause-hands g c =
+    let sum = c.close.ensures.sum ∙ ap (λ (r : Running _ _ _). r.desk.hands.sum) c.open.ensures in
+    let halt = c.close.ensures.halt ∙ ap (λ (r : Running _ _ _). r.desk.hands.halt) c.open.ensures in
     record {
-      origin = rw own (g.met.H.Hand.origin_same c.args.start.hands.sum);
-      calls_are = c.close.ensures.sum_calls
+      sum_origin = rw sum (g.met.H.Hand.origin_same c.args.start.hands.sum);
+      halt_origin = rw halt (g.met.M.Hand.origin_same c.args.start.hands.halt);
+      sum_calls = c.close.ensures.sum_calls
           ∙ ap (λ (r : Running _ _ _). calls_below (halt_tree r.desk.limits) c.close.result.acts.items)
           c.open.ensures;
-    }
-
-pub returns-then-is_err-clause-halt : goal.returns-then-is_err-clause-halt
-returns-then-is_err-clause-halt g c =
-    let own = c.close.ensures.halt ∙ ap (λ (r : Running _ _ _). r.desk.hands.halt) c.open.ensures in
-    record {
-      origin = rw own (g.met.M.Hand.origin_same c.args.start.hands.halt);
-      calls_are = c.close.ensures.halt_calls
+      halt_calls = c.close.ensures.halt_calls
           ∙ ap (λ (r : Running _ _ _). calls_at (halt_tree r.desk.limits) c.close.result.acts.items)
           c.open.ensures;
     }
@@ -39,7 +34,7 @@ returns-then-is_err-clause-source g c =
       fetched = fetches_none (g.S.Source.left c.args.source);
       later = omega arith;
       name_is = refl;
-      failed = λ is. absurd cc;
+      read_fault = λ is. absurd cc;
       whole = λ is. absurd cc;
     })
 
@@ -66,9 +61,12 @@ returns-clause-follows g c =
     let ready = on_ok c.arm_all.result c.arm_all.ensures.ok
     (sym c.is_err.ensures.value ∙ c.if-is_err.false)
     ∙ ap (λ n. map (armed (record { repeat = n })) screens) c.repeat.ensures in
-    let from_open = follows_by g.K.Screen.meaning c.open-2.result now
+    let from_open = ran_by g.K.Screen.meaning c.open-2.result now
     (g.S.Source.left c.args.source) (g.S.Source.left c.take_input-end.new.source)
-    c.take_input-end.result c.take_input-end.ensures.follows c.take_input-end.ensures.stopped in
+    g.H.Hand.SameOrigin g.M.Hand.SameOrigin c.take_input-end.result
+    (ap (λ (r : Running _ _ _). r.desk.hands.acts) c.open-2.ensures ∙ c.requires.fresh.acts_are)
+    c.take_input-end.ensures.after c.take_input-end.ensures.follows
+    c.take_input-end.ensures.stopped in
     let from_start = rw c.open-2.ensures at from_open in
     let from_armed = rw ready at from_start in
     rw (
@@ -90,4 +88,4 @@ returns-then-is_err-clause-follows g c =
     let venue = c.close.ensures.venue ∙ ap (λ (r : Running _ _ _). r.venue) c.open.ensures in
     let client = c.close.ensures.client ∙ ap (λ (r : Running _ _ _). r.client) c.open.ensures in
     rw (c.close.ensures.end, c.close.ensures.source, venue, client)
-    (follows_first _ _ (g.S.Source.left c.args.source) c.close.result.acts.items _ _ (inl acts))
+    (ran_first _ _ (g.S.Source.left c.args.source) c.close.result.acts.items _ _ (inl acts))
