@@ -1,6 +1,7 @@
 -- A session that decided, told and gave has taken its frame.
-use Rattle.std.proofs.Common.{◌≡◌, ℕ, ◌+◌, List, [], ◌∷◌, ◌++◌, map, refl, sym, ap, ◌∙◌, subst, codes, arith}
-use Rattle.std.specs.Prelude.{Option, Some, None}
+use Rattle.std.proofs.Common.{◌≡◌, ℕ, ◌+◌, List, [], ◌∷◌, ◌++◌, map, refl, sym, ap, ◌∙◌, subst, codes}
+use Rattle.std.proofs.Common.{arith, inl, inr}
+use Rattle.std.specs.Prelude.{Option, Some, None, true}
 use Rattle.std.specs.Io.KnownBytes.{Appends}
 use Rattle.exposure_book.specs.Books.{BookValue}
 use Rattle.gate_ports.specs.Faults.{HasCause, Rose}
@@ -16,15 +17,18 @@ use Rattle.order_desk.specs.Desks.{DeskValue, IsLater}
 use Rattle.order_desk.specs.Reported.{Settled}
 use Rattle.session_engine.specs.declared.counts.Counts.{Counts}
 use Rattle.session_engine.specs.Later.{continues_then, same_sink, later_sink}
-use Rattle.session_engine.specs.Running.{Running, Continues, kept_of, TellsAnswer, GivesNext, frame_acts}
+use Rattle.session_engine.specs.Running.{Running, Continues, kept_of, TellsAnswer, GivesNext, TakesFront, frame_acts}
+use Rattle.fix_orders.specs.declared.message.Message.{Message}
 use Rattle.fix_orders.specs.declared.message.Stamp.{Stamp}
+use Rattle.fix_orders.specs.Faults.{value_of}
+use Rattle.fix_orders.specs.Put.{IsPassedOn, is_passed}
 use Rattle.session_engine.specs.Answers.{Wording, forward_text}
 use Rattle.session_engine.specs.Taken.{Kept, TakesSound, ReadsAs, answer_act, answer_stamp, note_acts, note_by, counted_client}
-use Rattle.session_engine.specs.Taken.{counts_answered, counts_decided, GivesFront}
+use Rattle.session_engine.specs.Taken.{counts_answered, counts_decided, Forwards, Gives, GivesFront}
 use Rattle.session_engine.specs.Trips.{acts_tripped}
 use Rattle.session_engine.proofs.MessageFacts.{RequestFacts, ReportFacts}
 use Rattle.session_engine.proofs.ReportFrames.{Told, takes_report}
-use Rattle.session_engine.proofs.RequestFrames.{Asked, Answers, IsAnswered, takes_request}
+use Rattle.session_engine.proofs.RequestFrames.{Asked, IsAnswered, takes_request}
 
 -- the answer to a request has the request's time
 pub answer_time : (refusal : Option Refusal) (time client_id : List ℕ) (counts : Counts)
@@ -78,71 +82,6 @@ module _ {H M K : Type 0} (meaning : K → ScreenValue) where
             (subst (λ (r : Refusal). Appends told.client.held client
             (wording stamp.target stamp.seq fields r)) same gives)),
       )
-
-  -- a request was decided on, told, and answered
-  pub request_taken : (asked : Asked) (sound : FrameIn) (own before : Running H M K)
-      (decided : DeskValue H M K) (refusal : Option Refusal) (now told : Running H M K)
-      (venue client : Option (List ℕ)) → before ≡ own → told ≡ now
-      → ReadsAs sound asked.message
-      → ((fields : List FieldValue) → HasFieldsIn sound.bytes sound.frame fields
-      → RequestFacts fields asked.head)
-      → decided.limits ≡ before.desk.limits
-      → Decides (asked.decide before.desk.limits (map meaning before.desk.screens))
-      before.desk.hands.acts decided.hands.acts before.desk.book.value decided.book.value refusal
-      → map meaning decided.screens
-      ≡ asked.screens before.desk.limits (map meaning before.desk.screens) before.desk.book.value
-      → TellsAnswer refusal asked.head.sender (record before { desk = decided }) now
-      → ((fields : List FieldValue) → HasFieldsIn sound.bytes sound.frame fields
-      → IsAnswered asked.wording fields refusal (kept_of meaning told) (given told venue client))
-      → TakesSound own.desk.limits sound (kept_of meaning own) (given told venue client)
-  request_taken asked sound own before decided refusal now told venue client before_is told_is
-      reads facts limits decides screens tells answered =
-      let T : Running H M K → Type 0 = λ r. TakesSound r.desk.limits sound (kept_of meaning r)
-      (given told venue client) in
-      let tells_told = subst (TellsAnswer refusal asked.head.sender
-      (record before { desk = decided })) (sym told_is) tells in
-      subst T before_is (λ fields has session stands.
-      takes_request before.desk.limits fields asked session (facts fields has)
-      (reads.each fields has) (kept_of meaning before) (given told venue client) stands
-      decided.hands.acts refusal (parts fields has tells_told))
-    where
-      answered_from : (refusal : Option Refusal) (fields : List FieldValue)
-          → told.venue.held ≡ before.venue.held → told.client.held ≡ before.client.held
-          → IsAnswered asked.wording fields refusal (kept_of meaning told)
-          (given told venue client)
-          → IsAnswered asked.wording fields refusal (kept_of meaning before)
-          (given told venue client)
-      answered_from None fields venue_is client_is is = (
-        subst (λ v. Appends v venue (forward_text (codes "VENUE") told.counts.venue fields))
-            venue_is is.0,
-        is.1 ∙ client_is,
-      )
-      answered_from (Some why) fields venue_is client_is is = (
-        is.0 ∙ venue_is,
-        subst (λ v. Appends v client (asked.wording told.client_id told.counts.client fields why))
-            client_is is.1,
-      )
-
-      parts : (fields : List FieldValue) → HasFieldsIn sound.bytes sound.frame fields
-          → TellsAnswer refusal asked.head.sender (record before { desk = decided }) told
-          → Answers before.desk.limits fields asked refusal decided.hands.acts
-          (kept_of meaning before) (given told venue client)
-      parts fields has tells_told = record {
-        decides = subst (λ b. Decides
-            (asked.decide before.desk.limits (map meaning before.desk.screens))
-            before.desk.hands.acts decided.hands.acts before.desk.book.value b refusal)
-            (sym (ap (λ (r : Running H M K). r.desk.book.value) tells_told.others)) decides;
-        acts = tells_told.acts
-            ∙ ap (λ l. acts_tripped l refusal before.counts.firms decided.hands.acts
-            ++ answer_act before.counts.frames refusal ∷ []) limits;
-        screens = ap (λ (r : Running H M K). map meaning r.desk.screens) tells_told.others
-            ∙ screens;
-        counts = tells_told.counts;
-        client_id = tells_told.client_id;
-        answered = answered_from refusal fields
-            (ap (λ (r : Running H M K). r.venue.held) tells_told.others)
-            (ap (λ (r : Running H M K). r.client.held) tells_told.others) (answered fields has);
-      }
 
   -- a report was settled, told, and passed on
   pub report_taken : (report : Told) (sound : FrameIn) (own before : Running H M K)
@@ -212,50 +151,152 @@ number_refused : (refusal : Option Refusal) (why : Refusal) (counts : Counts) �
 number_refused None why counts is = absurd cc
 number_refused (Some other) why counts is = refl
 
-module _ {H M K : Type 0} (given failed : Type 0) (own before : Running H M K)
-    (decided : DeskValue H M K) where
-  -- the answer to a request went to the venue, or a front of it
-  pub gives_venue : (refusal : Option Refusal) (sender : List ℕ) (now told : Running H M K)
-      (after : SinkValue) (whole : Option (List ℕ)) → before ≡ own → told ≡ now → refusal ≡ None
-      → TellsAnswer refusal sender (record before { desk = decided }) now
-      → GivesFront given told.venue.held after.held whole
+-- a message that is passed on
+pub passes : (sound : FrameIn) (whole : Message) → ReadsAs sound whole → is_passed whole ≡ true
+    → IsPassedOn sound.bytes sound.frame
+passes sound whole own is = (
+  whole,
+  record {
+    listed = own.is_sound.0;
+    stands = own.is_sound.1;
+    read = own.each own.is_sound.0 own.is_sound.1;
+  },
+  is,
+)
+
+-- a request was decided on and told
+module _ {H M K : Type 0} (meaning : K → ScreenValue) (full failed : Type 0) (asked : Asked)
+    (sound : FrameIn) (own before : Running H M K) (decided : DeskValue H M K)
+    (refusal : Option Refusal) (now told : Running H M K) (before_is : before ≡ own)
+    (told_is : told ≡ now) (reads : ReadsAs sound asked.message)
+    (limits : decided.limits ≡ before.desk.limits)
+    (decides : Decides (asked.decide before.desk.limits (map meaning before.desk.screens))
+    before.desk.hands.acts decided.hands.acts before.desk.book.value decided.book.value refusal)
+    (screens : map meaning decided.screens
+    ≡ asked.screens before.desk.limits (map meaning before.desk.screens) before.desk.book.value)
+    (tells : TellsAnswer refusal asked.head.sender (record before { desk = decided }) now) where
+  facts : (fields : List FieldValue) → HasFieldsIn sound.bytes sound.frame fields
+      → RequestFacts fields asked.head
+  facts fields has = asked.facts fields (reads.each fields has)
+
+  answered_from : (venue client : Option (List ℕ)) (answer : Option Refusal)
+      (fields : List FieldValue) → told.venue.held ≡ before.venue.held
+      → told.client.held ≡ before.client.held
+      → IsAnswered asked.wording fields answer (kept_of meaning told)
+      (given meaning told venue client)
+      → IsAnswered asked.wording fields answer (kept_of meaning before)
+      (given meaning told venue client)
+  answered_from venue client None fields venue_is client_is is = (
+    subst (λ v. Appends v venue (forward_text (codes "VENUE") told.counts.venue fields))
+        venue_is is.0,
+    is.1 ∙ client_is,
+  )
+  answered_from venue client (Some why) fields venue_is client_is is = (
+    is.0 ∙ venue_is,
+    subst (λ v. Appends v client (asked.wording told.client_id told.counts.client fields why))
+        client_is is.1,
+  )
+
+  -- and answered
+  request_taken : (venue client : Option (List ℕ))
+      → ((fields : List FieldValue) → HasFieldsIn sound.bytes sound.frame fields
+      → IsAnswered asked.wording fields refusal (kept_of meaning told)
+      (given meaning told venue client))
+      → TakesSound before.desk.limits sound (kept_of meaning before)
+      (given meaning told venue client)
+  request_taken venue client answered fields has session stands =
+      let told_too = subst (TellsAnswer refusal asked.head.sender
+      (record before { desk = decided })) (sym told_is) tells in
+      takes_request before.desk.limits fields asked session (facts fields has)
+      (reads.each fields has) (kept_of meaning before) (given meaning told venue client) stands
+      decided.hands.acts refusal (record {
+        decides = subst (λ b. Decides
+            (asked.decide before.desk.limits (map meaning before.desk.screens))
+            before.desk.hands.acts decided.hands.acts before.desk.book.value b refusal)
+            (sym (ap (λ (r : Running H M K). r.desk.book.value) told_too.others)) decides;
+        acts = told_too.acts
+            ∙ ap (λ l. acts_tripped l refusal before.counts.firms decided.hands.acts
+            ++ answer_act before.counts.frames refusal ∷ []) limits;
+        screens = ap (λ (r : Running H M K). map meaning r.desk.screens) told_too.others ∙ screens;
+        counts = told_too.counts;
+        client_id = told_too.client_id;
+        answered = answered_from venue client refusal fields
+            (ap (λ (r : Running H M K). r.venue.held) told_too.others)
+            (ap (λ (r : Running H M K). r.client.held) told_too.others) (answered fields has);
+      })
+
+  -- what holds from the session before holds from the session itself
+  taken_from : (after : Running H M K) → TakesFront meaning sound full failed before after
+      → TakesFront meaning sound full failed own after
+  taken_from after =
+      subst (λ (r : Running H M K). TakesFront meaning sound full failed r after) before_is
+
+  -- the answer went to the venue, or a front of it
+  pub sent_taken : (after : SinkValue) (stamp : Stamp) → refusal ≡ None
+      → stamp ≡ answer_stamp refusal asked.head.time now.client_id now.counts
+      → Gives full told.venue.held after.held (Forwards sound stamp told.venue.held)
       → HasCause told.venue.faults after.faults failed
-      → GivesNext given failed own.venue after own.counts.venue told.counts.venue whole
-  gives_venue refusal sender now told after whole before_is told_is is tells front cause =
-      let same : told.venue ≡ own.venue = ap (λ (r : Running H M K). r.venue) told_is
-      ∙ ap (λ (r : Running H M K). r.venue) tells.others
-      ∙ ap (λ (r : Running H M K). r.venue) before_is in
+      → TakesFront meaning sound full failed own (record told { venue = after })
+  sent_taken after stamp is stamp_is gives cause =
+      let same : told.venue ≡ before.venue = ap (λ (r : Running H M K). r.venue) told_is
+      ∙ ap (λ (r : Running H M K). r.venue) tells.others in
       let R : SinkValue → Type 0 = λ s. Rose s.faults after.faults in
-      record {
-        front = subst (λ (s : SinkValue). GivesFront given s.held after.held whole) same front;
-        rose = λ has. subst R same (cause.rose has);
-        next = λ has. ap (λ (r : Running H M K). r.counts.venue) told_is
-            ∙ ap (λ (c : Counts). c.venue) tells.counts ∙ number_sent refusal before.counts is
-            ∙ ap (λ (r : Running H M K). r.counts.venue + 1) before_is;
-      }
+      taken_from (record told { venue = after }) (record {
+        venue = gives.whole;
+        client = told.client.held;
+        taken = request_taken gives.whole told.client.held
+            (λ fields has. sent_answer meaning asked.wording fields refusal asked.head.time now told
+            gives.whole stamp told_is is stamp_is (gives.says fields has));
+        gives = inl (
+          record {
+            front = subst (λ (s : SinkValue). GivesFront full s.held after.held gives.whole) same
+                gives.front;
+            rose = λ has. subst R same (cause.rose has);
+            next = λ has. ap (λ (r : Running H M K). r.counts.venue) told_is
+                ∙ ap (λ (c : Counts). c.venue) tells.counts
+                ∙ number_sent refusal before.counts is;
+          },
+          refl,
+        );
+      })
 
   -- or to the client
-  pub gives_client : (refusal : Option Refusal) (why : Refusal) (sender : List ℕ)
-      (now told : Running H M K) (after : SinkValue) (whole : Option (List ℕ)) → before ≡ own
-      → told ≡ now → refusal ≡ Some why
-      → TellsAnswer refusal sender (record before { desk = decided }) now
-      → GivesFront given told.client.held after.held whole
+  pub refused_taken : (after : SinkValue) (whole : Option (List ℕ)) (stamp : Stamp)
+      (why : Refusal) → refusal ≡ Some why
+      → stamp ≡ answer_stamp refusal asked.head.time now.client_id now.counts
+      → GivesFront full told.client.held after.held whole
+      → ((fields : List FieldValue) → HasFieldsIn sound.bytes sound.frame fields
+      → stamp.time ≡ value_of 52 fields
+      → Appends told.client.held whole (asked.wording stamp.target stamp.seq fields why))
       → HasCause told.client.faults after.faults failed
-      → GivesNext given failed own.client after own.counts.client told.counts.client whole
-  gives_client refusal why sender now told after whole before_is told_is is tells front cause =
-      let same : told.client ≡ own.client = ap (λ (r : Running H M K). r.client) told_is
-      ∙ ap (λ (r : Running H M K). r.client) tells.others
-      ∙ ap (λ (r : Running H M K). r.client) before_is in
+      → TakesFront meaning sound full failed own (record told { client = after })
+  refused_taken after whole stamp why is stamp_is front says cause =
+      let same : told.client ≡ before.client = ap (λ (r : Running H M K). r.client) told_is
+      ∙ ap (λ (r : Running H M K). r.client) tells.others in
       let R : SinkValue → Type 0 = λ s. Rose s.faults after.faults in
-      record {
-        front = subst (λ (s : SinkValue). GivesFront given s.held after.held whole) same front;
-        rose = λ has. subst R same (cause.rose has);
-        next = λ has. ap (λ (r : Running H M K). r.counts.client) told_is
-            ∙ ap (λ (c : Counts). c.client) tells.counts
-            ∙ number_refused refusal why before.counts is
-            ∙ ap (λ (r : Running H M K). r.counts.client + 1) before_is;
-      }
+      let time = ap (λ (s : Stamp). s.time) stamp_is
+      ∙ answer_time refusal asked.head.time now.client_id now.counts in
+      taken_from (record told { client = after }) (record {
+        venue = told.venue.held;
+        client = whole;
+        taken = request_taken told.venue.held whole
+            (λ fields has. refused_answer meaning asked.wording fields refusal why asked.head.time
+            now told whole stamp told_is is stamp_is
+            (says fields has (time ∙ (facts fields has).time)));
+        gives = inr (
+          record {
+            front = subst (λ (s : SinkValue). GivesFront full s.held after.held whole) same front;
+            rose = λ has. subst R same (cause.rose has);
+            next = λ has. ap (λ (r : Running H M K). r.counts.client) told_is
+                ∙ ap (λ (c : Counts). c.client) tells.counts
+                ∙ number_refused refusal why before.counts is;
+          },
+          refl,
+        );
+      })
 
+module _ {H M K : Type 0} (given failed : Type 0) (own before : Running H M K)
+    (decided : DeskValue H M K) where
   -- a report went on to the client, or a front of it
   pub gives_report : (now told : Running H M K) (after : SinkValue) (whole : Option (List ℕ))
       → before ≡ own → told ≡ now

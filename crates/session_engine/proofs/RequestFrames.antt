@@ -33,7 +33,7 @@ use Rattle.session_engine.specs.Reaches.{with_reads}
 use Rattle.session_engine.specs.Taken.{Kept, StandsAs, Takes, CountsTrips}
 use Rattle.session_engine.specs.Taken.{answer_act, counts_answered, counts_decided}
 use Rattle.session_engine.specs.Trips.{acts_tripped}
-use Rattle.session_engine.proofs.MessageFacts.{RequestFacts}
+use Rattle.session_engine.proofs.MessageFacts.{RequestFacts, new_facts, cancel_facts, replace_facts}
 use Rattle.session_engine.proofs.QuietActs.{reads_tripped, answer_unread, reads_of-quiet}
 use Rattle.session_engine.proofs.TakenLemmas.{frame_by, counted, takes_next}
 use Rattle.session_engine.proofs.TakenLemmas.{appends_nothing}
@@ -46,6 +46,7 @@ pub record Asked : Type 0 where
   pub wording : Wording
   pub decide : LimitsValue → List ScreenValue → BookValue → Tape → Decision
   pub screens : LimitsValue → List ScreenValue → BookValue → List ScreenValue
+  pub facts : (fields : List FieldValue) → read_of fields ≡ Ok message → RequestFacts fields head
   pub by : (limits : LimitsValue) (fields : List FieldValue) (session : SessionValue)
       → after_message limits fields message session
       ≡ after_decision limits wording fields
@@ -59,6 +60,7 @@ order_asked order = record {
   wording = order_refusal;
   decide = λ limits. new_screened limits order;
   screens = λ limits screens book. screens_after screens (new_offer limits order book);
+  facts = λ fields. new_facts fields order;
   by = λ limits fields session. refl;
 }
 
@@ -69,6 +71,7 @@ cancel_asked cancel = record {
   wording = cancel_refusal;
   decide = λ limits screens. cancel_decided cancel;
   screens = λ limits screens book. screens;
+  facts = λ fields. cancel_facts fields cancel;
   by = λ limits fields session. refl;
 }
 
@@ -79,6 +82,7 @@ replace_asked replace = record {
   wording = replace_refusal;
   decide = λ limits. replace_screened limits replace;
   screens = λ limits screens book. screens_after screens (replace_offer limits replace book);
+  facts = λ fields. replace_facts fields replace;
   by = λ limits fields session. refl;
 }
 

@@ -1,16 +1,13 @@
 -- A request was decided on, told and answered.
-use Rattle.std.proofs.Common.{ℕ, List, map, refl, ap, ◌∙◌, subst, inl, inr}
-use Rattle.std.specs.Io.KnownBytes.{Appends}
+use Rattle.std.proofs.Common.{map, refl, ap, ◌∙◌}
 use Rattle.fix_orders.specs.declared.message.Message.TheVariants as message
 use Rattle.fix_orders.specs.declared.message.Stamp.{Stamp}
 use Rattle.order_desk.proofs.HaltKept.{new_keeps}
 use Rattle.fix_orders.specs.Writing.{order_reject_fields}
-use Rattle.session_engine.specs.Answers.{order_refusal}
-use Rattle.session_engine.proofs.Answered.{answer_time, sent_answer, refused_answer}
-use Rattle.session_engine.proofs.Answered.{gives_venue, gives_client}
-use Rattle.session_engine.proofs.Answered.{request_taken, continues_answered}
+use Rattle.session_engine.proofs.Answered.{answer_time, passes, sent_taken, refused_taken}
+use Rattle.session_engine.proofs.Answered.{continues_answered}
 use Rattle.session_engine.proofs.MessageFacts.{new_facts, new_id}
-use Rattle.session_engine.proofs.RefusalTexts.{order_refusal_is}
+use Rattle.session_engine.proofs.RefusalTexts.{order_refused}
 use Rattle.session_engine.proofs.RequestFrames.{order_asked, decided_trips}
 use Rattle.session_engine.proofs.session.Session.take_new.Goals as goal
 
@@ -26,15 +23,8 @@ tell_answer-stamp-requires-clause-trips g c =
 
 pub forward-requires-clause-passed : goal.forward-requires-clause-passed
 forward-requires-clause-passed g c =
-    let own = c.requires.read in (
-      message.New c.args.order.now,
-      record {
-        listed = own.is_sound.0;
-        stands = own.is_sound.1;
-        read = own.each own.is_sound.0 own.is_sound.1;
-      },
-      refl,
-    )
+    passes c.args.sound.now (message.New c.args.order.now) c.requires.read refl
+
 
 pub forward-requires-clause-time : goal.forward-requires-clause-time
 forward-requires-clause-time g c = λ fields has.
@@ -44,27 +34,14 @@ forward-requires-clause-time g c = λ fields has.
 
 -- sent, it went on to the venue
 pub returns-in-None-clause-taken : goal.returns-in-None-clause-taken
-returns-in-None-clause-taken g c = record {
-  venue = c.forward.ensures.given.whole;
-  client = g.C.Sink.held c.self-2.inside.client;
-  taken =
-      request_taken g.K.Screen.meaning (order_asked c.args.order.now) c.args.sound.now c.args.self.now _
-      c.decide_new-refusal.new.desk c.decide_new-refusal.result c.tell_answer-stamp.new.self _ _ _ c.self.view_is
-      c.self-2.view_is c.requires.read
-      (λ fields has. new_facts fields c.args.order.now (c.requires.read.each fields has))
-      c.decide_new-refusal.ensures.later.limits_are c.decide_new-refusal.ensures.decides c.decide_new-refusal.ensures.screens
-      c.tell_answer-stamp.ensures.told
-      (λ fields has. sent_answer g.K.Screen.meaning order_refusal fields c.decide_new-refusal.result
-      c.args.order.now.head.time c.tell_answer-stamp.new.self _ _ c.tell_answer-stamp.result
-      c.self-2.view_is c.in-None.is c.tell_answer-stamp.ensures.stamp
-      (c.forward.ensures.given.says fields has));
-  gives = inl (
-    gives_venue _ _ c.args.self.now _ c.decide_new-refusal.new.desk c.decide_new-refusal.result _
-        c.tell_answer-stamp.new.self _ _ _ c.self.view_is c.self-2.view_is c.in-None.is
-        c.tell_answer-stamp.ensures.told c.forward.ensures.given.front c.forward.ensures.cause,
-    refl,
-  );
-}
+returns-in-None-clause-taken g c =
+    sent_taken g.K.Screen.meaning _ _ (order_asked c.args.order.now) c.args.sound.now
+    c.args.self.now _ c.decide_new-refusal.new.desk c.decide_new-refusal.result c.tell_answer-stamp.new.self
+    _ c.self.view_is c.self-2.view_is c.requires.read
+    c.decide_new-refusal.ensures.later.limits_are c.decide_new-refusal.ensures.decides
+    c.decide_new-refusal.ensures.screens c.tell_answer-stamp.ensures.told _
+    c.tell_answer-stamp.result c.in-None.is c.tell_answer-stamp.ensures.stamp
+    c.forward.ensures.given c.forward.ensures.cause
 
 -- refused, the client was told so
 pub returns-in-Some-clause-continues : goal.returns-in-Some-clause-continues
@@ -75,43 +52,25 @@ returns-in-Some-clause-continues g c =
     (record { name_is = c.give_written.ensures.name; faults_are = c.give_written.ensures.cause.later })
 
 pub returns-in-Some-clause-taken : goal.returns-in-Some-clause-taken
-returns-in-Some-clause-taken g c = record {
-  venue = g.V.Sink.held c.self-2.inside.venue;
-  client = c.give_written.ensures.given.whole;
-  taken =
-      request_taken g.K.Screen.meaning (order_asked c.args.order.now) c.args.sound.now c.args.self.now _
-      c.decide_new-refusal.new.desk c.decide_new-refusal.result c.tell_answer-stamp.new.self _ _ _ c.self.view_is
-      c.self-2.view_is c.requires.read
-      (λ fields has. new_facts fields c.args.order.now (c.requires.read.each fields has))
-      c.decide_new-refusal.ensures.later.limits_are c.decide_new-refusal.ensures.decides c.decide_new-refusal.ensures.screens
-      c.tell_answer-stamp.ensures.told
-      (λ fields has.
-      let put = c.write_reject_order.ensures fields
-      (rw (c.bytes.ensures.bytes, c.frame.ensures.frame) has) in
-      let text = order_refusal_is fields c.tell_answer-stamp.result.target
-      c.tell_answer-stamp.result.seq c.args.order.now.id c.tell_answer-stamp.result.time
-      c.order_reason_of.result c.bytes-in-Some.result.now c.in-Some.why
-      (new_id fields c.args.order.now (c.requires.read.each fields has))
-      (ap (λ (s : Stamp). s.time) c.tell_answer-stamp.ensures.stamp
-      ∙ answer_time c.decide_new-refusal.result _ _ _
-      ∙ (new_facts fields c.args.order.now (c.requires.read.each fields has)).time)
-      c.order_reason_of.ensures (c.bytes-in-Some.ensures ∙ c.text_of-text.ensures.text) in
-      let P : List ℕ → Type 0 = λ m. Appends (g.C.Sink.held c.self-2.inside.client)
-      c.give_written.ensures.given.whole m in
-      refused_answer g.K.Screen.meaning order_refusal fields c.decide_new-refusal.result c.in-Some.why
-      c.args.order.now.head.time c.tell_answer-stamp.new.self _ _ c.tell_answer-stamp.result
-      c.self-2.view_is c.in-Some.is c.tell_answer-stamp.ensures.stamp
-      (subst P text (c.give_written.ensures.given.says (order_reject_fields fields
-      c.args.order.now.id c.tell_answer-stamp.result c.order_reason_of.result
-      c.bytes-in-Some.result.now) put)));
-  gives = inr (
-    gives_client _ _ c.args.self.now _ c.decide_new-refusal.new.desk c.decide_new-refusal.result c.in-Some.why _
-        c.tell_answer-stamp.new.self _ _ _ c.self.view_is c.self-2.view_is c.in-Some.is
-        c.tell_answer-stamp.ensures.told c.give_written.ensures.given.front
-        c.give_written.ensures.cause,
-    refl,
-  );
-}
+returns-in-Some-clause-taken g c =
+    refused_taken g.K.Screen.meaning _ _ (order_asked c.args.order.now) c.args.sound.now
+    c.args.self.now _ c.decide_new-refusal.new.desk c.decide_new-refusal.result c.tell_answer-stamp.new.self
+    _ c.self.view_is c.self-2.view_is c.requires.read
+    c.decide_new-refusal.ensures.later.limits_are c.decide_new-refusal.ensures.decides
+    c.decide_new-refusal.ensures.screens c.tell_answer-stamp.ensures.told _
+    c.give_written.ensures.given.whole c.tell_answer-stamp.result c.in-Some.why c.in-Some.is
+    c.tell_answer-stamp.ensures.stamp c.give_written.ensures.given.front
+    (λ fields has time_is.
+    let own = c.requires.read.each fields has in
+    order_refused _ _ fields c.tell_answer-stamp.result time_is _ c.order_reason_of.result
+    c.bytes-in-Some.result.now c.in-Some.why (new_id fields c.args.order.now own)
+    c.order_reason_of.ensures (c.bytes-in-Some.ensures ∙ c.text_of-text.ensures.text)
+    (c.give_written.ensures.given.says (order_reject_fields fields c.args.order.now.id
+    c.tell_answer-stamp.result c.order_reason_of.result c.bytes-in-Some.result.now)
+    (c.write_reject_order.ensures fields
+    (rw (c.bytes.ensures.bytes, c.frame.ensures.frame) has))))
+    c.give_written.ensures.cause
+
 
 pub write_reject_order-requires-clause-accepted : goal.write_reject_order-requires-clause-accepted
 write_reject_order-requires-clause-accepted g c =

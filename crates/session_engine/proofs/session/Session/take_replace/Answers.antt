@@ -1,17 +1,14 @@
 -- A request was decided on, told and answered.
-use Rattle.std.proofs.Common.{ℕ, List, map, refl, sym, ap, ◌∙◌, subst, inl, inr}
-use Rattle.std.specs.Io.KnownBytes.{Appends}
+use Rattle.std.proofs.Common.{map, refl, sym, ap, ◌∙◌, subst}
 use Rattle.fix_orders.specs.declared.message.Message.TheVariants as message
 use Rattle.fix_orders.specs.declared.message.Stamp.{Stamp}
 use Rattle.order_desk.specs.Backing.{Covers}
 use Rattle.order_desk.proofs.HaltKept.{replace_keeps}
 use Rattle.fix_orders.specs.Writing.{cancel_reject_fields}
-use Rattle.session_engine.specs.Answers.{replace_refusal}
-use Rattle.session_engine.proofs.Answered.{answer_time, sent_answer, refused_answer}
-use Rattle.session_engine.proofs.Answered.{gives_venue, gives_client}
-use Rattle.session_engine.proofs.Answered.{request_taken, continues_answered}
+use Rattle.session_engine.proofs.Answered.{answer_time, passes, sent_taken, refused_taken}
+use Rattle.session_engine.proofs.Answered.{continues_answered}
 use Rattle.session_engine.proofs.MessageFacts.{replace_facts, replace_ids}
-use Rattle.session_engine.proofs.RefusalTexts.{request_refusal_is}
+use Rattle.session_engine.proofs.RefusalTexts.{request_refused}
 use Rattle.session_engine.proofs.RequestFrames.{replace_asked, decided_trips}
 use Rattle.session_engine.proofs.session.Session.take_replace.Goals as goal
 
@@ -29,15 +26,8 @@ tell_answer-stamp-requires-clause-trips g c =
 
 pub forward-requires-clause-passed : goal.forward-requires-clause-passed
 forward-requires-clause-passed g c =
-    let own = c.requires.read in (
-      message.Replace c.args.replace.now,
-      record {
-        listed = own.is_sound.0;
-        stands = own.is_sound.1;
-        read = own.each own.is_sound.0 own.is_sound.1;
-      },
-      refl,
-    )
+    passes c.args.sound.now (message.Replace c.args.replace.now) c.requires.read refl
+
 
 pub forward-requires-clause-time : goal.forward-requires-clause-time
 forward-requires-clause-time g c = λ fields has.
@@ -47,27 +37,14 @@ forward-requires-clause-time g c = λ fields has.
 
 -- sent, it went on to the venue
 pub returns-in-None-clause-taken : goal.returns-in-None-clause-taken
-returns-in-None-clause-taken g c = record {
-  venue = c.forward.ensures.given.whole;
-  client = g.C.Sink.held c.self-2.inside.client;
-  taken =
-      request_taken g.K.Screen.meaning (replace_asked c.args.replace.now) c.args.sound.now c.args.self.now _
-      c.decide_replace-refusal.new.desk c.decide_replace-refusal.result c.tell_answer-stamp.new.self _ _ _ c.self.view_is
-      c.self-2.view_is c.requires.read
-      (λ fields has. replace_facts fields c.args.replace.now (c.requires.read.each fields has))
-      c.decide_replace-refusal.ensures.later.limits_are c.decide_replace-refusal.ensures.decides c.decide_replace-refusal.ensures.screens
-      c.tell_answer-stamp.ensures.told
-      (λ fields has. sent_answer g.K.Screen.meaning replace_refusal fields c.decide_replace-refusal.result
-      c.args.replace.now.head.time c.tell_answer-stamp.new.self _ _ c.tell_answer-stamp.result
-      c.self-2.view_is c.in-None.is c.tell_answer-stamp.ensures.stamp
-      (c.forward.ensures.given.says fields has));
-  gives = inl (
-    gives_venue _ _ c.args.self.now _ c.decide_replace-refusal.new.desk c.decide_replace-refusal.result _
-        c.tell_answer-stamp.new.self _ _ _ c.self.view_is c.self-2.view_is c.in-None.is
-        c.tell_answer-stamp.ensures.told c.forward.ensures.given.front c.forward.ensures.cause,
-    refl,
-  );
-}
+returns-in-None-clause-taken g c =
+    sent_taken g.K.Screen.meaning _ _ (replace_asked c.args.replace.now) c.args.sound.now
+    c.args.self.now _ c.decide_replace-refusal.new.desk c.decide_replace-refusal.result c.tell_answer-stamp.new.self
+    _ c.self.view_is c.self-2.view_is c.requires.read
+    c.decide_replace-refusal.ensures.later.limits_are c.decide_replace-refusal.ensures.decides
+    c.decide_replace-refusal.ensures.screens c.tell_answer-stamp.ensures.told _
+    c.tell_answer-stamp.result c.in-None.is c.tell_answer-stamp.ensures.stamp
+    c.forward.ensures.given c.forward.ensures.cause
 
 -- refused, the client was told so
 pub returns-in-Some-clause-continues : goal.returns-in-Some-clause-continues
@@ -78,40 +55,20 @@ returns-in-Some-clause-continues g c =
     (record { name_is = c.give_written.ensures.name; faults_are = c.give_written.ensures.cause.later })
 
 pub returns-in-Some-clause-taken : goal.returns-in-Some-clause-taken
-returns-in-Some-clause-taken g c = record {
-  venue = g.V.Sink.held c.self-2.inside.venue;
-  client = c.give_written.ensures.given.whole;
-  taken =
-      request_taken g.K.Screen.meaning (replace_asked c.args.replace.now) c.args.sound.now c.args.self.now _
-      c.decide_replace-refusal.new.desk c.decide_replace-refusal.result c.tell_answer-stamp.new.self _ _ _ c.self.view_is
-      c.self-2.view_is c.requires.read
-      (λ fields has. replace_facts fields c.args.replace.now (c.requires.read.each fields has))
-      c.decide_replace-refusal.ensures.later.limits_are c.decide_replace-refusal.ensures.decides c.decide_replace-refusal.ensures.screens
-      c.tell_answer-stamp.ensures.told
-      (λ fields has.
-      let put = c.write_reject_cancel.ensures in
-      let ids = replace_ids fields c.args.replace.now (c.requires.read.each fields has) in
-      let text = request_refusal_is fields c.tell_answer-stamp.result.target
-      c.tell_answer-stamp.result.seq 2 c.args.replace.now.id c.args.replace.now.orig
-      c.tell_answer-stamp.result.time c.request_reason_of.result c.bytes.result.now c.in-Some.why
-      ids.id_is ids.orig_is
-      (ap (λ (s : Stamp). s.time) c.tell_answer-stamp.ensures.stamp
-      ∙ answer_time c.decide_replace-refusal.result _ _ _
-      ∙ (replace_facts fields c.args.replace.now (c.requires.read.each fields has)).time)
-      c.request_reason_of.ensures (c.bytes.ensures ∙ c.text_of-text.ensures.text) in
-      let P : List ℕ → Type 0 = λ m. Appends (g.C.Sink.held c.self-2.inside.client)
-      c.give_written.ensures.given.whole m in
-      refused_answer g.K.Screen.meaning replace_refusal fields c.decide_replace-refusal.result c.in-Some.why
-      c.args.replace.now.head.time c.tell_answer-stamp.new.self _ _ c.tell_answer-stamp.result
-      c.self-2.view_is c.in-Some.is c.tell_answer-stamp.ensures.stamp
-      (subst P text (c.give_written.ensures.given.says (cancel_reject_fields c.args.replace.now.id
-      c.args.replace.now.orig c.tell_answer-stamp.result 2 c.request_reason_of.result
-      c.bytes.result.now) put)));
-  gives = inr (
-    gives_client _ _ c.args.self.now _ c.decide_replace-refusal.new.desk c.decide_replace-refusal.result c.in-Some.why _
-        c.tell_answer-stamp.new.self _ _ _ c.self.view_is c.self-2.view_is c.in-Some.is
-        c.tell_answer-stamp.ensures.told c.give_written.ensures.given.front
-        c.give_written.ensures.cause,
-    refl,
-  );
-}
+returns-in-Some-clause-taken g c =
+    refused_taken g.K.Screen.meaning _ _ (replace_asked c.args.replace.now) c.args.sound.now
+    c.args.self.now _ c.decide_replace-refusal.new.desk c.decide_replace-refusal.result c.tell_answer-stamp.new.self
+    _ c.self.view_is c.self-2.view_is c.requires.read
+    c.decide_replace-refusal.ensures.later.limits_are c.decide_replace-refusal.ensures.decides
+    c.decide_replace-refusal.ensures.screens c.tell_answer-stamp.ensures.told _
+    c.give_written.ensures.given.whole c.tell_answer-stamp.result c.in-Some.why c.in-Some.is
+    c.tell_answer-stamp.ensures.stamp c.give_written.ensures.given.front
+    (λ fields has time_is.
+    request_refused _ _ fields c.tell_answer-stamp.result time_is 2 _ _
+    c.request_reason_of.result c.bytes.result.now c.in-Some.why
+    (replace_ids fields c.args.replace.now (c.requires.read.each fields has))
+    c.request_reason_of.ensures (c.bytes.ensures ∙ c.text_of-text.ensures.text)
+    (c.give_written.ensures.given.says (cancel_reject_fields c.args.replace.now.id
+    c.args.replace.now.orig c.tell_answer-stamp.result 2 c.request_reason_of.result
+    c.bytes.result.now) c.write_reject_cancel.ensures))
+    c.give_written.ensures.cause

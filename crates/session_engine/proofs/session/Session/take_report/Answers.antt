@@ -4,22 +4,15 @@ use Rattle.std.specs.Io.KnownBytes.{Appends}
 use Rattle.fix_orders.specs.declared.message.Message.TheVariants as message
 use Rattle.fix_orders.specs.declared.message.Stamp.{Stamp}
 use Rattle.session_engine.specs.Answers.{forward_text}
-use Rattle.session_engine.proofs.Answered.{report_taken, gives_report}
+use Rattle.session_engine.proofs.Answered.{passes, report_taken, gives_report}
 use Rattle.session_engine.proofs.MessageFacts.{report_facts}
 use Rattle.session_engine.proofs.ReportFrames.{report_told}
 use Rattle.session_engine.proofs.session.Session.take_report.Goals as goal
 
 pub forward-requires-clause-passed : goal.forward-requires-clause-passed
 forward-requires-clause-passed g c =
-    let own = c.requires.read in (
-      message.Report c.args.report.now,
-      record {
-        listed = own.is_sound.0;
-        stands = own.is_sound.1;
-        read = own.each own.is_sound.0 own.is_sound.1;
-      },
-      refl,
-    )
+    passes c.args.sound.now (message.Report c.args.report.now) c.requires.read refl
+
 
 pub forward-requires-clause-time : goal.forward-requires-clause-time
 forward-requires-clause-time g c = λ fields has.
