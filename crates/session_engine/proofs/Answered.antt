@@ -83,62 +83,6 @@ module _ {H M K : Type 0} (meaning : K → ScreenValue) where
             (wording stamp.target stamp.seq fields r)) same gives)),
       )
 
-  -- a report was settled, told, and passed on
-  pub report_taken : (report : Told) (sound : FrameIn) (own before : Running H M K)
-      (settled : DeskValue H M K) (effect : Effect) (now told : Running H M K)
-      (client : Option (List ℕ)) → before ≡ own → told ≡ now
-      → ReadsAs sound report.message
-      → ((fields : List FieldValue) → HasFieldsIn sound.bytes sound.frame fields
-      → ReportFacts fields report.head)
-      → settled.screens ≡ before.desk.screens
-      → report.settle before.desk.limits before.desk.book.value before.desk.hands.acts
-      ≡ record { effect = effect; acts = settled.hands.acts; book = settled.book.value }
-      → now.desk.hands.acts
-      ≡ settled.hands.acts ++ note_acts before.counts.frames (note_by effect)
-      → now ≡ record before {
-        desk = record settled { hands = now.desk.hands };
-        counts = counted_client before.counts;
-      }
-      → ((fields : List FieldValue) → HasFieldsIn sound.bytes sound.frame fields
-      → Appends told.client.held client (forward_text now.client_id now.counts.client fields))
-      → TakesSound own.desk.limits sound (kept_of meaning own)
-      (given told told.venue.held client)
-  report_taken report sound own before settled effect now told client before_is told_is reads
-      facts screens settles acts others passed =
-      let T : Running H M K → Type 0 = λ r. TakesSound r.desk.limits sound (kept_of meaning r)
-      (given told told.venue.held client) in
-      let N : Running H M K → Type 0 = λ r. TakesSound before.desk.limits sound
-      (kept_of meaning before) (given r r.venue.held client) in
-      let now_told : Running H M K → Type 0 = λ r. (fields : List FieldValue)
-      → HasFieldsIn sound.bytes sound.frame fields
-      → Appends r.client.held client (forward_text now.client_id now.counts.client fields) in
-      subst T before_is (subst N (sym told_is)
-      (from_now (subst now_told told_is passed)))
-    where
-      from_now : ((fields : List FieldValue) → HasFieldsIn sound.bytes sound.frame fields
-          → Appends now.client.held client
-          (forward_text now.client_id now.counts.client fields))
-          → TakesSound before.desk.limits sound (kept_of meaning before)
-          (given now now.venue.held client)
-      from_now passed_now fields has session stands =
-          let done : BookValue → Settled =
-          λ book. record { effect = effect; acts = settled.hands.acts; book = book } in
-          takes_report before.desk.limits fields report session (facts fields has)
-          (reads.each fields has) (kept_of meaning before) (given now now.venue.held client)
-          stands effect settled.hands.acts (record {
-            settled = settles
-                ∙ ap done (sym (ap (λ (r : Running H M K). r.desk.book.value) others));
-            acts = acts;
-            screens = ap (λ (r : Running H M K). map meaning r.desk.screens) others
-                ∙ ap (map meaning) screens;
-            counts = ap (λ (r : Running H M K). r.counts) others;
-            client_id = ap (λ (r : Running H M K). r.client_id) others;
-            venue = ap (λ (r : Running H M K). r.venue.held) others;
-            client = subst (λ v. Appends v client
-                (forward_text now.client_id now.counts.client fields))
-                (ap (λ (r : Running H M K). r.client.held) others) (passed_now fields has);
-          })
-
 -- a request that is sent has the next message to the venue
 number_sent : (refusal : Option Refusal) (counts : Counts) → refusal ≡ None
     → (counts_answered refusal (counts_decided refusal counts)).venue ≡ counts.venue + 1
@@ -295,30 +239,77 @@ module _ {H M K : Type 0} (meaning : K → ScreenValue) (full failed : Type 0) (
         );
       })
 
-module _ {H M K : Type 0} (given failed : Type 0) (own before : Running H M K)
-    (decided : DeskValue H M K) where
-  -- a report went on to the client, or a front of it
-  pub gives_report : (now told : Running H M K) (after : SinkValue) (whole : Option (List ℕ))
-      → before ≡ own → told ≡ now
-      → now ≡ record before {
-        desk = record decided { hands = now.desk.hands };
-        counts = counted_client before.counts;
-      }
-      → GivesFront given told.client.held after.held whole
+-- a report was settled and told
+module _ {H M K : Type 0} (meaning : K → ScreenValue) (full failed : Type 0) (report : Told)
+    (sound : FrameIn) (own before : Running H M K) (settled : DeskValue H M K) (effect : Effect)
+    (now told : Running H M K) (before_is : before ≡ own) (told_is : told ≡ now)
+    (reads : ReadsAs sound report.message) (screens : settled.screens ≡ before.desk.screens)
+    (settles : report.settle before.desk.limits before.desk.book.value before.desk.hands.acts
+    ≡ record { effect = effect; acts = settled.hands.acts; book = settled.book.value })
+    (acts : now.desk.hands.acts
+    ≡ settled.hands.acts ++ note_acts before.counts.frames (note_by effect))
+    (others : now ≡ record before {
+      desk = record settled { hands = now.desk.hands };
+      counts = counted_client before.counts;
+    }) where
+  -- and passed on
+  passed_taken : (client : Option (List ℕ))
+      → ((fields : List FieldValue) → HasFieldsIn sound.bytes sound.frame fields
+      → Appends now.client.held client (forward_text now.client_id now.counts.client fields))
+      → TakesSound before.desk.limits sound (kept_of meaning before)
+      (given meaning now now.venue.held client)
+  passed_taken client passed fields has session stands =
+      let done : BookValue → Settled =
+      λ book. record { effect = effect; acts = settled.hands.acts; book = book } in
+      let read = reads.each fields has in
+      takes_report before.desk.limits fields report session (report.facts fields read) read
+      (kept_of meaning before) (given meaning now now.venue.held client) stands effect
+      settled.hands.acts (record {
+        settled = settles ∙ ap done (sym (ap (λ (r : Running H M K). r.desk.book.value) others));
+        acts = acts;
+        screens = ap (λ (r : Running H M K). map meaning r.desk.screens) others
+            ∙ ap (map meaning) screens;
+        counts = ap (λ (r : Running H M K). r.counts) others;
+        client_id = ap (λ (r : Running H M K). r.client_id) others;
+        venue = ap (λ (r : Running H M K). r.venue.held) others;
+        client = subst (λ v. Appends v client
+            (forward_text now.client_id now.counts.client fields))
+            (ap (λ (r : Running H M K). r.client.held) others) (passed fields has);
+      })
+
+  -- it went on to the client, or a front of it
+  pub report_taken : (after : SinkValue) (whole : Option (List ℕ))
+      → GivesFront full told.client.held after.held whole
+      → ((fields : List FieldValue) → HasFieldsIn sound.bytes sound.frame fields
+      → Appends told.client.held whole (forward_text now.client_id now.counts.client fields))
       → HasCause told.client.faults after.faults failed
-      → GivesNext given failed own.client after own.counts.client told.counts.client whole
-  gives_report now told after whole before_is told_is others front cause =
-      let same : told.client ≡ own.client = ap (λ (r : Running H M K). r.client) told_is
-      ∙ ap (λ (r : Running H M K). r.client) others
-      ∙ ap (λ (r : Running H M K). r.client) before_is in
+      → TakesFront meaning sound full failed own (record told { client = after })
+  report_taken after whole front passed cause =
+      let client_is : told.client ≡ now.client = ap (λ (r : Running H M K). r.client) told_is in
+      let same : told.client ≡ before.client = client_is
+      ∙ ap (λ (r : Running H M K). r.client) others in
       let R : SinkValue → Type 0 = λ s. Rose s.faults after.faults in
-      record {
-        front = subst (λ (s : SinkValue). GivesFront given s.held after.held whole) same front;
-        rose = λ has. subst R same (cause.rose has);
-        next = λ has. ap (λ (r : Running H M K). r.counts.client) told_is
-            ∙ ap (λ (r : Running H M K). r.counts.client) others
-            ∙ ap (λ (r : Running H M K). r.counts.client + 1) before_is;
-      }
+      let S : SinkValue → Type 0 = λ s. (fields : List FieldValue)
+      → HasFieldsIn sound.bytes sound.frame fields
+      → Appends s.held whole (forward_text now.client_id now.counts.client fields) in
+      let N : Running H M K → Type 0 = λ r. TakesSound before.desk.limits sound
+      (kept_of meaning before) (given meaning r r.venue.held whole) in
+      let T : Running H M K → Type 0 = λ r. TakesFront meaning sound full failed r
+      (record told { client = after }) in
+      subst T before_is (record {
+        venue = told.venue.held;
+        client = whole;
+        taken = subst N (sym told_is) (passed_taken whole (subst S client_is passed));
+        gives = inr (
+          record {
+            front = subst (λ (s : SinkValue). GivesFront full s.held after.held whole) same front;
+            rose = λ has. subst R same (cause.rose has);
+            next = λ has. ap (λ (r : Running H M K). r.counts.client) told_is
+                ∙ ap (λ (r : Running H M K). r.counts.client) others;
+          },
+          refl,
+        );
+      })
 
 -- a session that decided, told and answered the client goes on
 pub continues_answered : {H M K : Type 0} (SameSum : H → H → Type 0) (SameHalt : M → M → Type 0)

@@ -25,7 +25,7 @@ use Rattle.session_engine.specs.Session.{after_settling, after_effect, after_pas
 use Rattle.session_engine.specs.Session.{with_frame}
 use Rattle.session_engine.specs.Reaches.{with_reads}
 use Rattle.session_engine.specs.Taken.{Kept, StandsAs, Takes, counted_client, note_acts, note_by}
-use Rattle.session_engine.proofs.MessageFacts.{ReportFacts}
+use Rattle.session_engine.proofs.MessageFacts.{ReportFacts, report_facts, reject_facts}
 use Rattle.session_engine.proofs.QuietActs.{notes_unread, reads_of-quiet}
 use Rattle.session_engine.proofs.AddedActs.{settled_adds}
 use Rattle.session_engine.proofs.TakenLemmas.{frame_by, counted, next_by, takes_next}
@@ -37,6 +37,7 @@ pub record Told : Type 0 where
   pub message : Message
   pub head : Head
   pub settle : LimitsValue → BookValue → List Act → Settled
+  pub facts : (fields : List FieldValue) → read_of fields ≡ Ok message → ReportFacts fields head
   pub reads : (limits : LimitsValue) (book : BookValue) (acts : List Act)
       → reads_of (settle limits book acts).acts ≡ reads_of acts
   pub by : (limits : LimitsValue) (fields : List FieldValue) (session : SessionValue)
@@ -48,6 +49,7 @@ report_told report = record {
   message = message.Report report;
   head = report.head;
   settle = λ limits. report_settled limits report;
+  facts = λ fields. report_facts fields report;
   reads = λ limits book acts.
       let outcome = outcome_of_report book report in
       (settled_adds limits (record book { orders = outcome.orders }) acts outcome.answer).unread;
@@ -59,6 +61,7 @@ reject_told reject = record {
   message = message.CancelReject reject;
   head = reject.head;
   settle = λ limits. reject_settled limits reject;
+  facts = λ fields. reject_facts fields reject;
   reads = λ limits book acts.
       let outcome = outcome_of_reject book reject in
       (settled_adds limits (record book { orders = outcome.orders }) acts outcome.answer).unread;

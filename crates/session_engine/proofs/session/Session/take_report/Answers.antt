@@ -4,7 +4,7 @@ use Rattle.std.specs.Io.KnownBytes.{Appends}
 use Rattle.fix_orders.specs.declared.message.Message.TheVariants as message
 use Rattle.fix_orders.specs.declared.message.Stamp.{Stamp}
 use Rattle.session_engine.specs.Answers.{forward_text}
-use Rattle.session_engine.proofs.Answered.{passes, report_taken, gives_report}
+use Rattle.session_engine.proofs.Answered.{passes, report_taken}
 use Rattle.session_engine.proofs.MessageFacts.{report_facts}
 use Rattle.session_engine.proofs.ReportFrames.{report_told}
 use Rattle.session_engine.proofs.session.Session.take_report.Goals as goal
@@ -20,23 +20,13 @@ forward-requires-clause-time g c = λ fields has.
     ∙ (report_facts fields c.args.report.now (c.requires.read.each fields has)).time
 
 pub returns-clause-taken : goal.returns-clause-taken
-returns-clause-taken g c = record {
-  venue = g.V.Sink.held c.self-2.inside.venue;
-  client = c.forward.ensures.given.whole;
-  taken =
-      report_taken g.K.Screen.meaning (report_told c.args.report.now) c.args.sound.now c.args.self.now _
-      c.settle_report-effect.new.desk c.settle_report-effect.result c.tell_effect-stamp.new.self _ _ c.self.view_is c.self-2.view_is
-      c.requires.read
-      (λ fields has. report_facts fields c.args.report.now (c.requires.read.each fields has))
-      c.settle_report-effect.ensures.screens c.settle_report-effect.ensures.settled c.tell_effect-stamp.ensures.acts
-      c.tell_effect-stamp.ensures.others
-      (λ fields has. subst (λ (s : Stamp). Appends (g.C.Sink.held c.self-2.inside.client)
-      c.forward.ensures.given.whole (forward_text s.target s.seq fields))
-      c.tell_effect-stamp.ensures.stamp (c.forward.ensures.given.says fields has));
-  gives = inr (
-    gives_report _ _ c.args.self.now _ c.settle_report-effect.new.desk c.tell_effect-stamp.new.self _ _ _
-        c.self.view_is c.self-2.view_is c.tell_effect-stamp.ensures.others
-        c.forward.ensures.given.front c.forward.ensures.cause,
-    refl,
-  );
-}
+returns-clause-taken g c =
+    report_taken g.K.Screen.meaning _ _ (report_told c.args.report.now) c.args.sound.now c.args.self.now _
+    c.settle_report-effect.new.desk c.settle_report-effect.result c.tell_effect-stamp.new.self _
+    c.self.view_is c.self-2.view_is c.requires.read c.settle_report-effect.ensures.screens
+    c.settle_report-effect.ensures.settled c.tell_effect-stamp.ensures.acts
+    c.tell_effect-stamp.ensures.others _ c.forward.ensures.given.whole c.forward.ensures.given.front
+    (λ fields has. subst (λ (s : Stamp). Appends (g.C.Sink.held c.self-2.inside.client)
+    c.forward.ensures.given.whole (forward_text s.target s.seq fields))
+    c.tell_effect-stamp.ensures.stamp (c.forward.ensures.given.says fields has))
+    c.forward.ensures.cause
