@@ -1,18 +1,16 @@
 -- A hand that was asked whether an order would cross, as its acts tell it.
-use Rattle.std.proofs.Common.{◌≡◌, ℕ, ◌+◌, ◌-◌, ◌<◌, ◌≤◌, List, [], ◌∷◌, ◌++◌, length, refl, sym, ap, ◌∙◌, subst, arith}
-use Rattle.std.proofs.Common.{true, false}
+use Rattle.std.proofs.Common.{◌≡◌, ℕ, ◌+◌, ◌-◌, ◌<◌, ◌≤◌, List, [], ◌∷◌, ◌++◌, length, sym, ap, ◌∙◌, subst, arith}
+use Rattle.std.proofs.Common.{false}
 use Rattle.std.specs.Prelude.{IsTrue, nat_lt}
 use Rattle.std.specs.List.{slice_index_or}
 use Rattle.std.proofs.lemmas.Bool.{false_from_ne_true}
 use Rattle.std.proofs.lemmas.Bool.Decides.{nat_tests}
-use Rattle.std.proofs.lemmas.List.{append_assoc}
 use Rattle.risk_board.specs.Calls.{post_count}
 use Rattle.risk_board.specs.Hands.{HandValue}
 use Rattle.risk_journal.specs.declared.acts.Act.{Act}
 use Rattle.risk_journal.specs.declared.acts.Act.TheVariants.{Post, Read}
 use Rattle.risk_journal.specs.ActLists.{last_post, posts_in}
 use Rattle.cross_guard.specs.declared.guarding.CrossOutcome.{CrossOutcome}
-use Rattle.cross_guard.specs.declared.guarding.CrossVerdict.{CrossVerdict}
 use Rattle.cross_guard.specs.declared.guarding.CrossVerdict.TheVariants as verdict
 use Rattle.cross_guard.specs.Guarding.{is_spent}
 use Rattle.cross_guard.specs.Halves.{cross_cap, cross_join, is_clear}

@@ -1,6 +1,6 @@
 -- What a frame makes of a session, by what it says.
-use Rattle.std.proofs.Common.{◌≡◌, ℕ, ◌+◌, ◌<◌, ◌==◌, List, [], ◌∷◌, ◌++◌, length, refl, sym, ap, ◌∙◌, subst}
-use Rattle.std.proofs.Common.{arith, Bool, true, false, cond}
+use Rattle.std.proofs.Common.{◌≡◌, ℕ, ◌+◌, ◌==◌, List, [], ◌∷◌, ◌++◌, length, refl, sym, ap, ◌∙◌}
+use Rattle.std.proofs.Common.{Bool, true, false, cond}
 use Rattle.std.specs.Prelude.{Option, Some, None, Result, Ok, Err, IfSome, nat_le, slice_get}
 use Rattle.std.proofs.lemmas.List.{append-nil}
 use Rattle.fix_fields.specs.Fields.{FieldValue}
@@ -18,7 +18,7 @@ use Rattle.limit_table.specs.Trees.{LimitsValue}
 use Rattle.risk_journal.specs.declared.acts.Act.{Act}
 use Rattle.risk_journal.specs.declared.acts.Act.TheVariants.{Post, Sent, Refused}
 use Rattle.risk_journal.specs.ActLists.{SeenAt, reads_of, last_post, posts_in}
-use Rattle.admit_core.specs.Tapes.{Tape, tape}
+use Rattle.admit_core.specs.Tapes.{tape}
 use Rattle.admit_core.proofs.ActLemmas.{reads_of-append}
 use Rattle.cross_guard.specs.Giving.{with_message}
 use Rattle.cross_guard.specs.declared.guarding.CrossVerdict.{CrossVerdict}
@@ -29,7 +29,7 @@ use Rattle.cross_guard.specs.Resting.{RestingValue, after_new, after_replace, af
 use Rattle.cross_guard.specs.Resting.{after_report, after_reject, later_without, reported}
 use Rattle.cross_guard.specs.Resting.{symbol_with, value_in, with_terms}
 use Rattle.cross_guard.specs.Session.{CrossSession, Guarded, Wording, after_change, after_content}
-use Rattle.cross_guard.specs.Session.{after_guarding, after_message, after_order, after_passing}
+use Rattle.cross_guard.specs.Session.{after_guarding, after_order, after_passing}
 use Rattle.cross_guard.specs.Session.{after_reporting, after_result, after_settling, after_verdict, at_place, code_of}
 use Rattle.cross_guard.specs.Session.{guarding, order_refusal, replace_refusal, symbol_place, told}
 use Rattle.cross_guard.specs.Session.{with_value}
@@ -194,36 +194,36 @@ module _ (limits : LimitsValue) (text : List ℕ) (session : CrossSession) where
         (is : (more : List SeenAt) → after_content limits text (Some fields) (with_reads more session)
         ≡ guarded wording tree value orders (with_reads more session))
         (asks : Asks (guarding limits tree value) session.acts after why)
-        where
-      asked_is : (more : List SeenAt)
-          → after_content limits text (Some fields) (with_reads (asks.seen ++ more) session)
-          ≡ after_verdict why wording text fields orders (told (tape after more) session)
-      asked_is more =
-          is (asks.seen ++ more)
-          ∙ ap (λ (g : Guarded). after_guarding g wording text fields orders session)
-          (asks.asked more)
+      where
+        asked_is : (more : List SeenAt)
+            → after_content limits text (Some fields) (with_reads (asks.seen ++ more) session)
+            ≡ after_verdict why wording text fields orders (told (tape after more) session)
+        asked_is more =
+            is (asks.seen ++ more)
+            ∙ ap (λ (g : Guarded). after_guarding g wording text fields orders session)
+            (asks.asked more)
 
-      pub content_sent : why ≡ verdict.Sent
-          → Content limits text (Some fields) session (after ++ Sent session.frames ∷ []) orders
-          (Some text) None
-      content_sent sent = record {
-        seen = asks.seen;
-        reads_are = reads_of-append after (Sent session.frames ∷ []) ∙ append-nil (reads_of after)
-            ∙ asks.reads_are;
-        content_is = λ more. asked_is more
-            ∙ ap (λ v. after_verdict v wording text fields orders (told (tape after more) session)) sent;
-      }
+        pub content_sent : why ≡ verdict.Sent
+            → Content limits text (Some fields) session (after ++ Sent session.frames ∷ []) orders
+            (Some text) None
+        content_sent sent = record {
+          seen = asks.seen;
+          reads_are = reads_of-append after (Sent session.frames ∷ []) ∙ append-nil (reads_of after)
+              ∙ asks.reads_are;
+          content_is = λ more. asked_is more
+              ∙ ap (λ v. after_verdict v wording text fields orders (told (tape after more) session)) sent;
+        }
 
-      pub content_refused : (why ≡ verdict.Sent → ⊥)
-          → Content limits text (Some fields) session
-          (after ++ Refused session.frames (code_of why) 0 0 ∷ []) session.orders None
-          (Some (wording (length session.client + 1) fields why))
-      content_refused other = record {
-        seen = asks.seen;
-        reads_are = reads_of-append after (Refused session.frames (code_of why) 0 0 ∷ [])
-            ∙ append-nil (reads_of after) ∙ asks.reads_are;
-        content_is = λ more. asked_is more ∙ verdict_refuses why other wording orders after more;
-      }
+        pub content_refused : (why ≡ verdict.Sent → ⊥)
+            → Content limits text (Some fields) session
+            (after ++ Refused session.frames (code_of why) 0 0 ∷ []) session.orders None
+            (Some (wording (length session.client + 1) fields why))
+        content_refused other = record {
+          seen = asks.seen;
+          reads_are = reads_of-append after (Refused session.frames (code_of why) 0 0 ∷ [])
+              ∙ append-nil (reads_of after) ∙ asks.reads_are;
+          content_is = λ more. asked_is more ∙ verdict_refuses why other wording orders after more;
+        }
 
     -- a value that is posted, or isn't, is no read
     value_reads : (tree : ℕ) (orders : List RestingValue) (acts : List Act) (same none : Bool)

@@ -1,5 +1,5 @@
 -- A session goes on from what it did before it answered.
-use Rattle.std.proofs.Common.{◌≡◌, ℕ, ◌+◌, ◌≤◌, List, arith, refl}
+use Rattle.std.proofs.Common.{ℕ, ◌+◌, ◌≤◌, List, refl}
 use Rattle.cross_guard.specs.Crossing.{Continues, Crossing}
 use Rattle.cross_guard.specs.Lasting.{continues_then, same_sink}
 use Rattle.cross_guard.specs.Resting.{RestingValue}

@@ -53,7 +53,9 @@ module _ (name : Name) (search : List Name → Option ℕ) (first : IsFirstPlace
       rw (first.next own names, (bytes_eq-Decides own name).1 same) refl
   place_is (own ∷ names) (Some (suc place)) distinct at =
       let next : suc place ≡ place + 1 = omega arith in
-      rw (first.next own names,
-      not_there own name names place (IsDistinct-head same_text own names distinct) at)
+      rw (
+        first.next own names,
+        not_there own name names place (IsDistinct-head same_text own names distinct) at,
+      )
       (ap (λ n. Some n) next ∙ ap (option_map (λ place. place + 1))
       (place_is names (Some place) (IsDistinct-tail same_text own names distinct) at))

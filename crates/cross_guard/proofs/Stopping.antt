@@ -18,7 +18,7 @@ use Rattle.admit_core.proofs.ActLemmas.{reads_of-append}
 use Rattle.frame_run.specs.Ends.{IsByInput, input_most}
 use Rattle.frame_run.specs.Frames.{text_of}
 use Rattle.cross_guard.specs.Ended.{EndsAs}
-use Rattle.cross_guard.specs.Giving.{GivesFront, between_by, between_same}
+use Rattle.cross_guard.specs.Giving.{between_by, between_same}
 use Rattle.frame_run.specs.Sinks.{SinkValue}
 use Rattle.frame_run.specs.Taking.{SplitsTo, StopsBy, TakesSource}
 use Rattle.cross_guard.proofs.Appending.{Got, appends_none, got_front, got_whole}
@@ -26,7 +26,7 @@ use Rattle.frame_run.proofs.Fetches.{consumes_none}
 use Rattle.cross_guard.specs.Crossing.{Crossing, GivesOne, StoppedBy, StoppedFrames, Takes, TakesFrom}
 use Rattle.cross_guard.specs.Crossing.{TookBy, TookFrames, kept_of, with_reads}
 use Rattle.cross_guard.specs.Follows.{DoesNothing, FailsLast, Follows, HasGiven, StopsBehind}
-use Rattle.cross_guard.specs.Follows.{StopsSource, session_of, session_with}
+use Rattle.cross_guard.specs.Follows.{StopsSource, session_with}
 use Rattle.cross_guard.specs.Lasting.{session_by}
 use Rattle.cross_guard.specs.Session.{CrossSession, after_frame}
 use Rattle.cross_guard.specs.Told.{IsOver, Placing, with_places}

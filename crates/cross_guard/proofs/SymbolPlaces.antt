@@ -1,5 +1,5 @@
 -- Where a symbol stands among the limits' rows, and that each resting order is of one of them.
-use Rattle.std.proofs.Common.{◌≡◌, ℕ, suc, ◌+◌, ◌<◌, List, [], ◌∷◌, ◌++◌, length, refl, sym, ap, ◌∙◌, subst, arith}
+use Rattle.std.proofs.Common.{◌≡◌, ℕ, suc, ◌+◌, ◌<◌, List, [], ◌∷◌, ◌++◌, length, refl, sym, ap, subst, arith}
 use Rattle.std.proofs.Common.{Bool, true, false, cond}
 use Rattle.std.specs.Prelude.{Option, Some, None, Result, Ok, Err, nat_lt, slice_get}
 use Rattle.std.specs.Option.{option_map}
@@ -32,14 +32,14 @@ use Rattle.cross_guard.specs.declared.guarding.CrossVerdict.{CrossVerdict}
 use Rattle.cross_guard.specs.declared.guarding.CrossVerdict.TheVariants as verdict
 use Rattle.cross_guard.specs.Crossing.{AreOfSymbols}
 use Rattle.cross_guard.specs.Levels.{value_of_order}
-use Rattle.cross_guard.specs.Resting.{RestingValue, after_cancel, after_new, after_reject, after_replace}
+use Rattle.cross_guard.specs.Resting.{RestingValue, after_new, after_reject, after_replace}
 use Rattle.cross_guard.specs.Resting.{after_report, is_first_id, is_open_with, is_replaced_by}
 use Rattle.cross_guard.specs.Resting.{ended, later_without, reported, started, symbol_with, term_of_replace}
 use Rattle.cross_guard.specs.Resting.{terms_without, with_id, with_last, with_term, with_terms}
-use Rattle.cross_guard.specs.Session.{CrossSession, Guarded, Wording, after_change, after_content}
-use Rattle.cross_guard.specs.Session.{after_frame, after_frames, after_guarding, after_message}
+use Rattle.cross_guard.specs.Session.{CrossSession, Wording, after_change}
+use Rattle.cross_guard.specs.Session.{after_frame, after_frames, after_message}
 use Rattle.cross_guard.specs.Session.{after_order, after_passing, after_reporting, after_result}
-use Rattle.cross_guard.specs.Session.{after_settling, after_verdict, at_place, guarding, opening}
+use Rattle.cross_guard.specs.Session.{after_verdict, at_place, guarding, opening}
 use Rattle.cross_guard.specs.Session.{order_refusal, replace_refusal, symbol_place, told, with_value}
 
 -- the first place at which a test passes, by recursion

@@ -10,7 +10,6 @@ use Rattle.risk_journal.specs.declared.acts.Act.{Act}
 use Rattle.risk_journal.specs.declared.acts.Act.TheVariants.{Sent, Refused}
 use Rattle.risk_journal.specs.ActLists.{placed_by}
 use Rattle.frame_run.specs.Frames.{FrameIn, text_in as text_at}
-use Rattle.cross_guard.specs.Giving.{text_in, with_message}
 use Rattle.cross_guard.proofs.Appending.{appends_none}
 use Rattle.cross_guard.specs.declared.guarding.CrossVerdict.{CrossVerdict}
 use Rattle.cross_guard.specs.Answering.{PassesOn, Refuses, Sends}

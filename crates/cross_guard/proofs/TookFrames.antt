@@ -1,5 +1,5 @@
 -- A session goes on from frame to frame, and follows its input.
-use Rattle.std.proofs.Common.{◌≡◌, ℕ, ◌+◌, ◌≤◌, ◌<◌, List, [], ◌∷◌, ◌++◌, length, take, refl, sym, ap, ◌∙◌, arith}
+use Rattle.std.proofs.Common.{◌≡◌, ℕ, ◌+◌, ◌≤◌, List, [], ◌∷◌, ◌++◌, take, refl, sym, ap, ◌∙◌, arith}
 use Rattle.std.proofs.Common.{subst}
 use Rattle.std.specs.Prelude.{Option, Some, None}
 use Rattle.std.specs.List.{concat}
@@ -14,12 +14,12 @@ use Rattle.admit_core.proofs.ActLemmas.{reads_of-append}
 use Rattle.frame_run.specs.Ends.{input_most}
 use Rattle.frame_run.specs.Frames.{text_of}
 use Rattle.cross_guard.specs.Giving.{text_in}
-use Rattle.frame_run.specs.Taking.{TakesInput, TakesSource}
+use Rattle.frame_run.specs.Taking.{TakesSource}
 use Rattle.cross_guard.proofs.Appending.{appends_next, appends_none, concat-with}
 use Rattle.cross_guard.specs.Covering.{Covers}
 use Rattle.cross_guard.specs.Crossing.{Crossing, IsOpened, TakesFrom, TookBy, TookFrames, kept_of}
 use Rattle.cross_guard.specs.Crossing.{with_reads}
-use Rattle.cross_guard.specs.Follows.{DoesFrames, FollowsInput, FollowsSource, session_of, session_with}
+use Rattle.cross_guard.specs.Follows.{DoesFrames, FollowsSource, session_of, session_with}
 use Rattle.cross_guard.specs.Lasting.{session_by}
 use Rattle.cross_guard.specs.Session.{CrossSession, opening, after_frame, after_frames}
 use Rattle.cross_guard.specs.Told.{IsOver, Placing, with_places}

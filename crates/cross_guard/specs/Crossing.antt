@@ -1,5 +1,5 @@
 -- A session as it runs, as contracts see it, and how it stands before and after what it does.
-use Rattle.std.specs.Prelude.{◌≡◌, ◌⊎◌, ℕ, ◌+◌, ◌≤◌, ◌<◌, List, [], ◌∷◌, ◌++◌, length, Option, Some}
+use Rattle.std.specs.Prelude.{◌≡◌, ◌⊎◌, ℕ, ◌+◌, ◌≤◌, ◌<◌, List, [], ◌++◌, length, Option, Some}
 use Rattle.std.specs.Prelude.{Result, Ok, Err}
 use Rattle.std.specs.List.{concat, AllByRecursion}
 use Rattle.std.specs.Io.KnownBytes.{Appends}
@@ -15,7 +15,6 @@ use Rattle.gate_ports.specs.declared.ports.PortFault.TheVariants as fault
 use Rattle.limit_table.specs.Trees.{LimitsValue}
 use Rattle.risk_journal.specs.declared.acts.Act.{Act}
 use Rattle.risk_journal.specs.ActLists.{SeenAt, reads_of}
-use Rattle.frame_run.specs.Ends.{input_most}
 use Rattle.frame_run.specs.Frames.{FrameIn, text_in as text_at}
 use Rattle.cross_guard.specs.Giving.{GivesFront, with_message, text_in}
 use Rattle.frame_run.specs.Sinks.{SinkValue, IsLaterSink}

@@ -58,18 +58,23 @@ const AT_9_99: &str = "40=2|44=9.9900|";
 const XYZ: &[u8] = b"firm,,1000,,,\naccount,ACC,1000,,,\nsymbol,XYZ,1000,1,12,100000\n";
 
 /// The same with three posts.
-const FEW: &[u8] = b"firm,,1000,,,\naccount,ACC,1000,,,\nsymbol,XYZ,1000,1,12,100000\nquota,,3,,,\n";
+const FEW: &[u8] =
+    b"firm,,1000,,,\naccount,ACC,1000,,,\nsymbol,XYZ,1000,1,12,100000\nquota,,3,,,\n";
 
 /// Collars with a price level for each second price.
-const WIDE: &[u8] =
-    b"firm,,1000,,,\naccount,ACC,1000,,,\nsymbol,XYZ,1000,0.0001,104.8573,100000\n";
+const WIDE: &[u8] = b"firm,,1000,,,\naccount,ACC,1000,,,\nsymbol,XYZ,1000,0.0001,104.8573,100000\n";
 
 /// Limits without a symbol.
 const NONE: &[u8] = b"firm,,1000,,,\naccount,ACC,1000,,,\n";
 
 /// A sell at 10.00, a buy at its price, and one below it.
 const SELL_THEN_BUYS: [Row; 3] = [
-    ("a sell alone", Comes::Order("a1", SELL, AT_10, 10), true, &[434_287]),
+    (
+        "a sell alone",
+        Comes::Order("a1", SELL, AT_10, 10),
+        true,
+        &[434_287],
+    ),
     (
         "a buy at its price",
         Comes::Order("a2", BUY, AT_10, 10),
@@ -86,7 +91,12 @@ const SELL_THEN_BUYS: [Row; 3] = [
 
 /// A sell that is canceled before a buy at its price.
 const SELL_CANCELED: [Row; 3] = [
-    ("a sell alone", Comes::Order("a1", SELL, AT_10, 10), true, &[434_287]),
+    (
+        "a sell alone",
+        Comes::Order("a1", SELL, AT_10, 10),
+        true,
+        &[434_287],
+    ),
     ("it is canceled", Comes::Report("a1", b'4'), true, &[0]),
     (
         "a buy at its price",
@@ -97,7 +107,12 @@ const SELL_CANCELED: [Row; 3] = [
 ];
 
 const REPLACES_IN_A_CHAIN: [Row; 11] = [
-    ("a sell at 10.00", Comes::Order("a1", SELL, AT_10, 10), true, &[434_287]),
+    (
+        "a sell at 10.00",
+        Comes::Order("a1", SELL, AT_10, 10),
+        true,
+        &[434_287],
+    ),
     (
         "a replace to 10.01: the lower counts",
         Comes::Replace("a2", "a1", SELL, AT_10_01, 10),
@@ -128,7 +143,12 @@ const REPLACES_IN_A_CHAIN: [Row; 11] = [
         false,
         &[47_186_878_675, 47_186_878_475],
     ),
-    ("the buy expires", Comes::Report("b2", b'C'), true, &[434_187]),
+    (
+        "the buy expires",
+        Comes::Report("b2", b'C'),
+        true,
+        &[434_187],
+    ),
     (
         "a replace to 9.99 by the first id",
         Comes::Replace("a4", "a1", SELL, AT_9_99, 10),
@@ -192,7 +212,12 @@ const TRADES_IN_PARTS: [Row; 8] = [
 ];
 
 const REJECTS_OF_A_TERM: [Row; 6] = [
-    ("a sell at 10.01", Comes::Order("a1", SELL, AT_10_01, 10), true, &[434_187]),
+    (
+        "a sell at 10.01",
+        Comes::Order("a1", SELL, AT_10_01, 10),
+        true,
+        &[434_187],
+    ),
     (
         "a replace to 9.99",
         Comes::Replace("a2", "a1", SELL, AT_9_99, 10),
@@ -297,7 +322,12 @@ const NEAR_ORDERS: [Row; 3] = [
 ];
 
 const THREE_POSTS: [Row; 5] = [
-    ("a sell, with three left", Comes::Order("a1", SELL, AT_10, 10), true, &[434_287]),
+    (
+        "a sell, with three left",
+        Comes::Order("a1", SELL, AT_10, 10),
+        true,
+        &[434_287],
+    ),
     (
         "a buy, with two",
         Comes::Order("a2", BUY, AT_9_99, 10),
@@ -344,15 +374,30 @@ const PASSED_ON: [Row; 6] = [
         true,
         &[],
     ),
-    ("a heartbeat", Comes::Body("35=0|49=C1|56=GATE|34=1|"), true, &[]),
-    ("another type", Comes::Body("35=j|49=C1|56=GATE|34=1|"), true, &[]),
+    (
+        "a heartbeat",
+        Comes::Body("35=0|49=C1|56=GATE|34=1|"),
+        true,
+        &[],
+    ),
+    (
+        "another type",
+        Comes::Body("35=j|49=C1|56=GATE|34=1|"),
+        true,
+        &[],
+    ),
     (
         "a frame with another checksum",
         Comes::Raw("8=FIX.4.4|9=5|35=0|10=000|"),
         true,
         &[],
     ),
-    ("a report without ClOrdID", Comes::Body("35=8|49=V|56=C1|34=1|52=20240102-10:00:00|150=4|"), true, &[]),
+    (
+        "a report without ClOrdID",
+        Comes::Body("35=8|49=V|56=C1|34=1|52=20240102-10:00:00|150=4|"),
+        true,
+        &[],
+    ),
 ];
 
 /// Appends bytes, with SOH for each bar.
@@ -465,11 +510,7 @@ fn stream_of(alloc: Global, rows: &[Row], passed_alone: bool) -> Result<Vec<u8>,
 
 /// What a session reads, at most 100 bytes a call, of which these fail.
 fn source_of(alloc: Global, rows: &[Row], failing: Vec<u64>) -> Result<MemSource, Fail> {
-    Ok(MemSource::new(
-        stream_of(alloc, rows, false)?,
-        100,
-        failing,
-    ))
+    Ok(MemSource::new(stream_of(alloc, rows, false)?, 100, failing))
 }
 
 /// An output, of whose calls these fail.
@@ -490,7 +531,11 @@ fn compare(
 ) -> Result<(), Fail> {
     let passed = stream_of(alloc, rows, true)?;
     assert_eq!(rt; done.end, End::Whole, "{name}: the end");
-    assert_eq!(rt; done.pass.bytes(), passed.as_slice(), "{name}: what is passed");
+    assert_eq!(rt;
+        done.pass.bytes(),
+        passed.as_slice(),
+        "{name}: what is passed"
+    );
     let mut posts = Vec::new(alloc);
     for act in done.acts.as_slice() {
         if let Act::Post { value, .. } = act {
@@ -565,15 +610,51 @@ fn own_orders_that_cross_are_refused(rt: HostRuntime) -> Result<(), Fail> {
     assert_eq!(rt; done.client.bytes(), refusal.as_slice(), "the refusal");
     let acts = done.acts.as_slice();
     let wanted = [
-        Act::Post { tree: 0, index: 1, value: 434_287 },
-        Act::Read { tree: 0, stamp: 1, place: 0, value: 434_287 },
+        Act::Post {
+            tree: 0,
+            index: 1,
+            value: 434_287,
+        },
+        Act::Read {
+            tree: 0,
+            stamp: 1,
+            place: 0,
+            value: 434_287,
+        },
         Act::Sent { frame: 0 },
-        Act::Post { tree: 0, index: 2, value: 47_186_878_575 },
-        Act::Read { tree: 0, stamp: 2, place: 0, value: 47_186_878_575 },
-        Act::Post { tree: 0, index: 3, value: 434_287 },
-        Act::Refused { frame: 1, code: 17, first: 0, second: 0 },
-        Act::Post { tree: 0, index: 4, value: 47_134_449_775 },
-        Act::Read { tree: 0, stamp: 4, place: 0, value: 47_134_449_775 },
+        Act::Post {
+            tree: 0,
+            index: 2,
+            value: 47_186_878_575,
+        },
+        Act::Read {
+            tree: 0,
+            stamp: 2,
+            place: 0,
+            value: 47_186_878_575,
+        },
+        Act::Post {
+            tree: 0,
+            index: 3,
+            value: 434_287,
+        },
+        Act::Refused {
+            frame: 1,
+            code: 17,
+            first: 0,
+            second: 0,
+        },
+        Act::Post {
+            tree: 0,
+            index: 4,
+            value: 47_134_449_775,
+        },
+        Act::Read {
+            tree: 0,
+            stamp: 4,
+            place: 0,
+            value: 47_134_449_775,
+        },
         Act::Sent { frame: 2 },
         Act::Ended { end: End::Whole },
     ];
@@ -635,7 +716,12 @@ fn all_else_is_passed(rt: HostRuntime) -> Result<(), Fail> {
 }
 
 /// A session that has a sell at 10.00.
-const SELLS: [Row; 1] = [("a sell alone", Comes::Order("a1", SELL, AT_10, 10), true, &[434_287])];
+const SELLS: [Row; 1] = [(
+    "a sell alone",
+    Comes::Order("a1", SELL, AT_10, 10),
+    true,
+    &[434_287],
+)];
 
 /// Buys of a session while another has a sell at 10.00.
 const BUYS_AGAINST_IT: [Row; 2] = [
@@ -664,13 +750,25 @@ fn orders_that_cross_another_sessions_are_refused(rt: HostRuntime) -> Result<(),
     let board = PlainBoard::<Cross>::open(alloc, trees, 2, limits.quota())?;
     let ports = ports_of(alloc, &SELLS)?;
     let first = run_cross(
-        alloc, 0, &limits, board.hand(0), ports.source, ports.pass, ports.client,
+        alloc,
+        0,
+        &limits,
+        board.hand(0),
+        ports.source,
+        ports.pass,
+        ports.client,
     );
     compare(&rt, alloc, "the first session", &SELLS, &first)?;
     let ports = ports_of(alloc, &BUYS_AGAINST_IT)?;
     let hand = first.hand.give_back().hand(1);
     let second = run_cross(
-        alloc, 1, &limits, hand, ports.source, ports.pass, ports.client,
+        alloc,
+        1,
+        &limits,
+        hand,
+        ports.source,
+        ports.pass,
+        ports.client,
     );
     compare(&rt, alloc, "the second session", &BUYS_AGAINST_IT, &second)
 }
@@ -701,8 +799,22 @@ fn sessions_end_by_their_ports(rt: HostRuntime) -> Result<(), Fail> {
     ends_by(&rt, alloc, "the first read fails", ports, End::ReadFault, 1)?;
     let mut ports = ports_of(alloc, &SELL_THEN_BUYS)?;
     ports.pass = sink(alloc, [0].to_vec(alloc)?);
-    ends_by(&rt, alloc, "the sell can't be passed", ports, End::WriteFault, 4)?;
+    ends_by(
+        &rt,
+        alloc,
+        "the sell can't be passed",
+        ports,
+        End::WriteFault,
+        4,
+    )?;
     let mut ports = ports_of(alloc, &SELL_THEN_BUYS)?;
     ports.client = sink(alloc, [0].to_vec(alloc)?);
-    ends_by(&rt, alloc, "the buy can't be refused", ports, End::WriteFault, 8)
+    ends_by(
+        &rt,
+        alloc,
+        "the buy can't be refused",
+        ports,
+        End::WriteFault,
+        8,
+    )
 }

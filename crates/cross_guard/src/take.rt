@@ -14,9 +14,9 @@ ghost use Rattle.cross_guard.specs.Told.{IsAfter, cross_trees};
 use crate::giving::{frame_text, sound_text};
 use crate::guarding::CrossVerdict;
 use crate::level::cross_value;
+use crate::orders::{Added, RestingOrders};
 use crate::session::CrossSession;
 use crate::told::ToldHand;
-use crate::orders::{Added, RestingOrders};
 use fix_fields::{Frame, IdText};
 use fix_orders::{
     Cancel, CancelReject, Message, NewOrder, OrderKind, Replace, Report, read_message,

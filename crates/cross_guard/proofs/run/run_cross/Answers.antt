@@ -1,5 +1,5 @@
 -- The hand, the source and the sinks at the end.
-use Rattle.std.proofs.Common.{◌≡◌, [], ◌∷◌, ◌++◌, length, refl, sym, ap, ◌∙◌, arith, inl}
+use Rattle.std.proofs.Common.{◌≡◌, [], ◌∷◌, length, refl, sym, ap, ◌∙◌, arith, inl}
 use Rattle.std.proofs.lemmas.List.{length-append}
 use Rattle.frame_run.proofs.Streaming.{fetches_none}
 use Rattle.risk_journal.specs.declared.acts.Act.TheVariants.{Ended}
@@ -72,8 +72,11 @@ returns-clause-ends g c = rw c.close.ensures.end (inl (_, c.close.ensures.acts))
 pub returns-clause-no_room : goal.returns-clause-no_room
 returns-clause-no_room g c = λ none.
     let acts = c.take_input-end.new.taker.told.acts in
-    absurd (omega (arith, ap length (sym c.close.ensures.acts ∙ none),
-    length-append acts (Ended c.take_input-end.result ∷ [])))
+    absurd (omega (
+      arith,
+      ap length (sym c.close.ensures.acts ∙ none),
+      length-append acts (Ended c.take_input-end.result ∷ []),
+    ))
 
 pub returns-clause-few : goal.returns-clause-few
 returns-clause-few g c =

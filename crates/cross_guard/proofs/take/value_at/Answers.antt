@@ -1,6 +1,5 @@
 -- The row at the place has its collars in order.
-use Rattle.std.proofs.Common.{◌≡◌, ◌≤◌, sym, subst, ◌∙◌, ap}
-use Rattle.std.specs.List.{slice_index_or}
+use Rattle.std.proofs.Common.{◌≡◌, ◌≤◌, sym, subst}
 use Rattle.limit_table.specs.declared.kind.SymbolRow.{SymbolRow}
 use Rattle.cross_guard.specs.Levels.{value_of_order}
 use Rattle.cross_guard.proofs.Bands.{held_band}

@@ -1,5 +1,5 @@
 -- The order was kept, asked about, and sent or taken back.
-use Rattle.std.proofs.Common.{sym, ◌∙◌, inl, refl}
+use Rattle.std.proofs.Common.{sym, ◌∙◌, inl}
 use Rattle.cross_guard.specs.Resting.{after_new}
 use Rattle.cross_guard.specs.Session.{order_refusal}
 use Rattle.cross_guard.proofs.Contents.{content_new_unknown, new_is}

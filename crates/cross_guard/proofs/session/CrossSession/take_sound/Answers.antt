@@ -1,5 +1,5 @@
 -- What was read of the frame was done.
-use Rattle.std.proofs.Common.{◌≡◌, ap, sym, ◌∙◌, inl}
+use Rattle.std.proofs.Common.{ap, sym, ◌∙◌, inl}
 use Rattle.std.specs.Prelude.{Ok}
 use Rattle.fix_orders.specs.declared.message.Message.{Message}
 use Rattle.cross_guard.proofs.Contents.{content_admin, content_faulty, content_other}

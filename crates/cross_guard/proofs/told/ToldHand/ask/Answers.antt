@@ -1,5 +1,5 @@
 -- The guard was asked, and what it called is told.
-use Rattle.std.proofs.Common.{◌≡◌, ◌<◌, ◌+◌, ◌-◌, ◌++◌, [], ◌∷◌, ap, sym, ◌∙◌, arith, refl, vec_len, vec_capacity}
+use Rattle.std.proofs.Common.{◌<◌, ◌+◌, ◌-◌, ◌++◌, [], ◌∷◌, ap, ◌∙◌, arith, vec_len, vec_capacity}
 use Rattle.std.proofs.lemmas.List.{append_assoc}
 use Rattle.risk_journal.specs.declared.acts.Act.TheVariants.{Post, Read}
 use Rattle.cross_guard.specs.Guarding.{calls_by, with_calls}
@@ -33,10 +33,12 @@ invariant_of-self-in-Sent g c =
     let calls = c.guard-outcome.ensures.calls
     ∙ ap (λ v. with_calls (calls_by v tree old new root) (g.H.Hand.meaning c.self.inside.hand))
     c.in-Sent.is in
-    rw (calls, c.tell_asked.ensures.items)
-    (asked _ _ _ _ step tree _ new root inside
-    (joined_capped old new c.args.value (omega (arith, low, step.capped tree)) c.requires.capped
-    c.joined-new.ensures), slot)
+    rw (calls, c.tell_asked.ensures.items) (
+      asked _ _ _ _ step tree _ new root inside
+          (joined_capped old new c.args.value (omega (arith, low, step.capped tree)) c.requires.capped
+          c.joined-new.ensures),
+      slot,
+    )
 
 pub invariant_of-self-in-Cross : goal.invariant_of-self-in-Cross
 invariant_of-self-in-Cross g c =
@@ -64,9 +66,11 @@ invariant_of-self-in-Cross g c =
     ∙ ap (λ l. l ++ Post tree (made + 2) old ∷ []) c.tell_asked-in-Cross.ensures.items
     ∙ append_assoc c.self.inside.acts.items
     (Post tree (made + 1) new ∷ Read tree root.stamp 0 root.value ∷ []) (Post tree (made + 2) old ∷ []) in
-    rw (calls, items)
-    (asked_back _ _ _ _ step tree _ _ new old root inside
-    (c.index-old.ensures ∙ index_within c.self.inside.lasts.items tree old 0 inside), slot)
+    rw (calls, items) (
+      asked_back _ _ _ _ step tree _ _ new old root inside
+          (c.index-old.ensures ∙ index_within c.self.inside.lasts.items tree old 0 inside),
+      slot,
+    )
 
 pub returns-in-Quota-clause-asked : goal.returns-in-Quota-clause-asked
 returns-in-Quota-clause-asked g c =

@@ -1,6 +1,6 @@
 -- The hand makes the post, and the act tells it.
-use Rattle.std.proofs.Common.{◌<◌, ap, arith, refl, vec_len, vec_capacity}
-use Rattle.cross_guard.proofs.ToldSteps.{left_is_left, left_same, made_is, posted}
+use Rattle.std.proofs.Common.{◌<◌, arith, refl, vec_len, vec_capacity}
+use Rattle.cross_guard.proofs.ToldSteps.{left_is_left, made_is, posted}
 use Rattle.cross_guard.proofs.told.ToldHand.post.Goals as goal
 
 pub overflow_add-index : goal.overflow_add-index
