@@ -1,12 +1,13 @@
 -- What is made of the last order that a request or a report names, by its place.
-use Rattle.std.proofs.Common.{◌≡◌, ℕ, zero, suc, List, [], ◌∷◌, ◌++◌, refl, sym, subst, arith, true, false}
+use Rattle.std.proofs.Common.{◌≡◌, ℕ, zero, suc, List, [], ◌∷◌, ◌++◌, refl, sym, ◌∙◌, subst, arith, Bool, true, false, cond}
+use Rattle.std.proofs.lemmas.Bool.{true≢false}
 use Rattle.std.specs.Prelude.{slice_set, Some, None, Result, Ok, Err, OnOk}
 use Rattle.std.specs.List.{list_any, slice_index_or}
 use Rattle.fix_orders.specs.declared.message.Replace.{Replace}
 use Rattle.cross_guard.specs.Held.{IsLast}
 use Rattle.cross_guard.specs.Resting.{RestingValue, is_open_with, is_replaced_by, after_replace}
-use Rattle.cross_guard.specs.Resting.{has_id, with_term, term_of_replace, started, symbol_with}
-use Rattle.cross_guard.proofs.Lasts.{any_at, changed_at, or-none, tail_last}
+use Rattle.cross_guard.specs.Resting.{has_id, with_last, with_term, term_of_replace, started, symbol_with}
+use Rattle.cross_guard.proofs.Lasts.{any_at, changed_at, changed_none, or-none, tail_last}
 use Rattle.cross_guard.proofs.Rested.{open-is}
 
 -- a replace adds a term to the order at its place
@@ -42,6 +43,30 @@ symbol_none id [] none = refl
 symbol_none id (order ∷ orders) none =
     let two = or-none (is_open_with id order) (list_any (is_open_with id) orders) none in
     rw (two.1, two.0) refl
+
+-- where no order has the id, nothing is made of any
+none_open : (id : List ℕ) (order : RestingValue) (orders : List RestingValue) (some here : Bool)
+    → list_any (is_open_with id) orders ≡ some → is_open_with id order ≡ here
+    → cond some (symbol_with id orders) (cond here (Some order.symbol) None) ≡ None
+    → (symbol_with id orders ≡ None → list_any (is_open_with id) orders ≡ false)
+    → (some ≡ false) × (here ≡ false)
+none_open id order orders true here some_is here_is unknown later =
+    absurd (true≢false (sym some_is ∙ later unknown))
+none_open id order orders false true some_is here_is unknown later = absurd cc
+none_open id order orders false false some_is here_is unknown later = (refl, refl)
+
+any_none : (id : List ℕ) (orders : List RestingValue) → symbol_with id orders ≡ None
+    → list_any (is_open_with id) orders ≡ false
+any_none id [] unknown = refl
+any_none id (order ∷ orders) unknown =
+    let two = none_open id order orders (list_any (is_open_with id) orders) (is_open_with id order)
+    refl refl unknown (any_none id orders) in
+    rw (two.1, two.0) refl
+
+pub unknown_same : (id : List ℕ) (change : RestingValue → RestingValue) (orders : List RestingValue)
+    → symbol_with id orders ≡ None → with_last (is_open_with id) change orders ≡ orders
+unknown_same id change orders unknown =
+    changed_none (is_open_with id) change orders (any_none id orders unknown)
 
 -- the order at that place is open
 pub open_last : (id : List ℕ) (orders : List RestingValue) (n : ℕ) (old : RestingValue)

@@ -8,3 +8,11 @@ pub mod Resting
 pub mod Held
 pub mod Session
 pub mod Covering
+pub mod Told
+pub mod Follows
+pub mod Crossing
+pub mod Answering
+pub mod Added
+pub mod Lasting
+pub mod Giving
+pub mod Ended

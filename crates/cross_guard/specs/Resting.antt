@@ -1,5 +1,5 @@
 -- The orders of a session that rest at the venue, and what frames make of them.
-use Rattle.std.specs.Prelude.{ℕ, ◌+◌, List, [], ◌∷◌, ◌++◌, map, max, fold, Bool, true, false}
+use Rattle.std.specs.Prelude.{ℕ, ◌+◌, ◌-◌, List, [], ◌∷◌, ◌++◌, length, take, map, max, fold, Bool, true, false}
 use Rattle.std.specs.Prelude.{◌&&◌, ◌==◌, not, nat_le, if◌then◌else◌, Option, Some, None}
 use Rattle.std.specs.List.{list_any, flat_map}
 use Rattle.std.specs.Str.{bytes_eq}
@@ -61,6 +61,13 @@ with_last test change (order ∷ orders) =
 abbrev pub with_term : Term → RestingValue → RestingValue
 with_term term order =
     record order { ids = order.ids ++ term.id ∷ []; terms = order.terms ++ term ∷ [] }
+
+-- without the last term, and the last id
+abbrev pub without_term : RestingValue → RestingValue
+without_term order = record order {
+  ids = take (length order.ids - 1) order.ids;
+  terms = take (length order.terms - 1) order.terms;
+}
 
 -- a further id
 abbrev pub with_id : List ℕ → RestingValue → RestingValue

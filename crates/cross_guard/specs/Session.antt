@@ -5,6 +5,7 @@ use Rattle.std.specs.Prelude.{slice_get, if◌then◌else◌}
 use Rattle.std.specs.List.{position}
 use Rattle.std.specs.Str.{bytes_eq}
 use Rattle.fix_fields.specs.Fields.{FieldValue}
+use Rattle.fix_fields.specs.Frames.{FrameValue}
 use Rattle.fix_fields.specs.Messages.{message_text}
 use Rattle.fix_orders.specs.declared.message.FieldFault.{FieldFault}
 use Rattle.fix_orders.specs.declared.message.Message.{Message}
@@ -21,6 +22,7 @@ use Rattle.limit_table.specs.Places.{symbol_names}
 use Rattle.risk_journal.specs.declared.acts.Act.{Act}
 use Rattle.risk_journal.specs.declared.acts.Act.TheVariants.{Sent, Refused}
 use Rattle.risk_journal.specs.ActLists.{SeenAt, posts_in, last_post}
+use Rattle.frame_run.specs.Frames.{text_of as frame_text}
 use Rattle.admit_core.specs.Tapes.{Tape, tape, next_read, with_post, after_posting, after_reading}
 use Rattle.limit_table.specs.Trees.{LimitsValue}
 use Rattle.cross_guard.specs.declared.guarding.CrossVerdict.{CrossVerdict}
@@ -224,3 +226,9 @@ abbrev pub after_frame : LimitsValue → List ℕ → Option (List FieldValue) �
     → CrossSession
 after_frame limits text fields session =
     record (after_content limits text fields session) { frames = session.frames + 1 }
+
+-- the session after these frames of an input
+abbrev pub after_frames : LimitsValue → List ℕ → CrossSession → List FrameValue → CrossSession
+after_frames limits input session [] = session
+after_frames limits input session (frame ∷ frames) =
+    after_frames limits input (after_frame limits (frame_text input frame) frame.fields session) frames

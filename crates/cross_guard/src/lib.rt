@@ -10,11 +10,16 @@
 #![tactic(auto)]
 
 mod cross;
+mod giving;
 mod guarding;
 mod laws;
 mod level;
 mod orders;
 mod resting;
+mod run;
+mod session;
+mod take;
+mod told;
 
 pub use cross::{Cross, HALF, PACKED};
 pub use guarding::{CrossOutcome, CrossVerdict, guard};
@@ -23,9 +28,12 @@ pub use laws::{
     clear_keeps_orders_apart, resting_orders_are_covered,
 };
 pub use level::{clear, cross_value};
-pub use orders::RestingOrders;
+pub use orders::{Added, RestingOrders};
+pub use run::{CrossDone, run_cross};
 
 #[cfg(test)]
 mod orders_tests;
+#[cfg(test)]
+mod session_tests;
 #[cfg(test)]
 mod tests;

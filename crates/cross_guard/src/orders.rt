@@ -1,10 +1,12 @@
 //! The orders of a session that may rest at the venue.
-ghost use Rattle.std.specs.Prelude.{◌≡◌, ◌≤◌, [], ◌∷◌, ◌++◌, OnOk, OnErr, IfSome, IfNone, Some, false};
+ghost use Rattle.std.specs.Prelude.{◌≡◌, ◌≤◌, List, [], ◌∷◌, ◌++◌, OnOk, OnErr, IfOk, IfSome, IfNone};
+ghost use Rattle.std.specs.Prelude.{Some, false};
 ghost use Rattle.std.specs.List.{list_any};
 ghost use Rattle.cross_guard.specs.Halves.{cross_cap};
+ghost use Rattle.cross_guard.specs.Added.{IsAdded};
 ghost use Rattle.cross_guard.specs.Held.{IsLast};
 ghost use Rattle.cross_guard.specs.Resting.{after_new, after_replace, after_cancel, after_report};
-ghost use Rattle.cross_guard.specs.Resting.{after_reject, is_open_with, is_replaced_by};
+ghost use Rattle.cross_guard.specs.Resting.{RestingValue, after_reject, is_open_with, is_replaced_by};
 ghost use Rattle.cross_guard.specs.Resting.{started, symbol_with, value_in};
 
 use crate::cross::joined;
@@ -29,6 +31,13 @@ impl Model for RestingOrders {
     ghost Value = { List RestingValue };
 
     ghost view = { λ a. a.orders.items };
+}
+
+/// How a request is kept: as the last term of the order at this place, or as the last order.
+#[derive(Clone, Copy, Debug, PartialEq, Eq)]
+pub enum Added {
+    Term(usize),
+    Order,
 }
 
 /// The place of the last order that isn't closed and has the id.
@@ -133,16 +142,18 @@ impl RestingOrders {
         start(&mut self.orders, alloc, symbol, order.side, &term)
     }
 
-    /// A replace (G) of the symbol is passed, with the value that it has. Refused, nothing changes.
+    /// A replace (G) of the symbol is passed, with the value that it has, and kept so. Refused, nothing
+    /// changes.
     pub fn replace(
         &mut self,
         alloc: Global,
         symbol: u32,
         request: &Replace,
         value: u64,
-    ) -> Result<(), Memory>
+    ) -> Result<Added, Memory>
         requires { value ≤ cross_cap }
         ensures ok { OnOk result (self.new ≡ after_replace symbol request.now value self.old) }
+        ensures added { IfOk result (λ added. IsAdded added self.old self.new) }
         ensures err { OnErr result (self.new ≡ self.old) }
     {
         let term = Term {
@@ -151,8 +162,27 @@ impl RestingOrders {
             total: request.quantity,
         };
         match last_replaced(&self.orders, symbol, request) {
-            Some(place) => self.orders[place].add_term(&term),
-            None => start(&mut self.orders, alloc, symbol, request.side, &term),
+            Some(place) => {
+                self.orders[place].add_term(&term)?;
+                Ok(Added::Term(place))
+            }
+            None => {
+                start(&mut self.orders, alloc, symbol, request.side, &term)?;
+                Ok(Added::Order)
+            }
+        }
+    }
+
+    /// What was kept last is taken back.
+    pub fn take_back(&mut self, added: Added)
+        requires { (before : List RestingValue) × IsAdded added before self.old }
+        ensures { (before : List RestingValue) → IsAdded added before self.old → self.new ≡ before }
+    {
+        match added {
+            Added::Term(place) => self.orders[place].drop_term(),
+            Added::Order => {
+                self.orders.pop();
+            }
         }
     }
 

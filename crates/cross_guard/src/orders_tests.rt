@@ -286,7 +286,7 @@ fn replaces(
     requires { row.now.low ≤ row.now.high }
 {
     let value = cross_value(row, request.side, &request.kind, request.price);
-    orders.replace(alloc, 0, request, value)?;
+    let _ = orders.replace(alloc, 0, request, value)?;
     Ok(())
 }
 

@@ -6,7 +6,7 @@ ghost use Rattle.cross_guard.specs.Halves.{cross_cap, cross_join};
 ghost use Rattle.cross_guard.specs.declared.resting.Term.{Term};
 ghost use Rattle.cross_guard.specs.Held.{IsLast};
 ghost use Rattle.cross_guard.specs.Resting.{started, has_id, is_open_with, is_term_of, with_id};
-ghost use Rattle.cross_guard.specs.Resting.{with_term, with_terms, terms_from, terms_without};
+ghost use Rattle.cross_guard.specs.Resting.{with_term, without_term, with_terms, terms_from, terms_without};
 ghost use Rattle.cross_guard.specs.Resting.{later_without, ended, is_first_id, is_none};
 ghost use Rattle.cross_guard.specs.Resting.{largest_total};
 ghost use Rattle.cross_guard.specs.Resting.{traded, reported, values_of};
@@ -237,6 +237,14 @@ impl RestingOrder {
             return Err(Memory);
         }
         Ok(())
+    }
+
+    /// Drops the last id and the last term.
+    pub(crate) fn drop_term(&mut self)
+        ensures { self.new ≡ without_term self.old }
+    {
+        self.ids.pop();
+        self.terms.pop();
     }
 
     fn close(&mut self)
