@@ -1,5 +1,5 @@
 -- The first kind of fault that applies, by what was found.
-use Rattle.std.proofs.Common.{◌≡◌, ℕ, ◌<◌, ◌≤◌, List, length, map, ◌∙◌, sym, ap, subst, arith, inl, inr, ⊎_elim, refl}
+use Rattle.std.proofs.Common.{◌≡◌, ℕ, ◌<◌, ◌≤◌, List, length, map, ◌∙◌, sym, arith, inl, inr, ⊎_elim, refl}
 use Rattle.std.specs.Prelude.{Option}
 use Rattle.std.proofs.lemmas.List.{length-map}
 use Rattle.limit_table.specs.Trees.{LimitsValue, halt_tree}
@@ -12,7 +12,7 @@ use Rattle.journal_check.specs.declared.judging.Checked.{Checked}
 use Rattle.journal_check.specs.declared.judging.Checked.TheVariants as answered
 use Rattle.journal_check.specs.Faults.{case_of, told, Kind, kind_number, IsFault, IsFirstKind, HasNoFault, IsWrongAct}
 use Rattle.journal_check.specs.Faults.Kind.{Text, Count, EndedEarly, Tree, Acts, Lines, Reads}
-use Rattle.journal_check.specs.LineFaults.{IsLineFault, IsWrongLine, AreRightTrees}
+use Rattle.journal_check.specs.LineFaults.{IsLineFault, AreRightTrees}
 use Rattle.journal_check.specs.ReadFaults.{IsWrongRead}
 use Rattle.journal_check.specs.RowFaults.{IsRowFault, HasNoRowFault}
 use Rattle.journal_check.specs.Sessions.{AreAlike, IsFirstApart}

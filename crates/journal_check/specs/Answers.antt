@@ -1,5 +1,5 @@
 -- What is said of an answer, and of the sources that come back with it.
-use Rattle.std.specs.Prelude.{◌≡◌, ℕ, ◌+◌, ◌≤◌, ◌<◌, List, length, map, Option, IsSome, ⊤, Some, slice_get}
+use Rattle.std.specs.Prelude.{◌≡◌, ℕ, ◌≤◌, List, length, Option, IsSome, ⊤, Some, slice_get}
 use Rattle.std.specs.List.{All}
 use Rattle.gate_ports.specs.Faults.{Rose}
 use Rattle.journal_check.specs.declared.judging.Checked.{Checked}

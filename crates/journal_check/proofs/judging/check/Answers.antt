@@ -1,16 +1,7 @@
 -- the text is no journal, or it is one and short
-use Rattle.std.proofs.Common.{◌≡◌, ◌≤◌, ◌<◌, ◌+◌, ◌∙◌, List, ℕ, sym, subst, ap, length, map, arith, inl, inr, refl}
-use Rattle.std.specs.Prelude.{Option}
-use Rattle.risk_board.specs.declared.hand.Line.{Line}
-use Rattle.risk_journal.specs.declared.acts.Act.{Act}
-use Rattle.screen_kit.specs.Screens.{ScreenValue}
-use Rattle.limit_table.specs.Trees.{LimitsValue}
-use Rattle.journal_check.specs.Answers.{AreTold, IfNo}
-use Rattle.journal_check.specs.Faults.{Case, case_of, IsRead, IsFirstKind, IsFirstFault}
-use Rattle.journal_check.specs.declared.judging.CheckFault.{CheckFault}
+use Rattle.std.proofs.Common.{arith, inr}
 use Rattle.journal_check.proofs.Kept.{kept}
 use Rattle.journal_check.proofs.KindOrder.{if_no_more}
-use Rattle.journal_check.proofs.Sources.{itself_back}
 use Rattle.journal_check.proofs.TextRows.{rows_within}
 use Rattle.journal_check.proofs.judging.check.Goals as goal
 

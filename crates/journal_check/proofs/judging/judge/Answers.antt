@@ -1,5 +1,5 @@
 -- a fault of the rows alone, or what the sessions and the trees say
-use Rattle.std.proofs.Common.{◌≡◌, ◌∙◌, List, ℕ, sym, subst, length, map, arith}
+use Rattle.std.proofs.Common.{◌≡◌, ℕ, subst, length, map, arith}
 use Rattle.std.proofs.lemmas.List.{length-map}
 use Rattle.limit_table.specs.Trees.{halt_tree}
 use Rattle.journal_check.specs.RowFaults.{IsRowFault, HasNoRowFault}

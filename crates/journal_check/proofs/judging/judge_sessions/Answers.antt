@@ -1,14 +1,12 @@
 -- what the sessions say, and then the trees
-use Rattle.std.proofs.Common.{◌≡◌, ◌≤◌, ◌<◌, ◌+◌, ◌^◌, ◌∙◌, List, ℕ, sym, subst, ap, length, map, arith, All}
+use Rattle.std.proofs.Common.{◌∙◌, List, ℕ, sym, subst, length, map, arith, All}
 use Rattle.std.proofs.lemmas.List.{length-map}
 use Rattle.fold_law.specs.declared.limits.TheConstants.{LEAF}
 use Rattle.limit_table.specs.Trees.{halt_tree}
-use Rattle.risk_journal.specs.JournalGrammar.{HasEnded}
 use Rattle.risk_journal.specs.declared.acts.Act.{Act}
-use Rattle.journal_check.specs.Answers.{AreTold, IfNo}
+use Rattle.journal_check.specs.Answers.{AreTold}
 use Rattle.journal_check.specs.FarRows.{IsFarRow}
 use Rattle.journal_check.specs.RowFaults.{HasNoRowFault}
-use Rattle.journal_check.specs.RowNumbers.{count_all}
 use Rattle.journal_check.specs.SameActs.{IsInTrees}
 use Rattle.journal_check.specs.Sessions.{AreAlike, IsFirstApart}
 use Rattle.journal_check.specs.Tables.{AreCapped}

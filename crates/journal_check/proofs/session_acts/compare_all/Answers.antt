@@ -1,5 +1,5 @@
 -- one session more
-use Rattle.std.proofs.Common.{◌≡◌, ◌≢◌, ◌<◌, ◌≤◌, ◌+◌, ◌++◌, ◌∙◌, [], List, ℕ, sym, subst, ap, refl, length, map, drop, arith, All}
+use Rattle.std.proofs.Common.{◌≡◌, ◌+◌, ◌++◌, ◌∙◌, [], List, sym, subst, ap, refl, length, map, arith, All}
 use Rattle.std.proofs.Common.{get_or, length-drop}
 use Rattle.std.proofs.lemmas.List.{length-map}
 use Rattle.std.specs.Prelude.{slice_get, Some}
@@ -14,7 +14,7 @@ use Rattle.journal_check.specs.Sessions.{IsAlike, AreAlike}
 use Rattle.journal_check.specs.Answers.{AreBack}
 use Rattle.journal_check.proofs.Counts.{count_next, count_own}
 use Rattle.journal_check.proofs.Kept.{kept, kept_count, kept_own, kept_at}
-use Rattle.journal_check.proofs.NextSource.{source_at, rest_left, set_is, sets_left, left_is}
+use Rattle.journal_check.proofs.NextSource.{rest_left, set_is, sets_left, left_is}
 use Rattle.journal_check.proofs.NextSource.{more_count, more_back, next_all_back, next_rose}
 use Rattle.journal_check.proofs.Sources.{all_back}
 use Rattle.journal_check.proofs.SessionSteps.{one_more, alike_as, apart_as}
