@@ -196,10 +196,14 @@ returns-in-ReadFault-clause-back g c =
 pub returns-in-ReadFault-clause-read_fault : goal.returns-in-ReadFault-clause-read_fault
 returns-in-ReadFault-clause-read_fault g c = λ is.
     let last = c.loop-session.invariant in
-    next_rose c.compare_next.ensures.next c.args.sources.items
-    (map g.K.SessionScreens.meaning c.args.screens.items)
-    c.loop-session.session last.count last.rest last.screens last.back c.in-ReadFault.is _
-    c.with_rest-in-ReadFault.ensures.sources
+    record {
+      session = c.loop-session.session;
+      rose = next_rose c.compare_next.ensures.next c.args.sources.items
+          (map g.K.SessionScreens.meaning c.args.screens.items)
+          c.loop-session.session last.count last.rest last.screens last.back c.in-ReadFault.is _
+          c.with_rest-in-ReadFault.ensures.sources;
+      earlier = last.alike;
+    }
 
 pub returns-in-Memory-clause-back : goal.returns-in-Memory-clause-back
 returns-in-Memory-clause-back g c =
