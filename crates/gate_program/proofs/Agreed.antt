@@ -26,7 +26,7 @@ use Rattle.tree_check.specs.Walked.{are_walked}
 use Rattle.tree_check.specs.declared.agreeing.ToldTree.{ToldTree}
 use Rattle.tree_check.specs.declared.read_at.ReadAt.{ReadAt}
 use Rattle.gate_program.specs.Agreeing.{AreTold, CanBeTold, IsTold}
-use Rattle.gate_program.proofs.Lists.{behind, there_still}
+use Rattle.gate_files.proofs.Lists.{behind, there_still}
 use Rattle.gate_program.proofs.Histories.{fold_below, fold_halt, no_halt_limit}
 
 -- what is known of reads in a legal history under a fold

@@ -7,17 +7,17 @@ use Rattle.std.proofs.lemmas.Option.{get_or_from_slice_get}
 use Rattle.std.specs.Prelude.{Option, Some, None, IfSome, IsSome, slice_get}
 use Rattle.std.specs.Option.{option_map}
 use Rattle.gate_ports.specs.Names.{Texts, IsThere, MeansName}
-use Rattle.gate_program.specs.declared.names.Outputs.{Outputs}
-use Rattle.gate_program.specs.declared.status.Status.{Status}
-use Rattle.gate_program.specs.declared.status.Status.TheVariants as status
-use Rattle.gate_program.specs.Early.{LeavesEmpty}
-use Rattle.gate_program.specs.Words.{RunWords, venue_name, client_name}
-use Rattle.gate_program.specs.Run.{PortsValue, session_name}
-use Rattle.gate_program.specs.Stages.{Went, IsNewSink, IsUnmade, HasUnmade, with_two}
-use Rattle.gate_program.specs.Objects.{ObjectsValue, AreFresh, AreOwn, HasCreated}
-use Rattle.gate_program.proofs.Folder.{went_on, went_nowhere, texts_more, empty_from}
-use Rattle.gate_program.proofs.Folder.{are_own_later, changes_nothing, venue_made, client_made}
-use Rattle.gate_program.proofs.Lists.{map_at, pushed_at, take_one}
+use Rattle.gate_files.specs.declared.names.Outputs.{Outputs}
+use Rattle.gate_files.specs.declared.status.Status.{Status}
+use Rattle.gate_files.specs.declared.status.Status.TheVariants as status
+use Rattle.gate_files.specs.Early.{LeavesEmpty}
+use Rattle.gate_files.specs.Words.{RunWords, venue_name, client_name}
+use Rattle.gate_files.specs.Ports.{PortsValue, session_name}
+use Rattle.gate_files.specs.Stages.{Went, IsNewSink, IsUnmade, HasUnmade, with_two}
+use Rattle.gate_files.specs.Objects.{ObjectsValue, AreFresh, AreOwn, HasCreated}
+use Rattle.gate_files.proofs.Folder.{went_on, went_nowhere, texts_more, empty_from}
+use Rattle.gate_files.proofs.Folder.{are_own_later, changes_nothing, venue_made, client_made}
+use Rattle.gate_files.proofs.Lists.{map_at, pushed_at, take_one}
 
 -- A session's outputs were made, beside an input that has no name of its own and no fault.
 pub record CreatesOne (run : RunWords) (before after : PortsValue) (session : ℕ)

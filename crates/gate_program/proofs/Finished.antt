@@ -9,23 +9,23 @@ use Rattle.risk_board.specs.declared.hand.Line.{Line}
 use Rattle.risk_journal.specs.declared.acts.Act.{Act}
 use Rattle.risk_journal.specs.declared.acts.End.{End}
 use Rattle.risk_journal.specs.JournalText.{journal_text}
-use Rattle.gate_program.specs.Words.{RunWords, venue_name, client_name, journal_name, is_among}
-use Rattle.gate_program.specs.Words.{output_names}
-use Rattle.gate_program.specs.Run.{PortsValue, Holds, WriteRose}
-use Rattle.gate_program.specs.Early.{KeepsOrFronts}
+use Rattle.gate_files.specs.Words.{RunWords, venue_name, client_name, journal_name, is_among}
+use Rattle.gate_files.specs.Words.{output_names}
+use Rattle.gate_files.specs.Ports.{PortsValue, Holds, WriteRose}
+use Rattle.gate_files.specs.Early.{KeepsOrFronts}
 use Rattle.gate_program.specs.Gate.{HasJournal}
-use Rattle.gate_program.specs.Stages.{Went, ChangesOnly}
-use Rattle.gate_program.specs.Objects.{ObjectsValue, EachHolds, ChangesOutputs, HasClosed}
+use Rattle.gate_files.specs.Stages.{Went, ChangesOnly}
+use Rattle.gate_files.specs.Objects.{ObjectsValue, EachHolds, ChangesOutputs, HasClosed}
 use Rattle.gate_program.specs.Objects.{AreWritten}
-use Rattle.gate_program.specs.Objects.{HoldsOutputs}
+use Rattle.gate_files.specs.Objects.{HoldsOutputs}
 use Rattle.gate_program.specs.Finish.{HasAnswer, HasStood, HasFinished, HasKept, IsKept}
 use Rattle.gate_program.specs.Histories.{AreLegalLines}
 use Rattle.gate_program.specs.Telling.{Teller}
 use Rattle.risk_journal.specs.ActLists.{unplaced}
-use Rattle.gate_program.proofs.Chains.{rose_from}
-use Rattle.gate_program.proofs.Early.{front_behind}
-use Rattle.gate_program.proofs.Outputs.{apart_from_all, venue_isnt_journal, client_isnt_journal}
-use Rattle.gate_program.proofs.Folder.{causes_later}
+use Rattle.gate_files.proofs.Chains.{rose_from}
+use Rattle.gate_files.proofs.Early.{front_behind}
+use Rattle.gate_files.proofs.OutputNames.{apart_from_all, venue_isnt_journal, client_isnt_journal}
+use Rattle.gate_files.proofs.Folder.{causes_later}
 
 -- the journal was written or refused, and this comes of it
 pub stood : (tell : Teller) (name : List ℕ) (before after : PortsValue) (acts : List (List Act))

@@ -16,7 +16,8 @@ use Rattle.risk_journal.specs.declared.totals.SessionTotal.{SessionTotal}
 use Rattle.risk_journal.proofs.RowLists.{numbered_push}
 use Rattle.trail_replay.specs.Reads.{list_below}
 use Rattle.trail_replay.proofs.ReplayedTrees.{all_below}
-use Rattle.gate_program.specs.Pieces.{bytes_in, joined, HasRows, IsWritten}
+use Rattle.gate_program.specs.Pieces.{bytes_in, HasRows, IsWritten}
+use Rattle.gate_files.specs.Joined.{joined}
 use Rattle.gate_program.specs.Totals.{session_totals, total_at, IsCountable}
 use Rattle.gate_program.proofs.TotalLists.{session_pushed}
 

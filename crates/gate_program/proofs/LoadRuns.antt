@@ -15,24 +15,24 @@ use Rattle.make_load.specs.LoadLimits.{load_limits}
 use Rattle.make_load.specs.Loads.{limit_text, session_texts}
 use Rattle.make_load.specs.declared.summary.Asked.{Asked}
 use Rattle.screen_kit.specs.Screens.{ScreenValue}
-use Rattle.gate_program.specs.declared.names.Outputs.{Outputs}
-use Rattle.gate_program.specs.declared.status.Status.{Status}
-use Rattle.gate_program.specs.declared.status.Status.TheVariants as status
-use Rattle.gate_program.specs.CommandOf.{IsAsked}
+use Rattle.gate_files.specs.declared.names.Outputs.{Outputs}
+use Rattle.gate_files.specs.declared.status.Status.{Status}
+use Rattle.gate_files.specs.declared.status.Status.TheVariants as status
+use Rattle.gate_files.specs.CommandOf.{IsAsked}
 use Rattle.gate_program.specs.Loads.{HasLoadLimits, LoadWent, counts_of, input_of, load_folder}
 use Rattle.gate_program.specs.Loads.{load_run}
-use Rattle.gate_program.specs.Names.{AreNames}
+use Rattle.gate_files.specs.Names.{AreNames}
 use Rattle.gate_program.specs.Finish.{HasEnded}
-use Rattle.gate_program.specs.Objects.{ObjectsValue, HasCreated}
+use Rattle.gate_files.specs.Objects.{ObjectsValue, HasCreated}
 use Rattle.gate_program.specs.Telling.{told_of}
 use Rattle.gate_program.specs.declared.told.Told.{Told}
 use Rattle.gate_program.specs.declared.told.Told.TheVariants as told
 use Rattle.gate_program.specs.Run.{set_of}
-use Rattle.gate_program.specs.Stages.{GivesNoLimits, HasUnmade}
-use Rattle.gate_program.specs.Statuses.{number_of, told_text}
-use Rattle.gate_program.specs.Words.{RunWords, session_most, venue_name}
-use Rattle.gate_program.proofs.Early.{others_left}
-use Rattle.gate_program.proofs.Lists.{map_at, mapped_at}
+use Rattle.gate_files.specs.Stages.{GivesNoLimits, HasUnmade}
+use Rattle.gate_files.specs.Statuses.{number_of, told_text}
+use Rattle.gate_files.specs.Words.{RunWords, session_most, venue_name}
+use Rattle.gate_files.proofs.Early.{others_left}
+use Rattle.gate_files.proofs.Lists.{map_at, mapped_at}
 use Rattle.gate_program.proofs.Histories.{AdmissionLaws}
 use Rattle.gate_program.proofs.Made.{FilesLaw, load_went}
 use Rattle.gate_program.proofs.Ran.{silent, shown}

@@ -4,7 +4,7 @@ use Rattle.std.specs.Prelude.{Option, ◌⊎◌}
 use Rattle.gate_ports.specs.Names.{Texts}
 use Rattle.make_load.specs.declared.summary.Asked.{Asked}
 use Rattle.session_engine.specs.Session.{armed_for}
-use Rattle.gate_program.specs.Gate.{IsTold}
+use Rattle.gate_files.specs.Told.{IsTold}
 use Rattle.gate_program.specs.Loads.{LoadWent, input_of, load_run}
 use Rattle.gate_program.proofs.Ran.{shown}
 use Rattle.gate_program.proofs.Ways.{beside, end_beside, journal_beside, told_so}

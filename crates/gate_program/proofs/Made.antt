@@ -19,17 +19,19 @@ use Rattle.screen_kit.specs.Screens.{ScreenValue}
 use Rattle.session_engine.specs.Follows.{FollowsSource}
 use Rattle.session_engine.specs.Session.{armed_for}
 use Rattle.gate_program.specs.declared.told.Told.TheVariants as told
-use Rattle.gate_program.specs.CommandOf.{IsAsked}
+use Rattle.gate_files.specs.CommandOf.{IsAsked}
 use Rattle.gate_program.specs.Finish.{HasEnded}
 use Rattle.gate_program.specs.Loads.{HasLoadLimits, HasMade, LoadWent, counts_of, input_of}
 use Rattle.gate_program.specs.Loads.{load_run}
-use Rattle.gate_program.specs.Objects.{ObjectsValue, HasCreated, HasDone}
-use Rattle.gate_program.specs.Run.{EndHolds, is_cut_short, is_memory, is_read_fault}
+use Rattle.gate_files.specs.Objects.{ObjectsValue, HasCreated}
+use Rattle.gate_program.specs.Objects.{HasDone}
+use Rattle.gate_program.specs.Run.{EndHolds}
+use Rattle.gate_files.specs.Standing.{is_cut_short, is_memory, is_read_fault}
 use Rattle.gate_program.specs.Run.{set_of}
 use Rattle.gate_program.specs.Telling.{told_of}
 use Rattle.gate_program.specs.WholeInputs.{IsWholeInput}
 use Rattle.gate_program.proofs.Histories.{is_history, AdmissionLaws}
-use Rattle.gate_program.proofs.Lists.{there_is}
+use Rattle.gate_files.proofs.Lists.{there_is}
 use Rattle.gate_program.proofs.Ran.{silent, shown, told_bytes, session_holds, keeps_others, goes_on}
 use Rattle.gate_program.proofs.Ran.{journal_from}
 use Rattle.gate_program.proofs.Ways.{memory_or_run}

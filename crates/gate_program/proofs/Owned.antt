@@ -7,10 +7,11 @@ use Rattle.limit_table.specs.declared.limits.Limits.{Limits}
 use Rattle.risk_journal.specs.declared.acts.Act.{Act}
 use Rattle.risk_journal.specs.declared.acts.End.{End}
 use Rattle.screen_kit.specs.Screens.{ScreenValue}
-use Rattle.gate_program.specs.Words.{RunWords}
-use Rattle.gate_program.specs.Stages.{IsOwn}
-use Rattle.gate_program.specs.Objects.{ObjectsValue, EachOwn, HaveDone}
-use Rattle.gate_program.proofs.Lists.{there_is}
+use Rattle.gate_files.specs.Words.{RunWords}
+use Rattle.gate_files.specs.Stages.{IsOwn}
+use Rattle.gate_files.specs.Objects.{ObjectsValue, EachOwn}
+use Rattle.gate_program.specs.Objects.{HaveDone}
+use Rattle.gate_files.proofs.Lists.{there_is}
 
 own_still : (told : Option Texts) (name : List ℕ) (before after : Option (List ℕ))
     → after ≡ before → IsOwn told name before → IsOwn told name after

@@ -17,12 +17,14 @@ use Rattle.session_engine.specs.Follows.{SinkValue}
 use Rattle.session_engine.specs.Follows.{FollowsSource, FollowsInput, IsByInput, StopsSource}
 use Rattle.session_engine.specs.Follows.{EndsAs, EndsWith}
 use Rattle.session_engine.specs.Session.{armed_for}
-use Rattle.gate_program.specs.Objects.{ObjectsValue, HasDone, HaveDone, AreCounts, venue_of, client_of}
+use Rattle.gate_files.specs.Objects.{ObjectsValue, AreCounts}
+use Rattle.gate_program.specs.Objects.{HasDone, HaveDone, venue_of, client_of}
 use Rattle.gate_program.specs.Telling.{Teller}
-use Rattle.gate_program.specs.Words.{RunWords}
-use Rattle.gate_program.specs.Run.{PortsValue, set_of}
+use Rattle.gate_files.specs.Words.{RunWords}
+use Rattle.gate_files.specs.Ports.{PortsValue}
+use Rattle.gate_program.specs.Run.{set_of}
 use Rattle.gate_program.specs.Finish.{HasEnded, HasKept}
-use Rattle.gate_program.proofs.Lists.{map_at, mapped_at}
+use Rattle.gate_files.proofs.Lists.{map_at, mapped_at}
 
 -- what follows from an input doesn't know the places of reads
 pub record PlacesLaw : Type 0 where

@@ -19,24 +19,30 @@ use Rattle.std.specs.Io.KnownBytes.{Consumes}
 use Rattle.session_engine.specs.Follows.{IsByInput, FollowsSource, FollowsInput, EndsAs, EndsWith}
 use Rattle.session_engine.specs.Follows.{StopsEarly, StopsSource}
 use Rattle.session_engine.specs.Session.{armed_for}
-use Rattle.gate_program.specs.Words.{RunWords, venue_name, client_name, journal_name, is_among}
-use Rattle.gate_program.specs.Words.{output_names}
-use Rattle.gate_program.specs.Run.{PortsValue, ReadRose, WriteRose, OutputRose, EndHolds, is_memory}
-use Rattle.gate_program.specs.Run.{standing_of}
-use Rattle.gate_program.specs.Run.{FollowsText, StopsText, session_name, set_of}
-use Rattle.gate_program.specs.Gate.{HasRun, HasJournal, AreInputs, HasCounted}
+use Rattle.gate_files.specs.Words.{RunWords, venue_name, client_name, journal_name, is_among}
+use Rattle.gate_files.specs.Words.{output_names}
+use Rattle.gate_files.specs.Ports.{PortsValue, ReadRose, WriteRose, OutputRose}
+use Rattle.gate_program.specs.Run.{EndHolds}
+use Rattle.gate_files.specs.Standing.{is_memory}
+use Rattle.gate_files.specs.Standing.{standing_of}
+use Rattle.gate_program.specs.Run.{FollowsText, StopsText, set_of}
+use Rattle.gate_files.specs.Ports.{session_name}
+use Rattle.gate_program.specs.Gate.{HasRun, HasJournal, AreInputs}
+use Rattle.gate_files.specs.Stops.{HasCounted}
 use Rattle.gate_program.specs.Totals.{totals_of}
-use Rattle.gate_program.specs.Objects.{ObjectsValue, AreNew, AreFresh, ChangesOutputs, HasDone}
-use Rattle.gate_program.specs.Objects.{HasOpened, HasCreated, venue_of, client_of}
+use Rattle.gate_files.specs.Objects.{ObjectsValue, AreNew, AreFresh, ChangesOutputs}
+use Rattle.gate_program.specs.Objects.{HasDone}
+use Rattle.gate_files.specs.Objects.{HasOpened, HasCreated}
+use Rattle.gate_program.specs.Objects.{venue_of, client_of}
 use Rattle.gate_program.specs.Telling.{Teller}
-use Rattle.gate_program.specs.Objects.{HoldsOutputs}
+use Rattle.gate_files.specs.Objects.{HoldsOutputs}
 use Rattle.gate_program.specs.Finish.{HasEnded}
-use Rattle.gate_program.proofs.Folder.{created}
-use Rattle.gate_program.proofs.Chains.{rose_from, rose_is_some}
-use Rattle.gate_program.proofs.Early.{holds_appended, front_behind}
+use Rattle.gate_files.proofs.Folder.{created}
+use Rattle.gate_files.proofs.Chains.{rose_from, rose_is_some}
+use Rattle.gate_files.proofs.Early.{holds_appended, front_behind}
 use Rattle.gate_program.proofs.Histories.{is_history, AdmissionLaws}
-use Rattle.gate_program.proofs.Lists.{mapped_at, there_is}
-use Rattle.gate_program.proofs.Outputs.{apart_from_all}
+use Rattle.gate_files.proofs.Lists.{mapped_at, there_is}
+use Rattle.gate_files.proofs.OutputNames.{apart_from_all}
 
 -- a folder beside a standard output that got this text
 abbrev pub shown : Option Texts → (List ℕ → ℕ) → (List ℕ → ℕ) → List ℕ → PortsValue

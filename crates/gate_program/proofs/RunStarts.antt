@@ -5,8 +5,8 @@ use Rattle.std.proofs.lemmas.Bool.Decides.{nat_tests}
 use Rattle.std.specs.Prelude.{IsTrue, nat_le, not}
 use Rattle.std.specs.List.{list_all, list_any}
 use Rattle.screen_kit.specs.Screens.{ScreenValue}
-use Rattle.gate_program.specs.Words.{RunWords, are_distinct, is_among, is_run, is_word}
-use Rattle.gate_program.specs.Words.{output_names, session_most}
+use Rattle.gate_files.specs.Words.{RunWords, are_distinct, is_among, is_run, is_word}
+use Rattle.gate_files.specs.Words.{output_names, session_most}
 use Rattle.gate_program.specs.Run.{set_of}
 use Rattle.gate_program.proofs.TasksBack.{first_sets, mapped_twice}
 

@@ -4,7 +4,7 @@ use Rattle.std.proofs.Common.{Vec, Global}
 use Rattle.std.proofs.lemmas.List.{map-append}
 use Rattle.std.proofs.lemmas.List.Sums.{sum_by_push}
 use Rattle.std.specs.Prelude.{Some, slice_get, sum_by}
-use Rattle.gate_program.proofs.Lists.{take_one}
+use Rattle.gate_files.proofs.Lists.{take_one}
 
 -- one list more adds what it comes to
 pub sum_more : {X : Type 0} (f : List X → ℕ) (all : List (Vec X Global)) (place : ℕ)

@@ -14,9 +14,10 @@ use Rattle.node_rule.specs.Standing.{Forested}
 use Rattle.f_array.specs.Passes.{PassValue, IsSamePass, new_passes}
 use Rattle.f_array.specs.Records.{AreAllOf}
 use Rattle.f_array.proofs.NewPasses.{new_passes_are_all, same_passes_are_all}
-use Rattle.gate_program.specs.Objects.{ObjectsValue, HasDone, HaveDone}
+use Rattle.gate_files.specs.Objects.{ObjectsValue}
+use Rattle.gate_program.specs.Objects.{HasDone, HaveDone}
 use Rattle.gate_program.specs.Run.{set_of}
-use Rattle.gate_program.proofs.Lists.{map_at, mapped_at}
+use Rattle.gate_files.proofs.Lists.{map_at, mapped_at}
 
 pub zip_long : {A B : Type 0} (R : A → B → Type 0) (xs : List A) (ys : List B) → AllZip R xs ys
     → length ys ≡ length xs

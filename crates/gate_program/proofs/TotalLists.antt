@@ -18,7 +18,7 @@ use Rattle.risk_journal.specs.declared.totals.TreeTotal.{TreeTotal}
 use Rattle.limit_table.specs.Trees.{limit_of, account_limits, symbol_limits, tree_limits}
 use Rattle.gate_program.specs.Totals.{session_total, session_totals, tree_total, tree_totals_from}
 use Rattle.gate_program.specs.Totals.{or_zero, name_of, tree_names}
-use Rattle.gate_program.proofs.Lists.{take_one, map_at, there_still, behind}
+use Rattle.gate_files.proofs.Lists.{take_one, map_at, there_still, behind}
 
 -- the totals of one session more
 pub session_pushed : (ends : List End) (acts : List (List Act)) (end : End) (own : List Act)

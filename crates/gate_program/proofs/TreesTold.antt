@@ -9,7 +9,7 @@ use Rattle.trail_replay.proofs.PreparedTables.{get_or-list_below}
 use Rattle.trail_replay.specs.Reads.{list_below}
 use Rattle.tree_check.specs.declared.agreeing.ToldTree.{ToldTree}
 use Rattle.gate_program.specs.Agreeing.{AreTold, IsTold}
-use Rattle.gate_program.proofs.Lists.{pushed_at}
+use Rattle.gate_files.proofs.Lists.{pushed_at}
 use Rattle.std.proofs.lemmas.Option.{get_or_from_slice_get}
 
 -- one tree more is told

@@ -9,23 +9,26 @@ use Rattle.risk_board.specs.declared.hand.Line.{Line}
 use Rattle.risk_journal.specs.declared.acts.Act.{Act}
 use Rattle.risk_journal.specs.declared.acts.End.{End}
 use Rattle.risk_journal.specs.declared.acts.End.TheVariants as ending
-use Rattle.gate_program.specs.declared.status.Status.{Status}
-use Rattle.gate_program.specs.declared.status.Status.TheVariants as status
+use Rattle.gate_files.specs.declared.status.Status.{Status}
+use Rattle.gate_files.specs.declared.status.Status.TheVariants as status
 use Rattle.limit_table.specs.declared.limits.Limits.{Limits}
 use Rattle.screen_kit.specs.Screens.{ScreenValue}
 use Rattle.session_engine.specs.Session.{armed_for}
-use Rattle.gate_program.specs.Words.{RunWords, Command, journal_name}
-use Rattle.gate_program.specs.Run.{PortsValue, EndHolds, StopsText, set_of, is_memory, standing_of}
+use Rattle.gate_files.specs.Words.{RunWords, Command, journal_name}
+use Rattle.gate_files.specs.Ports.{PortsValue}
+use Rattle.gate_program.specs.Run.{EndHolds, StopsText, set_of}
+use Rattle.gate_files.specs.Standing.{is_memory, standing_of}
 use Rattle.gate_program.specs.Commands.{CommandWent}
-use Rattle.gate_program.specs.Gate.{RunWent, SessionsWent, HasCounted, HasJournal, HasLimits}
-use Rattle.gate_program.specs.Gate.{IsTold}
-use Rattle.gate_program.specs.Stages.{Went, HasLimitsFault, HasUnopened}
-use Rattle.gate_program.specs.Objects.{ObjectsValue, HasOpened}
+use Rattle.gate_program.specs.Gate.{RunWent, SessionsWent, HasJournal}
+use Rattle.gate_files.specs.Stops.{HasCounted, HasLimits}
+use Rattle.gate_files.specs.Told.{IsTold}
+use Rattle.gate_files.specs.Stages.{Went, HasLimitsFault, HasUnopened}
+use Rattle.gate_files.specs.Objects.{ObjectsValue, HasOpened}
 use Rattle.gate_program.specs.Finish.{HasEnded}
-use Rattle.gate_program.specs.Statuses.{number_of, told_text}
+use Rattle.gate_files.specs.Statuses.{number_of, told_text}
 use Rattle.gate_program.specs.Totals.{totals_of}
-use Rattle.gate_program.proofs.Chains.{rose_from, zero_stands}
-use Rattle.gate_program.proofs.Early.{others_left}
+use Rattle.gate_files.proofs.Chains.{rose_from, zero_stands}
+use Rattle.gate_files.proofs.Early.{others_left}
 use Rattle.gate_program.proofs.Histories.{AdmissionLaws}
 use Rattle.gate_program.proofs.Ran.{silent, shown, has_run, stops_from}
 

@@ -26,17 +26,21 @@ use Rattle.risk_journal.specs.declared.acts.End.TheVariants as ending
 use Rattle.screen_kit.specs.Screens.{ScreenValue}
 use Rattle.session_engine.specs.Session.{armed_for}
 use Rattle.session_engine.specs.Follows.{EndsBy, input_most}
-use Rattle.gate_program.specs.Words.{RunWords, Command}
-use Rattle.gate_program.specs.Run.{PortsValue, EndHolds, FollowsText, session_name, is_memory}
+use Rattle.gate_files.specs.Words.{RunWords, Command}
+use Rattle.gate_files.specs.Ports.{PortsValue, session_name}
+use Rattle.gate_program.specs.Run.{EndHolds, FollowsText}
+use Rattle.gate_files.specs.Standing.{is_memory}
 use Rattle.gate_program.specs.Run.{set_of}
-use Rattle.gate_program.specs.Run.{is_write_fault, is_read_fault, is_cut_short, standing_of}
-use Rattle.gate_program.specs.Run.{OutputRose}
+use Rattle.gate_files.specs.Standing.{is_write_fault, is_read_fault, is_cut_short, standing_of}
+use Rattle.gate_files.specs.Ports.{OutputRose}
 use Rattle.gate_program.specs.Commands.{CommandWent, GateRun}
 use Rattle.gate_program.specs.Gate.{AreInputs, HasJournal, HasRun}
-use Rattle.gate_program.specs.Gate.{IsRefused, RunWent, Tells}
+use Rattle.gate_files.specs.Stops.{IsRefused}
+use Rattle.gate_program.specs.Gate.{RunWent}
+use Rattle.gate_files.specs.Told.{Tells}
 use Rattle.gate_program.specs.WholeInputs.{IsWholeInput, AreWholeTexts, HasNoFault}
 use Rattle.gate_program.specs.WholeInputs.{HasWholeInputs}
-use Rattle.gate_program.proofs.Lists.{map_at, mapped_at, there_is}
+use Rattle.gate_files.proofs.Lists.{map_at, mapped_at, there_is}
 use Rattle.std.proofs.lemmas.Bool.{or_parts}
 
 -- a frame that stands there is found there

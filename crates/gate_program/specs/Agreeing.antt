@@ -8,7 +8,7 @@ use Rattle.tree_check.specs.Reads.{reads_by}
 use Rattle.tree_check.specs.declared.agreeing.ToldTree.{ToldTree}
 use Rattle.gate_program.specs.Histories.{AreLegalLines}
 use Rattle.gate_program.specs.Totals.{HaveTotals}
-use Rattle.gate_program.specs.Words.{session_most}
+use Rattle.gate_files.specs.Words.{session_most}
 
 -- a tree of a journal: its lines, the reads of all sessions in it, and its limit
 pub record IsTold (limits : Limits) (acts : List (List Act)) (lines : List (List Line)) (tree : ℕ)

@@ -1,11 +1,12 @@
 -- What a call of the gate did, by its words.
 use Rattle.std.specs.Prelude.{◌≡◌, ℕ, List, Option, Some, None, ◌⊎◌}
 use Rattle.screen_kit.specs.Screens.{ScreenValue}
-use Rattle.gate_program.specs.Gate.{HasNoForm, RunWent}
+use Rattle.gate_files.specs.Stops.{HasNoForm}
+use Rattle.gate_program.specs.Gate.{RunWent}
 use Rattle.gate_program.specs.Loads.{LoadWent}
-use Rattle.gate_program.specs.Run.{PortsValue}
-use Rattle.gate_program.specs.Words.{Command, command_of}
-use Rattle.gate_program.specs.Words.Command.{Run, Make}
+use Rattle.gate_files.specs.Ports.{PortsValue}
+use Rattle.gate_files.specs.Words.{Command, command_of}
+use Rattle.gate_files.specs.Words.Command.{Run, Make}
 
 -- the way of a command
 abbrev pub CommandWent : List (List ℕ) → Option Command → List (List ScreenValue) → PortsValue

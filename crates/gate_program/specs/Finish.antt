@@ -7,15 +7,17 @@ use Rattle.risk_journal.specs.declared.acts.End.{End}
 use Rattle.risk_journal.specs.ActLists.{unplaced}
 use Rattle.risk_journal.specs.JournalText.{journal_text}
 use Rattle.screen_kit.specs.Screens.{ScreenValue}
-use Rattle.gate_program.specs.Words.{RunWords}
-use Rattle.gate_program.specs.Run.{PortsValue, Holds, WriteRose, standing_of}
-use Rattle.gate_program.specs.Early.{KeepsOrFronts}
+use Rattle.gate_files.specs.Words.{RunWords}
+use Rattle.gate_files.specs.Ports.{PortsValue, Holds, WriteRose}
+use Rattle.gate_files.specs.Standing.{standing_of}
+use Rattle.gate_files.specs.Early.{KeepsOrFronts}
 use Rattle.gate_program.specs.Gate.{HasJournal}
 use Rattle.gate_program.specs.Telling.{Teller}
-use Rattle.gate_program.specs.Stages.{ChangesOnly}
+use Rattle.gate_files.specs.Stages.{ChangesOnly}
 use Rattle.gate_program.specs.Histories.{AreLegalLines}
-use Rattle.gate_program.specs.Objects.{ObjectsValue, HaveDone, AreCounts, AreWritten}
-use Rattle.gate_program.specs.Objects.{EachHasCauses}
+use Rattle.gate_files.specs.Objects.{ObjectsValue, AreCounts}
+use Rattle.gate_program.specs.Objects.{HaveDone, AreWritten}
+use Rattle.gate_files.specs.Objects.{EachHasCauses}
 
 -- the status that stands is by the ends and by whether the journal was refused, and has its text
 pub record HasAnswer (tell : Teller) (acts : List (List Act)) (ends : List End)

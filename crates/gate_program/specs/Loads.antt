@@ -13,12 +13,16 @@ use Rattle.risk_journal.specs.declared.acts.Act.{Act}
 use Rattle.risk_journal.specs.declared.acts.End.{End}
 use Rattle.session_engine.specs.Session.{armed_for}
 use Rattle.gate_program.specs.declared.told.Told.TheVariants as told
-use Rattle.gate_program.specs.Early.{LeavesEmpty}
-use Rattle.gate_program.specs.Gate.{HasJournal, KeepsOthers, Tells, write_fault_text}
-use Rattle.gate_program.specs.Run.{PortsValue, EndHolds, IsHistory, OutputRose, is_cut_short}
-use Rattle.gate_program.specs.Run.{is_memory, is_read_fault, standing_of}
+use Rattle.gate_files.specs.Early.{LeavesEmpty}
+use Rattle.gate_program.specs.Gate.{HasJournal}
+use Rattle.gate_files.specs.Stops.{KeepsOthers}
+use Rattle.gate_files.specs.Told.{Tells, write_fault_text}
+use Rattle.gate_files.specs.Ports.{PortsValue, OutputRose}
+use Rattle.gate_program.specs.Run.{EndHolds, IsHistory}
+use Rattle.gate_files.specs.Standing.{is_cut_short}
+use Rattle.gate_files.specs.Standing.{is_memory, is_read_fault, standing_of}
 use Rattle.gate_program.specs.Telling.{told_of}
-use Rattle.gate_program.specs.Words.{RunWords, venue_name}
+use Rattle.gate_files.specs.Words.{RunWords, venue_name}
 
 -- the folder of a load's outputs
 abbrev pub load_folder : List ℕ

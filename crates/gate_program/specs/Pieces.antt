@@ -1,11 +1,6 @@
 -- The journal in pieces: its first row, the rows of each session, and those of each tree.
 use Rattle.std.specs.Prelude.{◌≡◌, ℕ, List, [], Result, Ok, Err, Vec, slice_index_or}
 use Rattle.std.specs.Global.{Global}
-use Rattle.std.specs.List.{flat_map}
-
--- the bytes of pieces, one after another
-abbrev pub joined : List (Vec ℕ Global) → List ℕ
-joined pieces = flat_map (λ piece. piece.items) pieces
 
 -- the piece was written
 abbrev pub IsWritten : {E : Type 0} → Result (Vec ℕ Global) E → Type 0

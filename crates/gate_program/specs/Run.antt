@@ -1,10 +1,8 @@
 -- What the sessions of a run did together, and what is left of it in a folder and on standard
 -- output.
-use Rattle.std.specs.Prelude.{◌≡◌, ℕ, List, [], length, map, Option, Some, IfSome, slice_get}
-use Rattle.std.specs.Prelude.{Bool, true, false, ◌++◌, ◌⊎◌, ◌||◌, if◌then◌else◌}
-use Rattle.std.specs.List.{list_any, slice_index_or}
-use Rattle.gate_ports.specs.Faults.{Rose}
-use Rattle.gate_ports.specs.Names.{Texts}
+use Rattle.std.specs.Prelude.{◌≡◌, ℕ, List, [], length, map, Some, IfSome, slice_get}
+use Rattle.std.specs.Prelude.{◌++◌}
+use Rattle.std.specs.List.{slice_index_or}
 use Rattle.risk_board.specs.declared.hand.Line.{Line}
 use Rattle.risk_board.specs.History.{IsLegal, components_of}
 use Rattle.risk_journal.specs.declared.acts.Act.{Act}
@@ -14,39 +12,10 @@ use Rattle.limit_table.specs.declared.limits.Limits.{Limits}
 use Rattle.limit_table.specs.Trees.{tree_count, fold_of, limit_of}
 use Rattle.risk_journal.specs.ActLists.{events_of}
 use Rattle.session_engine.specs.Admitted.{AdmitsOwn, StaysWithin}
-use Rattle.gate_program.specs.Words.{RunWords, venue_name, client_name}
+use Rattle.gate_files.specs.Words.{RunWords, venue_name, client_name}
 use Rattle.screen_kit.specs.Screens.{ScreenValue}
 use Rattle.session_engine.specs.Follows.{EndsWith, FollowsInput, StopsEarly}
-
--- a folder and standard output at a moment: texts and counts of faults by name, where they are told
-pub record PortsValue : Type 0 where
-  pub texts : Option Texts
-  pub read_faults : List ℕ → ℕ
-  pub write_faults : List ℕ → ℕ
-  pub held : Option (List ℕ)
-  pub out_faults : ℕ
-
--- the name's text is this, where the folder tells its texts
-abbrev pub Holds : Option Texts → List ℕ → List ℕ → Type 0
-Holds told name text = IfSome told (λ texts. texts name ≡ Some text)
-
--- a failed read of the name in this call
-abbrev pub ReadRose : PortsValue → PortsValue → List ℕ → Type 0
-ReadRose before after name = Rose (before.read_faults name) (after.read_faults name)
-
--- a failed write of the name in this call
-abbrev pub WriteRose : PortsValue → PortsValue → List ℕ → Type 0
-WriteRose before after name = Rose (before.write_faults name) (after.write_faults name)
-
--- a failed write of one of a session's outputs in this call
-abbrev pub OutputRose : PortsValue → PortsValue → RunWords → ℕ → Type 0
-OutputRose before after run session =
-    WriteRose before after (venue_name run.out session)
-    ⊎ WriteRose before after (client_name run.out session)
-
--- the name of a session's input
-abbrev pub session_name : RunWords → ℕ → List ℕ
-session_name run session = slice_index_or run.sessions session []
+use Rattle.gate_files.specs.Ports.{PortsValue, ReadRose, WriteRose, OutputRose, session_name}
 
 -- the screens of a session: the set in its place
 abbrev pub set_of : List (List ScreenValue) → ℕ → List ScreenValue
@@ -109,31 +78,3 @@ pub record IsHistory (limits : Limits) (acts : List (List Act)) (lines : List (L
   pub admits : (tree : ℕ) (own : List Line) → slice_get lines tree ≡ Some own
       → IfSome (limit_of limits tree)
       (λ limit. AdmitsOwn limit own (map (events_of tree) acts))
-
-abbrev pub is_memory : End → Bool
-is_memory ending.Memory = true
-is_memory other = false
-
-abbrev pub is_write_fault : End → Bool
-is_write_fault ending.WriteFault = true
-is_write_fault other = false
-
-abbrev pub is_read_fault : End → Bool
-is_read_fault ending.ReadFault = true
-is_read_fault other = false
-
--- the input ends within a frame, or stands there no frame, or one too long
-abbrev pub is_cut_short : End → Bool
-is_cut_short (ending.Cut place) = true
-is_cut_short (ending.Broken place) = true
-is_cut_short (ending.TooLong place) = true
-is_cut_short other = false
-
--- The status after the sessions, by their ends and by whether the journal could not be written: the
--- first of 8, 6, 5, 4 and 0 that applies.
-abbrev pub standing_of : List End → Bool → ℕ
-standing_of ends refused =
-    if list_any is_memory ends then 8
-    else (if refused || list_any is_write_fault ends then 6
-    else (if list_any is_read_fault ends then 5
-    else (if list_any is_cut_short ends then 4 else 0)))

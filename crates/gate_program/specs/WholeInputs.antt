@@ -8,9 +8,9 @@ use Rattle.gate_ports.specs.Names.{Texts}
 use Rattle.limit_table.specs.Files.{IsLimitFile}
 use Rattle.limit_table.specs.declared.limits.Limits.{Limits}
 use Rattle.session_engine.specs.Follows.{input_most}
-use Rattle.gate_program.specs.Words.{RunWords, command_of}
-use Rattle.gate_program.specs.Words.Command.{Run}
-use Rattle.gate_program.specs.Run.{PortsValue, session_name}
+use Rattle.gate_files.specs.Words.{RunWords, command_of}
+use Rattle.gate_files.specs.Words.Command.{Run}
+use Rattle.gate_files.specs.Ports.{PortsValue, session_name}
 
 -- no more bytes than an input has, and frames up to their end
 pub record IsWholeInput (bytes : List ℕ) : Type 0 where

@@ -3,7 +3,7 @@ ghost use Rattle.std.specs.Prelude.{◌≡◌, ℕ, ◌⊎◌, List};
 ghost use Rattle.screen_kit.specs.Screens.{ScreenValue};
 ghost use Rattle.gate_program.specs.WholeInputs.{HasWholeInputs};
 ghost use Rattle.gate_program.specs.Commands.{GateRun};
-ghost use Rattle.gate_program.specs.Run.{PortsValue};
+ghost use Rattle.gate_files.specs.Ports.{PortsValue};
 
 /// A run over a limit file and inputs that are whole frames, in which nothing failed that was read
 /// or written, ends with 0, unless memory was wanting, whatever its screens are.

@@ -3,13 +3,14 @@ ghost use Rattle.std.specs.Prelude.{◌≡◌, ◌^◌, ◌≤◌, ◌<◌, [], 
 ghost use Rattle.std.specs.List.{AllByRecursion};
 ghost use Rattle.f_array.specs.Passes.{new_passes};
 ghost use Rattle.gate_program.specs.Forests.{AreOpened, HaveRun};
-ghost use Rattle.gate_program.specs.Objects.{objects_of, HaveDone};
+ghost use Rattle.gate_files.specs.Objects.{objects_of};
+ghost use Rattle.gate_program.specs.Objects.{HaveDone};
 ghost use Rattle.gate_program.specs.Room.{HasNone, HasSpare};
 
 use crate::forests::{Forests, Passes};
-use crate::open::Opened;
 use crate::tasks::{Task, TaskDone, opened_of, run_tasks};
 use fold_law::Memory;
+use gate_files::Opened;
 use gate_ports::{Gate, Sink, Source};
 use limit_table::Limits;
 use risk_journal::{Act, End};

@@ -1,74 +1,26 @@
 //! The journal of a run, and what comes of the run behind it.
 ghost use Rattle.std.specs.Prelude.{◌≡◌, ◌^◌, ◌<◌, ◌≤◌, ◌⊎◌, length, map, All, string_bytes};
-ghost use Rattle.std.specs.Prelude.{OnOk, OnErr, IsErrOf};
-ghost use Rattle.std.specs.Io.KnownBytes.{Appends};
-ghost use Rattle.gate_program.specs.CommandOf.{run_value};
+ghost use Rattle.gate_files.specs.CommandOf.{run_value};
 ghost use Rattle.gate_program.specs.Finish.{HasAnswer, HasStood, HasFinished};
 ghost use Rattle.gate_program.specs.Histories.{AreLegalLines};
 ghost use Rattle.gate_program.specs.Telling.{told_of};
 ghost use Rattle.gate_program.specs.Totals.{HaveTotals};
-ghost use Rattle.gate_program.specs.Names.{AreNames};
-ghost use Rattle.gate_ports.specs.Bytes.{AppendsFront};
-ghost use Rattle.gate_ports.specs.Faults.{HasCause};
-ghost use Rattle.gate_program.specs.Early.{KeepsOrFronts};
-ghost use Rattle.gate_program.specs.Objects.{objects_of, EachOwn};
-ghost use Rattle.gate_program.specs.Pieces.{joined};
-ghost use Rattle.gate_program.specs.Run.{Holds, WriteRose};
-ghost use Rattle.gate_program.specs.Stages.{folder_of, Went, ChangesOnly};
-ghost use Rattle.gate_program.specs.Statuses.{answer_number, answer_text};
-ghost use Rattle.gate_program.specs.Words.{journal_name, session_most};
+ghost use Rattle.gate_files.specs.Names.{AreNames};
+ghost use Rattle.gate_files.specs.Objects.{objects_of, EachOwn};
+ghost use Rattle.gate_files.specs.Stages.{folder_of, Went};
+ghost use Rattle.gate_files.specs.Statuses.{answer_number, answer_text};
+ghost use Rattle.gate_files.specs.Words.{journal_name, session_most};
 
-use crate::close::close_sessions;
-use crate::inputs::Inputs;
-use crate::names::Names;
-use crate::open::Opened;
 use crate::pieces::journal_pieces;
-use crate::status::{Answer, Status, standing};
 use crate::summary::text_after;
 use crate::told::Told;
-use crate::words::Run;
 use fold_law::Memory;
-use gate_ports::{Folder, PortFault, Sink, give_all};
+use gate_files::{Answer, Inputs, Names, Opened, Run, Status, close_sessions, standing, write_file};
+use gate_ports::{Folder, PortFault};
 use limit_table::Limits;
 use risk_journal::{End, Journal};
 use std::alloc::Global;
 use std::thread::Threads;
-
-/// Gives pieces, one after another. Where the sink refuses it holds a front of them.
-fn give_pieces<S: Sink>(sink: &mut S, pieces: &[Vec<u8>]) -> Result<(), PortFault>
-    ensures ok { OnOk result (Appends (S.held sink.old) (S.held sink.new) (joined pieces.now)) }
-    ensures err { OnErr result
-        (AppendsFront (S.held sink.old) (S.held sink.new) (joined pieces.now)) }
-    ensures cause { HasCause (S.faults sink.old) (S.faults sink.new)
-        (IsErrOf result PortFault.Failed) }
-    ensures name { S.name sink.new ≡ S.name sink.old }
-{
-    for piece in pieces {
-        give_all(sink, piece)?;
-    }
-    Ok(())
-}
-
-/// Creates a name, gives it these pieces and closes it.
-fn write_file<D: Folder>(name: &str, pieces: &[Vec<u8>], folder: &mut D) -> Result<(), PortFault>
-    ensures went { Went (folder_of D.texts D.read_faults D.write_faults folder.old)
-        (folder_of D.texts D.read_faults D.write_faults folder.new) }
-    ensures ok { OnOk result (Holds (D.texts folder.new) name.now (joined pieces.now)) }
-    ensures err { OnErr result
-        (KeepsOrFronts (D.texts folder.old) (D.texts folder.new) name.now (joined pieces.now)) }
-    ensures others { ChangesOnly (D.texts folder.old) (D.texts folder.new) name.now }
-    ensures cause { IsErrOf result PortFault.Failed
-        → WriteRose (folder_of D.texts D.read_faults D.write_faults folder.old)
-        (folder_of D.texts D.read_faults D.write_faults folder.new) name.now }
-{
-    let mut output = match folder.create(name) {
-        Ok(output) => output,
-        Err(fault) => return Err(fault),
-    };
-    let given = give_pieces(&mut output, pieces);
-    folder.close(name, output);
-    given
-}
 
 /// What comes of a run whose sessions have ended. `refused` says whether its journal could not be
 /// written.

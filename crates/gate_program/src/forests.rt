@@ -3,7 +3,7 @@
 ghost use Rattle.std.specs.Prelude.{◌≡◌, ◌≤◌, IfOk};
 ghost use Rattle.f_array.specs.Records.{AreAllOf};
 ghost use Rattle.gate_program.specs.Forests.{AreBack, AreNew, AreOpened, HasClosed, HaveClosed};
-ghost use Rattle.gate_program.specs.Words.{session_most};
+ghost use Rattle.gate_files.specs.Words.{session_most};
 
 use f_array::{Forest, Keeper, Pass, Record};
 use fold_law::{Fold, Max, Memory, Sum};

@@ -1,20 +1,15 @@
 //! The sessions of a load: their names, their inputs, which are in memory, and their outputs.
 ghost use Rattle.std.specs.Prelude.{◌≡◌, ◌+◌, ◌<◌, ◌≤◌, [], IfOk, IfErr, Some, length, map, replicate};
 ghost use Rattle.std.specs.Prelude.{string_bytes};
-ghost use Rattle.gate_program.specs.CommandOf.{run_value};
-ghost use Rattle.gate_program.specs.Names.{AreNames};
-ghost use Rattle.gate_program.specs.Objects.{objects_of, HasCreated};
-ghost use Rattle.gate_program.specs.Stages.{folder_of, HasUnmade};
-ghost use Rattle.gate_program.specs.Words.{session_most, venue_name};
+ghost use Rattle.gate_files.specs.CommandOf.{run_value};
+ghost use Rattle.gate_files.specs.Names.{AreNames};
+ghost use Rattle.gate_files.specs.Objects.{objects_of, HasCreated};
+ghost use Rattle.gate_files.specs.Stages.{folder_of, HasUnmade};
+ghost use Rattle.gate_files.specs.Words.{session_most, venue_name};
 ghost use Rattle.gate_ports.specs.Objects.{SureState};
 
-use crate::close::close_sessions;
-use crate::inputs::Sure;
-use crate::names::Outputs;
-use crate::open::{Opened, create_outputs};
-use crate::status::Status;
-use crate::words::Run;
 use fold_law::{Memory, SESSIONS};
+use gate_files::{Opened, Outputs, Run, Status, Sure, close_sessions, create_outputs};
 use gate_ports::{Folder, SureSource};
 use screen_kit::Screen;
 use std::alloc::Global;

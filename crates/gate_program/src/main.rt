@@ -3,7 +3,6 @@
 #![tactic(auto)]
 
 mod agreeing;
-mod close;
 mod command;
 mod completeness;
 mod ended;
@@ -13,20 +12,14 @@ mod finish;
 mod forests;
 #[cfg(test)]
 mod hostile_rows;
-mod inputs;
-#[cfg(test)]
-mod leaf_tests;
-mod limits;
 mod load;
 mod make;
 #[cfg(test)]
 mod make_tests;
 #[cfg(test)]
 mod many_tests;
-mod names;
 #[cfg(test)]
 mod net_rows;
-mod open;
 #[cfg(test)]
 mod order_rows;
 mod pieces;
@@ -40,12 +33,10 @@ mod rows;
 #[cfg(test)]
 mod screen_tests;
 mod sets;
-mod status;
 mod summary;
 #[cfg(test)]
 mod task_tests;
 mod tasks;
-mod tell;
 #[cfg(test)]
 mod test_gates;
 #[cfg(test)]
@@ -56,14 +47,13 @@ mod told;
 mod totals;
 #[cfg(test)]
 mod turn_rows;
-mod words;
 
 pub use command::gate;
 pub use completeness::whole_inputs_are_done;
 use fold_law::Memory;
 use gate_ports::{OpenGate, RealFolder, RealOut};
+use gate_files::Status;
 use sets::gate_with_screens;
-use status::Status;
 use std::alloc::Global;
 use std::env;
 use std::io::ErrorKind;

@@ -3,21 +3,18 @@ ghost use Rattle.std.specs.Prelude.{◌≡◌, ◌*◌, ◌⊎◌, ◌≤◌, []
 ghost use Rattle.std.specs.List.{AllByRecursion};
 ghost use Rattle.make_load.specs.Loads.{session_texts};
 ghost use Rattle.make_load.specs.declared.load.Load.{Load};
-ghost use Rattle.gate_program.specs.CommandOf.{IsAsked};
+ghost use Rattle.gate_files.specs.CommandOf.{IsAsked};
 ghost use Rattle.gate_program.specs.Loads.{counts_of, HasLoadLimits, LoadWent};
-ghost use Rattle.gate_program.specs.Stages.{folder_with};
-ghost use Rattle.gate_program.specs.Statuses.{answer_number, answer_text};
-ghost use Rattle.gate_program.specs.Words.{session_most};
+ghost use Rattle.gate_files.specs.Stages.{folder_with};
+ghost use Rattle.gate_files.specs.Statuses.{answer_number, answer_text};
+ghost use Rattle.gate_files.specs.Words.{session_most};
 ghost use Rattle.gate_program.specs.declared.told.Told.TheVariants as told_as;
 
 use crate::command::{ready_for, run_opened};
-use crate::inputs::Sure;
-use crate::limits::limits_from;
 use crate::load::{create_sessions, input_names, no_screens};
-use crate::status::{Answer, Status};
 use crate::told::Told;
-use crate::words::Run;
 use fold_law::Memory;
+use gate_files::{Answer, Run, Status, Sure, limits_from};
 use gate_ports::{Folder, Gate};
 use limit_table::Limits;
 use make_load::{Asked, Counts, load_limits_are_a_file, loads_are_whole, make_load};

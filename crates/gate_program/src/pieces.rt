@@ -5,8 +5,9 @@ ghost use Rattle.std.specs.List.{AllZip, AllByRecursion, flat_map};
 ghost use Rattle.risk_journal.specs.JournalText.{header_text, journal_text, session_text};
 ghost use Rattle.risk_journal.specs.JournalText.{tree_text};
 ghost use Rattle.trail_replay.specs.Reads.{list_below};
-ghost use Rattle.gate_program.specs.Pieces.{bytes_in, joined, HasRows, IsWritten};
-ghost use Rattle.gate_program.specs.Words.{session_most};
+ghost use Rattle.gate_program.specs.Pieces.{bytes_in, HasRows, IsWritten};
+ghost use Rattle.gate_files.specs.Joined.{joined};
+ghost use Rattle.gate_files.specs.Words.{session_most};
 
 use fold_law::Memory;
 use fork_all::map_all;

@@ -1,7 +1,7 @@
 //! Runs of the gate over a folder in memory as rows of tables: what goes in, and every byte of what
 //! comes out. Bytes have a bar for SOH; BodyLength and CheckSum of a frame are made here.
 ghost use Rattle.std.specs.Prelude.{◌≡◌, ◌<◌, length, IfOk};
-ghost use Rattle.gate_program.specs.Words.{session_most};
+ghost use Rattle.gate_files.specs.Words.{session_most};
 
 use fold_law::SESSIONS;
 use gate_ports::{Folder, MemFolder, MemSink};

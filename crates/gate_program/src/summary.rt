@@ -1,16 +1,16 @@
 //! The text that is told of sessions that have ended.
 ghost use Rattle.std.specs.Prelude.{◌≡◌, ◌^◌, ◌*◌, ◌≤◌, ◌<◌, length, map, All, IfOk, count_by};
 ghost use Rattle.gate_program.specs.Histories.{AreLegalLines};
-ghost use Rattle.gate_program.specs.Statuses.{number_of};
+ghost use Rattle.gate_files.specs.Statuses.{number_of};
 ghost use Rattle.gate_program.specs.Telling.{is_read, reads_of, told_of};
 ghost use Rattle.gate_program.specs.Totals.{HaveTotals};
-ghost use Rattle.gate_program.specs.Words.{session_most};
+ghost use Rattle.gate_files.specs.Words.{session_most};
 
 use crate::agreeing::compare_trees;
-use crate::status::Status;
 use crate::told::Told;
 use crate::totals::totals_text;
 use fold_law::Memory;
+use gate_files::Status;
 use limit_table::Limits;
 use make_load::{Counts, summary_text};
 use risk_journal::{Act, End, Journal};

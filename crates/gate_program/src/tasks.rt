@@ -3,13 +3,14 @@ ghost use Rattle.std.specs.Prelude.{◌≡◌, ◌^◌, ◌<◌, ◌≤◌, [], 
 ghost use Rattle.std.specs.Prelude.{vec_capacity};
 ghost use Rattle.std.specs.List.{AllZip, AllByRecursion};
 ghost use Rattle.gate_program.specs.Forests.{AreReady, HaveMade};
-ghost use Rattle.gate_program.specs.Objects.{objects_of, HasDone};
+ghost use Rattle.gate_files.specs.Objects.{objects_of};
+ghost use Rattle.gate_program.specs.Objects.{HasDone};
 
 use crate::forests::{Forests, Passes};
-use crate::open::{Opened, Sinks};
 use f_array::{Forest, Pass, TreeHand};
 use fold_law::{Max, Sum};
 use fork_all::map_all;
+use gate_files::{Opened, Sinks};
 use gate_ports::{Gate, Sink, Source};
 use limit_table::Limits;
 use risk_journal::{Act, End};

@@ -4,15 +4,15 @@ ghost use Rattle.std.specs.List.{AllByRecursion};
 ghost use Rattle.risk_board.specs.History.{array_after};
 ghost use Rattle.limit_table.specs.Trees.{halt_tree, fold_of, limit_of};
 ghost use Rattle.gate_program.specs.Totals.{HasTotal, HaveTotals};
-ghost use Rattle.gate_program.specs.Statuses.{number_of};
+ghost use Rattle.gate_files.specs.Statuses.{number_of};
 ghost use Rattle.gate_program.specs.Totals.{is_sent, is_refused, is_noted, session_total};
 ghost use Rattle.gate_program.specs.Totals.{session_totals, total_at, IsCountable, kind_of, name_of, or_zero, tree_total};
 ghost use Rattle.gate_program.specs.Totals.{tree_totals_from, totals_of};
-ghost use Rattle.gate_program.specs.Words.{session_most};
+ghost use Rattle.gate_files.specs.Words.{session_most};
 
-use crate::status::Status;
 use fold_law::{Max, Memory, Sum, whole};
 use fork_all::map_all;
+use gate_files::Status;
 use limit_table::Limits;
 use risk_board::{Line, components};
 use risk_journal::{

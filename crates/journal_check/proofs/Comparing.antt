@@ -1,8 +1,7 @@
 -- What a comparison with a run says of the acts that were compared.
-use Rattle.std.proofs.Common.{◌≡◌, ℕ, ◌+◌, ◌-◌, ◌<◌, List, [], ◌∷◌, length, map, length-append}
-use Rattle.std.proofs.Common.{sym, ap, ◌∙◌, subst, arith, min}
+use Rattle.std.proofs.Common.{◌≡◌, ℕ, ◌<◌, List, [], ◌∷◌, length, length-append}
+use Rattle.std.proofs.Common.{ap, ◌∙◌, subst, arith}
 use Rattle.std.specs.Prelude.{Option, Some, None, IfSome, All}
-use Rattle.gate_ports.specs.Faults.{Rose}
 use Rattle.frame_run.specs.Ends.{IsByInput}
 use Rattle.limit_table.specs.Trees.{LimitsValue, halt_tree}
 use Rattle.risk_journal.specs.ActLists.{calls_below, calls_at}
@@ -16,7 +15,7 @@ use Rattle.fold_law.specs.declared.limits.TheConstants.{LEAF}
 use Rattle.journal_check.specs.declared.replay.Likeness.{Likeness}
 use Rattle.journal_check.specs.declared.replay.Likeness.TheVariants as likeness
 use Rattle.journal_check.specs.Replays.{AreScripted, CallsByScripts, DifferBy, IsComparedBy}
-use Rattle.journal_check.specs.SameActs.{AreSame, DifferFirst, IsInTrees}
+use Rattle.journal_check.specs.SameActs.{AreSame, IsInTrees}
 use Rattle.journal_check.specs.Script.{ScriptValue, answers_in}
 use Rattle.journal_check.specs.PostBounds.{PostsAtMost}
 use Rattle.journal_check.specs.SessionActs.{IsOwnSession, DiffersAt}

@@ -1,7 +1,7 @@
 -- How many items the first lists have together.
-use Rattle.std.proofs.Common.{◌≡◌, ℕ, zero, suc, ◌+◌, ◌<◌, ◌≤◌, List, [], ◌∷◌, ◌++◌, length, take, map}
-use Rattle.std.proofs.Common.{refl, ap, sym, ◌∙◌, arith, get_or, ⊎_elim}
-use Rattle.std.specs.Prelude.{slice_get, Some, sum_by}
+use Rattle.std.proofs.Common.{◌≡◌, ℕ, zero, suc, ◌+◌, ◌<◌, ◌≤◌, List, [], ◌∷◌, length, take}
+use Rattle.std.proofs.Common.{ap, sym, ◌∙◌, arith, get_or, ⊎_elim}
+use Rattle.std.specs.Prelude.{slice_get, Some}
 use Rattle.std.proofs.lemmas.List.{take_more, take_all, get_or_past}
 use Rattle.std.proofs.lemmas.List.Sums.{sum_by-cons, sum_by_push}
 use Rattle.std.proofs.lemmas.Option.{slice_get_within, slice_get-get_or}

@@ -1,6 +1,6 @@
 -- The first row that is of a tree above the last.
-use Rattle.std.proofs.Common.{◌≡◌, ◌≢◌, ℕ, ◌+◌, ◌<◌, ◌≤◌, List, [], length, take, ap, sym, subst, ◌∙◌, arith}
-use Rattle.std.proofs.Common.{⊎_elim, inl, inr, get_or, ◌⊎◌}
+use Rattle.std.proofs.Common.{◌≡◌, ◌≢◌, ℕ, ◌+◌, ◌<◌, ◌≤◌, List, [], length, take, ap, arith}
+use Rattle.std.proofs.Common.{⊎_elim, inl, inr, get_or}
 use Rattle.std.specs.Prelude.{slice_get, Some}
 use Rattle.std.proofs.lemmas.Option.{slice_get_within, slice_get-get_or, get_or_from_slice_get}
 use Rattle.risk_board.specs.declared.hand.Line.{Line}

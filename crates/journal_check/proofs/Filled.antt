@@ -2,11 +2,11 @@
 use Rattle.std.proofs.Common.{◌≡◌, ◌≢◌, ℕ, zero, suc, ◌+◌, ◌<◌, ◌≤◌, List, [], ◌∷◌, ◌++◌, length, map}
 use Rattle.std.proofs.Common.{refl, ap, sym, subst, ◌∙◌, arith, ⊎_elim, get_or, length-append, length-set}
 use Rattle.std.proofs.Common.{get_or-set_same, get_or-set_other, cond, eq-eqb, replicate, append_assoc}
-use Rattle.std.proofs.Common.{Bool, true, false, ◌==◌, set, drop}
+use Rattle.std.proofs.Common.{true, false, ◌==◌, set, drop}
 use Rattle.std.proofs.Math.Seq.{set-append_seam, get_or-append_seam}
 use Rattle.std.proofs.lemmas.Bool.{ne_eqb}
 use Rattle.std.proofs.lemmas.List.{append-nil as append_nil, length-map, get_or-map, drop_more, drop_all}
-use Rattle.risk_board.specs.History.{posted, Event}
+use Rattle.risk_board.specs.History.{posted}
 use Rattle.risk_board.specs.History.Event.{Posted, Saw}
 use Rattle.risk_journal.specs.ActLists.{events_of}
 use Rattle.risk_journal.specs.declared.acts.Act.{Act}
@@ -16,7 +16,7 @@ use Rattle.journal_check.specs.Buckets.{TreeValue, tree_value, no_tree, empty_tr
 use Rattle.journal_check.specs.Buckets.{read_row, changed_at, with_act, with_acts, with_sessions}
 use Rattle.journal_check.specs.Buckets.{IsByTree, AreByTree}
 use Rattle.journal_check.specs.Trees.{tree_posts}
-use Rattle.journal_check.specs.ReadRows.{ReadRow, told_events, session_reads, reads_from, tree_reads}
+use Rattle.journal_check.specs.ReadRows.{ReadRow, told_events, session_reads, reads_from}
 use Rattle.journal_check.proofs.Cases.{same_or}
 
 -- what an act makes of one tree

@@ -6,7 +6,7 @@ use Rattle.std.proofs.lemmas.Option.{slice_get_within, get_or_from_slice_get}
 use Rattle.risk_journal.specs.declared.acts.Act.{Act}
 use Rattle.journal_check.specs.ActFaults.{IsFirstHas, NoneHas}
 use Rattle.journal_check.specs.Firsts.{IsFirstRow}
-use Rattle.journal_check.specs.RowNumbers.{count_all, act_row, HasAct, HasActWith}
+use Rattle.journal_check.specs.RowNumbers.{count_all, HasActWith}
 use Rattle.journal_check.proofs.Cases.{same_or, le_or_lt}
 use Rattle.journal_check.proofs.Counts.{count_later}
 

@@ -1,6 +1,5 @@
 -- Where no act is of a tree above the last, each is of one that isn't.
-use Rattle.std.proofs.Common.{◌≡◌, ℕ, ◌<◌, ◌≤◌, List, [], length, arith, ⊎_elim, get_or, All, refl, inl}
-use Rattle.std.specs.Prelude.{slice_get, Some}
+use Rattle.std.proofs.Common.{ℕ, ◌<◌, ◌≤◌, List, ⊎_elim, get_or, All, refl, inl}
 use Rattle.std.proofs.lemmas.Option.{slice_get-get_or}
 use Rattle.risk_board.specs.declared.hand.Line.{Line}
 use Rattle.risk_journal.specs.declared.acts.Act.{Act}

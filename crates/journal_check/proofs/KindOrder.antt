@@ -1,6 +1,6 @@
 -- The first kind of fault that applies, by what was found.
-use Rattle.std.proofs.Common.{◌≡◌, ℕ, ◌<◌, ◌≤◌, List, length, map, ◌∙◌, sym, ap, subst, arith, inl, inr, ⊎_elim, refl}
-use Rattle.std.specs.Prelude.{Option}
+use Rattle.std.proofs.Common.{◌≡◌, ℕ, ◌<◌, ◌≤◌, List, length, map, ◌∙◌, sym, arith, inl, inr, ⊎_elim, refl, subst}
+use Rattle.std.specs.Prelude.{Option, ⊤}
 use Rattle.std.proofs.lemmas.List.{length-map}
 use Rattle.limit_table.specs.Trees.{LimitsValue, halt_tree}
 use Rattle.risk_board.specs.declared.hand.Line.{Line}
@@ -12,7 +12,7 @@ use Rattle.journal_check.specs.declared.judging.Checked.{Checked}
 use Rattle.journal_check.specs.declared.judging.Checked.TheVariants as answered
 use Rattle.journal_check.specs.Faults.{case_of, told, Kind, kind_number, IsFault, IsFirstKind, HasNoFault, IsWrongAct}
 use Rattle.journal_check.specs.Faults.Kind.{Text, Count, EndedEarly, Tree, Acts, Lines, Reads}
-use Rattle.journal_check.specs.LineFaults.{IsLineFault, IsWrongLine, AreRightTrees}
+use Rattle.journal_check.specs.LineFaults.{IsLineFault, AreRightTrees}
 use Rattle.journal_check.specs.ReadFaults.{IsWrongRead}
 use Rattle.journal_check.specs.RowFaults.{IsRowFault, HasNoRowFault}
 use Rattle.journal_check.specs.Sessions.{AreAlike, IsFirstApart}
@@ -47,6 +47,17 @@ tree_kind last acts lines fault found = elim found as (λ f. 5 ≤ fault.kind) [
   | inl first ↦ let is = first.kind_is in omega (arith, is)
   | inr first ↦ let is = first.kind_is in omega (arith, is)
 ]
+
+-- a fault is answered
+abbrev is_no : Checked → Type 0
+is_no answered.Yes = ⊥
+is_no (answered.No fault) = ⊤
+is_no answered.ReadFault = ⊥
+is_no answered.Memory = ⊥
+
+-- no is not yes
+pub no_yes : (fault : CheckFault) → ¬ (answered.No fault ≡ answered.Yes)
+no_yes fault is = subst is_no is tt
 
 -- what is said of a fault that is answered says something else of it
 pub if_no_more : (P Q : CheckFault → Type 0) (answer : Checked) → ((fault : CheckFault) → P fault → Q fault)
@@ -119,7 +130,7 @@ module _ (limits : LimitsValue) (text : List ℕ) (left : List (Option (List ℕ
   ]
 
   module _ (rows : HasNoRowFault (length left) (halt_tree limits) acts lines) where
-    before_acts : (other : Kind) (at : ℕ) → kind_number other < 5
+    pub before_acts : (other : Kind) (at : ℕ) → kind_number other < 5
         → ¬ IsFault (case_of limits text left screens) acts lines other at
     before_acts Text at less fault = fault
     before_acts Count at less fault = fault.0 (rows.count ∙ sym sessions_are)

@@ -33,3 +33,4 @@ pub mod Sources
 pub mod InTrees
 pub mod SessionSteps
 pub mod NextSource
+pub mod OneJudgement

@@ -1,11 +1,11 @@
 -- Right lines are of the sessions, and have values that their posts may have.
-use Rattle.std.proofs.Common.{◌≡◌, ℕ, zero, suc, ◌+◌, ◌<◌, ◌≤◌, List, [], ◌∷◌, length, take, ap, sym, subst, ◌∙◌}
-use Rattle.std.proofs.Common.{arith, cond, Bool, true, false, ◌==◌, ⊎_elim, get_or, All}
+use Rattle.std.proofs.Common.{◌≡◌, ℕ, zero, suc, ◌<◌, ◌≤◌, List, [], ◌∷◌, length, take, ap, subst, ◌∙◌}
+use Rattle.std.proofs.Common.{arith, cond, true, false, ◌==◌, get_or, All}
 use Rattle.std.specs.Prelude.{slice_get, Some}
 use Rattle.std.proofs.lemmas.List.{length-map, get_or-map}
 use Rattle.std.proofs.lemmas.Option.{none-some, get_or_from_slice_get, slice_get-get_or}
 use Rattle.risk_board.specs.declared.hand.Line.{Line}
-use Rattle.risk_board.specs.History.{Event, posted, lines_of}
+use Rattle.risk_board.specs.History.{posted, lines_of}
 use Rattle.risk_board.specs.History.Event.{Posted, Saw}
 use Rattle.risk_journal.specs.ActLists.{events_of}
 use Rattle.risk_journal.specs.declared.acts.Act.{Act}

@@ -1,17 +1,16 @@
 -- The lines of all trees in order of row.
-use Rattle.std.proofs.Common.{◌≡◌, ◌≢◌, ℕ, ◌+◌, ◌<◌, ◌≤◌, List, [], length, take, ap, sym, subst, ◌∙◌, arith}
-use Rattle.std.proofs.Common.{⊎_elim, get_or}
+use Rattle.std.proofs.Common.{◌≡◌, ◌≢◌, ℕ, ◌+◌, ◌<◌, ◌≤◌, List, length, take, ap, sym, subst, arith}
+use Rattle.std.proofs.Common.{⊎_elim}
 use Rattle.std.specs.Prelude.{slice_get, Some}
-use Rattle.std.proofs.lemmas.Option.{slice_get_within, get_or_from_slice_get}
+use Rattle.std.proofs.lemmas.Option.{slice_get_within}
 use Rattle.risk_board.specs.declared.hand.Line.{Line}
-use Rattle.risk_board.specs.History.{lines_of}
 use Rattle.risk_journal.specs.declared.acts.Act.{Act}
 use Rattle.journal_check.specs.Firsts.{IsFirstRow, IsFirstWrong}
-use Rattle.journal_check.specs.LineFaults.{IsWrongLine, LacksLine, SomeLacksLine, LacksOnly}
+use Rattle.journal_check.specs.LineFaults.{IsWrongLine, SomeLacksLine, LacksOnly}
 use Rattle.journal_check.specs.declared.tree_lines.LinesFound.{LinesFound}
-use Rattle.journal_check.specs.LineFaults.{IsFoundOf, IsRightTree, AreRightTrees, EndsBefore}
+use Rattle.journal_check.specs.LineFaults.{IsFoundOf, AreRightTrees, EndsBefore}
 use Rattle.journal_check.specs.RightLines.{IsRightLine, AreRightLines, HaveAllLines}
-use Rattle.journal_check.specs.RowNumbers.{count_all, line_row}
+use Rattle.journal_check.specs.RowNumbers.{count_all}
 use Rattle.journal_check.specs.Trees.{tree_posts, tree_lines}
 use Rattle.journal_check.proofs.Cases.{same_or, le_or_lt}
 use Rattle.journal_check.proofs.Counts.{count_later}

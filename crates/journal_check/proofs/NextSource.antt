@@ -1,13 +1,13 @@
 -- What comes back when the next session was compared.
-use Rattle.std.proofs.Common.{◌≡◌, ℕ, ◌+◌, ◌<◌, ◌≤◌, List, [], ◌∷◌, ◌++◌, length, drop, ap, sym, subst, ◌∙◌, arith}
-use Rattle.std.proofs.Common.{length-append, length-drop, get_or, map}
+use Rattle.std.proofs.Common.{◌≡◌, ℕ, ◌+◌, List, [], ◌∷◌, ◌++◌, length, drop, ap, sym, subst, ◌∙◌, arith}
+use Rattle.std.proofs.Common.{length-append, get_or, map}
 use Rattle.std.specs.Prelude.{slice_get, Option, Some, None}
 use Rattle.std.proofs.lemmas.List.{get_or-map}
 use Rattle.std.proofs.lemmas.Option.{slice_get_within, get_or_from_slice_get}
 use Rattle.limit_table.specs.Trees.{LimitsValue}
 use Rattle.risk_journal.specs.declared.acts.Act.{Act}
 use Rattle.screen_kit.specs.Screens.{ScreenValue}
-use Rattle.journal_check.specs.Answers.{AreBack, SomeRose}
+use Rattle.journal_check.specs.Answers.{AreBack, RoseAt}
 use Rattle.journal_check.specs.TakingNext.{TakesNext, Waiting}
 use Rattle.journal_check.specs.declared.replay.Likeness.{Likeness}
 use Rattle.journal_check.specs.declared.replay.Likeness.TheVariants.{ReadFault}
@@ -61,9 +61,10 @@ module _ {S : Type 0} {left : S → Option (List ℕ)} {faults : S → ℕ} {nam
 
   -- and the source that failed is among them
   pub next_rose : likeness ≡ ReadFault → (all : List S) → all ≡ now.back ++ now.rest
-      → SomeRose faults sources all
+      → RoseAt faults sources all session
   next_rose failed all is =
-      subst (SomeRose faults sources)
+      subst (λ (at : ℕ). RoseAt faults sources all at) count
+      (subst (λ (l : List S). RoseAt faults sources l (length before.back))
       (sym (is ∙ ap (λ b. b ++ now.rest) next.back_is))
       (last_back faults name sources before.back now.rest next.one next.other at_count
-      (next.rose failed))
+      (next.rose failed)))

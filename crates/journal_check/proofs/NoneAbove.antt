@@ -1,12 +1,12 @@
 -- Where no act and no line is of a tree above the last, nothing is told of such a tree.
-use Rattle.std.proofs.Common.{◌≡◌, ◌≢◌, ℕ, zero, suc, ◌+◌, ◌<◌, ◌≤◌, List, [], ◌∷◌, ◌++◌, length, map, refl}
-use Rattle.std.proofs.Common.{ap, sym, ◌∙◌, arith, cond, ⊎_elim, get_or, eqb, inl, inr}
+use Rattle.std.proofs.Common.{◌≡◌, ℕ, suc, ◌+◌, ◌<◌, ◌≤◌, List, [], ◌∷◌, ◌++◌, length, refl}
+use Rattle.std.proofs.Common.{ap, ◌∙◌, arith, cond, ⊎_elim, get_or, eqb, inl, inr}
 use Rattle.std.specs.Prelude.{slice_get, Some}
 use Rattle.std.proofs.lemmas.Bool.{ne_eqb}
 use Rattle.std.proofs.lemmas.List.{get_or-map, get_or_past, length-map}
 use Rattle.std.proofs.lemmas.Option.{slice_get-get_or}
 use Rattle.risk_board.specs.declared.hand.Line.{Line}
-use Rattle.risk_board.specs.History.{Event, posted}
+use Rattle.risk_board.specs.History.{posted}
 use Rattle.risk_board.specs.History.Event.{Posted, Saw}
 use Rattle.risk_journal.specs.ActLists.{events_of}
 use Rattle.risk_journal.specs.declared.acts.Act.{Act}
@@ -15,7 +15,7 @@ use Rattle.journal_check.specs.ActFaults.{IsAbove, NoneHas}
 use Rattle.journal_check.specs.FarRows.{IsFarRow}
 use Rattle.journal_check.specs.LineFaults.{EndsBefore}
 use Rattle.journal_check.specs.RowNumbers.{act_row, line_row}
-use Rattle.journal_check.specs.ReadRows.{told_events, session_reads, reads_from, tree_reads}
+use Rattle.journal_check.specs.ReadRows.{told_events, session_reads, reads_from}
 use Rattle.journal_check.specs.Trees.{tree_events, tree_posts, tree_lines}
 use Rattle.journal_check.proofs.Cases.{le_or_lt}
 

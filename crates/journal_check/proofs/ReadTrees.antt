@@ -1,5 +1,5 @@
 -- The reads of all trees, tree by tree.
-use Rattle.std.proofs.Common.{◌≡◌, ◌≢◌, ℕ, ◌+◌, ◌<◌, ◌≤◌, List, [], length, ap, sym, subst, arith, ⊎_elim, min, ◌∙◌, eqb, eq-eqb}
+use Rattle.std.proofs.Common.{◌≡◌, ◌≢◌, ℕ, ◌+◌, ◌<◌, ◌≤◌, List, length, ap, sym, subst, arith, ⊎_elim, min, ◌∙◌, eqb, eq-eqb}
 use Rattle.std.proofs.lemmas.Bool.{ne_eqb}
 use Rattle.std.specs.Prelude.{slice_get, Option, Some, None, IfSome}
 use Rattle.std.proofs.lemmas.Option.{slice_get_within}
@@ -8,7 +8,7 @@ use Rattle.risk_board.specs.History.{components_of}
 use Rattle.risk_journal.specs.declared.acts.Act.{Act}
 use Rattle.journal_check.specs.Firsts.{IsFirstRow}
 use Rattle.journal_check.specs.LineFaults.{EndsBefore}
-use Rattle.journal_check.specs.ReadFaults.{IsRightRead, AreRightReads, IsWrongRead, IsFirstReadOf}
+use Rattle.journal_check.specs.ReadFaults.{IsRightRead, AreRightReads, IsWrongRead}
 use Rattle.journal_check.specs.ReadFaults.{IsFoundRead, IsFirstSoFar}
 use Rattle.journal_check.specs.ReadRows.{ReadRow, tree_reads}
 use Rattle.journal_check.specs.Tables.{least_of}

@@ -1,12 +1,11 @@
 -- The acts of a run over the answers of a journal's reads, and those of the session's input and of the
 -- journal's reads: where one differs first from the journal's, so does the other.
-use Rattle.std.proofs.Common.{◌≡◌, ◌≢◌, ◌⊎◌, inl, inr, ⊎_elim, ℕ, zero, suc, ◌+◌, ◌-◌, ◌≤◌, ◌<◌}
+use Rattle.std.proofs.Common.{◌≡◌, ◌⊎◌, inl, inr, ⊎_elim, ℕ, zero, suc, ◌+◌, ◌≤◌, ◌<◌}
 use Rattle.std.proofs.Common.{List, [], ◌∷◌, ◌++◌, length, map, take, drop, get_or, length-append, append_assoc}
 use Rattle.std.proofs.Common.{refl, sym, ap, ◌∙◌, subst, arith}
 use Rattle.std.proofs.lemmas.Bool.{cases_lt}
-use Rattle.std.proofs.lemmas.List.{map-append, append-nil, length-map, take-append-drop, take-map}
+use Rattle.std.proofs.lemmas.List.{map-append, length-map, take-append-drop, take-map}
 use Rattle.std.proofs.lemmas.List.{take_all, take-append-le}
-use Rattle.fix_fields.specs.Frames.{FrameValue}
 use Rattle.risk_journal.specs.ActLists.{SeenAt, reads_of, unplaced}
 use Rattle.risk_journal.specs.JournalGrammar.{HasEnded}
 use Rattle.risk_journal.specs.declared.acts.Act.{Act}
@@ -24,7 +23,7 @@ use Rattle.session_engine.proofs.PartedTapes.{parts_append}
 use Rattle.session_engine.proofs.PlacedFollows.{acts_alike, exact_acts, sees_no_place, takes_in_order}
 use Rattle.journal_check.specs.SameActs.{AreSame, DifferFirst}
 use Rattle.journal_check.specs.SessionActs.{IsSessionOf, IsOwnSession, DiffersAt}
-use Rattle.journal_check.proofs.FirstApart.{SeeAlike, DiffersToo, apart_too}
+use Rattle.journal_check.proofs.FirstApart.{SeeAlike, apart_too}
 
 -- the first of reads without their places are the first without theirs
 first_reads-unplaced : (count : ℕ) (reads : List SeenAt)

@@ -1,6 +1,6 @@
 -- A script's answers after one more call, and the counts that a hand keeps of its calls.
-use Rattle.std.proofs.Common.{◌≡◌, ◌≢◌, ℕ, ◌+◌, ◌-◌, ◌<◌, ◌≤◌, List, [], ◌∷◌, ◌++◌, length}
-use Rattle.std.proofs.Common.{refl, ap, sym, subst, ◌∙◌, arith, drop, slice_set, length-set, cond}
+use Rattle.std.proofs.Common.{◌≡◌, ◌≢◌, ℕ, ◌+◌, ◌<◌, ◌≤◌, List, [], ◌∷◌, ◌++◌, length}
+use Rattle.std.proofs.Common.{ap, sym, subst, ◌∙◌, arith, drop, slice_set, length-set, cond}
 use Rattle.std.proofs.Common.{get_or-set_same, get_or-set_other, ⊎_elim}
 use Rattle.std.specs.Prelude.{slice_index_or}
 use Rattle.std.proofs.lemmas.Bool.{cases_eq}

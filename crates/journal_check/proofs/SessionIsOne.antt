@@ -1,6 +1,6 @@
 -- An input and a list of reads give a session's acts: there are no others.
 use Rattle.std.proofs.Common.{◌≡◌, ℕ, List, [], ◌∷◌, ◌++◌, length, take, refl, sym, ap, ◌∙◌, subst, is_some}
-use Rattle.std.specs.Prelude.{Bool, true, false, nat_lt, Option}
+use Rattle.std.specs.Prelude.{Bool, true, false, nat_lt}
 use Rattle.fix_fields.specs.Frames.{FrameValue, IsFrameAt}
 use Rattle.fix_fields.specs.Found.{Finds, Splits}
 use Rattle.fix_fields.specs.declared.frame.Frame.{Frame}

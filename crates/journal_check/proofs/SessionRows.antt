@@ -1,5 +1,5 @@
 -- The acts of all sessions in order of row, against the inputs that their sources tell.
-use Rattle.std.proofs.Common.{◌≡◌, ◌≢◌, ℕ, ◌+◌, ◌<◌, ◌≤◌, List, [], length, map, take, ap, sym, subst, ◌∙◌}
+use Rattle.std.proofs.Common.{◌≡◌, ◌≢◌, ℕ, ◌+◌, ◌<◌, ◌≤◌, List, [], length, take, ap, sym, subst, ◌∙◌}
 use Rattle.std.proofs.Common.{arith, ⊎_elim, get_or, refl}
 use Rattle.std.specs.Prelude.{slice_get, Option, Some, None, IfSome, IsSome}
 use Rattle.std.proofs.lemmas.Bool.{true≢false}

@@ -1,12 +1,12 @@
 -- One session more is alike, or differs.
-use Rattle.std.proofs.Common.{◌≡◌, ◌≢◌, ℕ, ◌+◌, ◌<◌, List, [], length, arith, ⊎_elim, subst, sym, get_or, All}
+use Rattle.std.proofs.Common.{◌≡◌, ◌≢◌, ℕ, ◌+◌, ◌<◌, List, [], arith, ⊎_elim, subst, sym, get_or}
 use Rattle.std.specs.Prelude.{slice_get, Option, Some, None, IfSome}
 use Rattle.limit_table.specs.Trees.{LimitsValue}
 use Rattle.risk_journal.specs.declared.acts.Act.{Act}
 use Rattle.screen_kit.specs.Screens.{ScreenValue}
 use Rattle.session_engine.specs.Session.{armed_for}
 use Rattle.journal_check.specs.SessionActs.{IsOwnSession, DiffersAt}
-use Rattle.journal_check.specs.Sessions.{IsAlike, AreAlike}
+use Rattle.journal_check.specs.Sessions.{IsAlike}
 use Rattle.journal_check.proofs.Cases.{same_or}
 use Rattle.journal_check.proofs.FirstActs.{one_own}
 

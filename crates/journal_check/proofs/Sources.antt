@@ -1,12 +1,12 @@
 -- Sources that were taken from the front of a list, and come back one after another.
-use Rattle.std.proofs.Common.{◌≡◌, ◌≢◌, ℕ, zero, suc, ◌+◌, ◌-◌, ◌<◌, ◌≤◌, List, [], ◌∷◌, ◌++◌, length, take, drop}
+use Rattle.std.proofs.Common.{◌≡◌, ℕ, ◌+◌, ◌-◌, ◌<◌, ◌≤◌, List, [], ◌∷◌, ◌++◌, length, drop}
 use Rattle.std.proofs.Common.{refl, ap, sym, subst, ◌∙◌, arith, ⊎_elim, get_or, length-append, length-drop}
 use Rattle.std.proofs.Math.Seq.{get_or-append_seam}
 use Rattle.std.specs.Prelude.{slice_get, Option, Some}
 use Rattle.std.proofs.lemmas.List.{drop_more, get_or_append_left, get_or-append-add, get_or-drop}
 use Rattle.std.proofs.lemmas.Option.{slice_get_within, get_or_from_slice_get, slice_get-get_or}
 use Rattle.gate_ports.specs.Faults.{Rose}
-use Rattle.journal_check.specs.Answers.{IsSourceBack, AreBack, SomeRose}
+use Rattle.journal_check.specs.Answers.{IsSourceBack, AreBack, RoseAt}
 use Rattle.journal_check.proofs.Cases.{le_or_lt}
 
 -- the first of those that are left stands at the place of a session, and the others are left
@@ -109,13 +109,12 @@ module _ {S : Type 0} (faults : S → ℕ) (name : S → Option (List ℕ)) (bef
   -- the last that came back stands in its place among all
   pub last_back : (now rest : List S) (one other : S) → slice_get before (length now) ≡ Some one
       → Rose (faults one) (faults other)
-      → SomeRose faults before ((now ++ other ∷ []) ++ rest)
+      → RoseAt faults before ((now ++ other ∷ []) ++ rest) (length now)
   last_back now rest one other at rose =
       let less : length now < length (now ++ other ∷ []) = omega (arith, length-append now (other ∷ [])) in
       let inside : length now < length ((now ++ other ∷ []) ++ rest) =
       omega (arith, less, length-append (now ++ other ∷ []) rest) in
       record {
-        index = length now;
         one = one;
         other = other;
         at = at;

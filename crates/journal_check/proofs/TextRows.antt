@@ -1,12 +1,12 @@
 -- A journal has at most as many rows behind its header as its text has bytes.
-use Rattle.std.proofs.Common.{◌≡◌, ℕ, ◌+◌, ◌≤◌, ◌<◌, List, [], ◌∷◌, ◌++◌, length, ap, subst, sym, arith, length-append}
+use Rattle.std.proofs.Common.{ℕ, ◌+◌, ◌≤◌, List, [], ◌∷◌, ◌++◌, length, ap, arith, length-append}
 use Rattle.std.specs.Prelude.{codes, decimal}
 use Rattle.std.specs.List.{flat_map, enumerate_from, join_with_byte}
 use Rattle.std.proofs.lemmas.List.FromFn.{length-enumerate_from}
 use Rattle.risk_board.specs.declared.hand.Line.{Line}
 use Rattle.risk_journal.specs.JournalGrammar.{IsJournal}
 use Rattle.risk_journal.specs.JournalText.{row_text, act_cells, act_text, line_text, session_text, tree_text}
-use Rattle.risk_journal.specs.JournalText.{header_text, journal_text}
+use Rattle.risk_journal.specs.JournalText.{header_text}
 use Rattle.risk_journal.specs.declared.acts.Act.{Act}
 use Rattle.journal_check.specs.RowNumbers.{count_all}
 use Rattle.journal_check.proofs.Counts.{count-cons}

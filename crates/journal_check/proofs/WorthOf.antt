@@ -1,6 +1,6 @@
 -- What is found right is worth what a yes promises.
-use Rattle.std.proofs.Common.{◌≡◌, ℕ, ◌<◌, ◌≤◌, ◌==◌, List, length, map, ◌∙◌, sym, ap, subst, arith, cond, max}
-use Rattle.std.specs.Prelude.{Option, Some, None, IfSome, slice_get, refl}
+use Rattle.std.proofs.Common.{◌≡◌, ℕ, ◌<◌, List, length, ◌∙◌, sym, ap, subst, arith, cond, max}
+use Rattle.std.specs.Prelude.{Option, Some, None, IfSome, refl}
 use Rattle.std.proofs.lemmas.Bool.{ne_eqb}
 use Rattle.std.proofs.lemmas.List.{length-map}
 use Rattle.std.proofs.lemmas.Option.{slice_get_within}
@@ -12,7 +12,7 @@ use Rattle.admit_core.specs.Admitted.{StaysWithin}
 use Rattle.admit_core.proofs.Within.{legal_stays_within}
 use Rattle.std.proofs.Common.{length-append}
 use Rattle.risk_board.specs.declared.hand.Line.{Line}
-use Rattle.risk_board.specs.History.{Event, IsLegal, components_of}
+use Rattle.risk_board.specs.History.{IsLegal, components_of}
 use Rattle.risk_board.proofs.Doublings.{sessions_have_components}
 use Rattle.risk_journal.specs.ActLists.{events_of}
 use Rattle.risk_journal.specs.declared.acts.Act.{Act}

@@ -1,5 +1,5 @@
 -- What is said of an answer, and of the sources that come back with it.
-use Rattle.std.specs.Prelude.{◌≡◌, ℕ, ◌+◌, ◌≤◌, ◌<◌, List, length, map, Option, IsSome, ⊤, Some, slice_get}
+use Rattle.std.specs.Prelude.{◌≡◌, ℕ, ◌≤◌, List, length, Option, IsSome, ⊤, Some, slice_get}
 use Rattle.std.specs.List.{All}
 use Rattle.gate_ports.specs.Faults.{Rose}
 use Rattle.journal_check.specs.declared.judging.Checked.{Checked}
@@ -30,9 +30,8 @@ pub record AreBack {S : Type 0} (faults : S → ℕ) (name : S → Option (List 
   pub each : (index : ℕ) (one other : S) → slice_get before index ≡ Some one
       → slice_get now index ≡ Some other → IsSourceBack faults name one other
 
--- the faults of one of the sources rose
-pub record SomeRose {S : Type 0} (faults : S → ℕ) (before now : List S) : Type 0 where
-  pub index : ℕ
+-- the faults of the source at this index rose
+pub record RoseAt {S : Type 0} (faults : S → ℕ) (before now : List S) (index : ℕ) : Type 0 where
   pub one : S
   pub other : S
   pub at : slice_get before index ≡ Some one

@@ -1,8 +1,10 @@
 pub mod Firsts
 pub mod RowNumbers
 pub mod Trees
+pub mod Items
 pub mod SessionActs
 pub mod SameActs
+pub mod Answers
 pub mod Sessions
 pub mod PostBounds
 pub mod RightLines
@@ -15,11 +17,11 @@ pub mod TreeFaults
 pub mod ReadFaults
 pub mod Faults
 pub mod Worth
+pub mod Judging
 pub mod Agreement
 pub mod Tables
 pub mod Judged
 pub mod Buckets
-pub mod Answers
 pub mod TakingNext
 pub mod Script
 pub mod ScriptKept

@@ -1,7 +1,7 @@
 -- The lines of all trees: which is the first that isn't right, and whether a post has none.
 use Rattle.std.specs.Prelude.{◌≡◌, ℕ, ◌≤◌, ◌<◌, ◌⊎◌, List, [], length, slice_index_or}
 use Rattle.risk_board.specs.declared.hand.Line.{Line}
-use Rattle.risk_board.specs.History.{Event, lines_of}
+use Rattle.risk_board.specs.History.{lines_of}
 use Rattle.risk_journal.specs.declared.acts.Act.{Act}
 use Rattle.journal_check.specs.Firsts.{IsFirstRow, IsFirstWrong}
 use Rattle.journal_check.specs.RightLines.{IsRightLine, AreRightLines, HaveAllLines}

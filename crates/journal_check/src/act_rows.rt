@@ -1,6 +1,7 @@
 //! The first row of a journal's acts that has a fault by itself.
 ghost use Rattle.std.specs.Prelude.{◌≡◌, ℕ, ◌+◌, ◌≤◌, ◌<◌, ◌^◌, ◌↔◌, length, map, IsTrue, IfSome, None};
 ghost use Rattle.risk_journal.specs.JournalText.{end_number};
+ghost use Rattle.journal_check.specs.Items.{items_of};
 ghost use Rattle.journal_check.specs.ActFaults.{Has, IsFirstHas, NoneHas};
 ghost use Rattle.journal_check.specs.Firsts.{IsFirstRow};
 ghost use Rattle.journal_check.specs.RowNumbers.{HasActWith, count_all};
@@ -61,11 +62,11 @@ fn first_of(acts: &[Act], fault: ActFault) -> Option<usize>
 
 /// The first row of the acts with this fault.
 pub(crate) fn first_act_row(acts: &[Vec<Act>], fault: ActFault) -> Option<u32>
-    requires { 2 + count_all (map (λ own. own.items) acts.now) < 2 ^ 32 }
+    requires { 2 + count_all (items_of acts.now) < 2 ^ 32 }
     ensures found { IfSome result
-        (IsFirstRow (HasActWith (Has fault) (map (λ own. own.items) acts.now))) }
+        (IsFirstRow (HasActWith (Has fault) (items_of acts.now))) }
     ensures none { result ≡ None
-        → (row : ℕ) → ¬ HasActWith (Has fault) (map (λ own. own.items) acts.now) row }
+        → (row : ℕ) → ¬ HasActWith (Has fault) (items_of acts.now) row }
 {
     let mut row = 2;
     for own in acts {

@@ -1,5 +1,6 @@
 //! The first row of a journal that is of a tree above the last.
 ghost use Rattle.std.specs.Prelude.{◌≡◌, ℕ, ◌+◌, ◌<◌, ◌^◌, ◌↔◌, length, map, IsTrue, IfSome, None};
+ghost use Rattle.journal_check.specs.Items.{items_of};
 ghost use Rattle.journal_check.specs.FarRows.{IsFarLine, IsFarRow};
 ghost use Rattle.journal_check.specs.Firsts.{IsFirstRow};
 ghost use Rattle.journal_check.specs.RowNumbers.{count_all};
@@ -18,14 +19,14 @@ fn is_far(own: &[Line], tree: usize, last: u32) -> bool
 
 /// The row of the first line of a tree above the last.
 fn first_far_line(journal: &Journal, last: u32) -> Option<u32>
-    requires { 2 + count_all (map (λ own. own.items) journal.now.acts.items)
-        + count_all (map (λ own. own.items) journal.now.lines.items) < 2 ^ 32 }
+    requires { 2 + count_all (items_of journal.now.acts.items)
+        + count_all (items_of journal.now.lines.items) < 2 ^ 32 }
     ensures found { IfSome result
-        (IsFirstRow (IsFarLine last (map (λ own. own.items) journal.now.acts.items)
-        (map (λ own. own.items) journal.now.lines.items))) }
+        (IsFirstRow (IsFarLine last (items_of journal.now.acts.items)
+        (items_of journal.now.lines.items))) }
     ensures none { result ≡ None → (row : ℕ)
-        → ¬ IsFarLine last (map (λ own. own.items) journal.now.acts.items)
-        (map (λ own. own.items) journal.now.lines.items) row }
+        → ¬ IsFarLine last (items_of journal.now.acts.items)
+        (items_of journal.now.lines.items) row }
 {
     let mut row = 2 + acts_count(&journal.acts);
     for tree in 0..journal.lines.len() {
@@ -40,14 +41,14 @@ fn first_far_line(journal: &Journal, last: u32) -> Option<u32>
 
 /// The row of the first act or line of a tree above the last.
 pub(crate) fn first_far_row(journal: &Journal, last: u32) -> Option<u32>
-    requires { 2 + count_all (map (λ own. own.items) journal.now.acts.items)
-        + count_all (map (λ own. own.items) journal.now.lines.items) < 2 ^ 32 }
+    requires { 2 + count_all (items_of journal.now.acts.items)
+        + count_all (items_of journal.now.lines.items) < 2 ^ 32 }
     ensures found { IfSome result
-        (IsFirstRow (IsFarRow last (map (λ own. own.items) journal.now.acts.items)
-        (map (λ own. own.items) journal.now.lines.items))) }
+        (IsFirstRow (IsFarRow last (items_of journal.now.acts.items)
+        (items_of journal.now.lines.items))) }
     ensures none { result ≡ None → (row : ℕ)
-        → ¬ IsFarRow last (map (λ own. own.items) journal.now.acts.items)
-        (map (λ own. own.items) journal.now.lines.items) row }
+        → ¬ IsFarRow last (items_of journal.now.acts.items)
+        (items_of journal.now.lines.items) row }
 {
     match first_act_row(&journal.acts, ActFault::Above(last)) {
         Some(row) => Some(row),

@@ -1,16 +1,18 @@
 //! The answer to a journal, limits and the sources of its sessions.
-ghost use Rattle.std.specs.Prelude.{◌≡◌, ◌≢◌, ℕ, ◌+◌, ◌≤◌, ◌<◌, ◌^◌, List, length, map, All};
+ghost use Rattle.std.specs.Prelude.{◌≡◌, ◌≢◌, ℕ, ◌+◌, ◌≤◌, ◌<◌, ◌^◌, length, map, All};
 ghost use Rattle.fold_law.specs.declared.limits.TheConstants.{LEAF, SESSIONS};
 ghost use Rattle.limit_table.specs.Trees.{halt_tree};
-ghost use Rattle.risk_journal.specs.JournalGrammar.{IsSound};
-ghost use Rattle.journal_check.specs.Answers.{IfNo, AreTold, AreBack, SomeRose};
+ghost use Rattle.journal_check.specs.Answers.{IfNo, AreBack};
 ghost use Rattle.journal_check.specs.FarRows.{IsFarRow};
-ghost use Rattle.journal_check.specs.Faults.{case_of, IsFirstFault, IsFirstKind, IsLawful, HasNoFault};
+ghost use Rattle.journal_check.specs.Faults.{case_of};
+ghost use Rattle.journal_check.specs.Items.{items_of};
+ghost use Rattle.journal_check.specs.Judging.{AreEnough, AreReadRows, IsAnswerOf, IsAnswerTo};
+ghost use Rattle.journal_check.specs.Judging.{FailsByRows, StopsAtSource};
 ghost use Rattle.journal_check.specs.RowFaults.{HasNoRowFault};
 ghost use Rattle.journal_check.specs.RowNumbers.{count_all};
+ghost use Rattle.journal_check.specs.Sessions.{FailsBehind};
 ghost use Rattle.journal_check.specs.Tables.{AreCapped};
 ghost use Rattle.journal_check.specs.TreeFaults.{IsTreeFault, AreRightAll};
-ghost use Rattle.journal_check.specs.Worth.{IsWorth, AreWorth};
 
 use crate::rows_first::first_row_fault;
 use crate::screen_sets::SessionScreens;
@@ -65,18 +67,16 @@ fn answered<S: Source>(answer: Checked, sources: Vec<S>) -> CheckDone<S>
 /// the last of them.
 fn judge_trees(alloc: Global, journal: &Journal, last: u32) -> Checked
     requires sessions { length journal.now.acts.items ≤ SESSIONS }
-    requires rows { 2 + count_all (map (λ own. own.items) journal.now.acts.items)
-        + count_all (map (λ own. own.items) journal.now.lines.items) < 2 ^ 32 }
-    requires places { All (λ own. length own < 2 ^ 32)
-        (map (λ own. own.items) journal.now.lines.items) }
-    requires capped { AreCapped LEAF (map (λ own. own.items) journal.now.acts.items) }
-    requires near { (row : ℕ) → ¬ IsFarRow last (map (λ own. own.items) journal.now.acts.items)
-        (map (λ own. own.items) journal.now.lines.items) row }
-    ensures yes { result ≡ Checked.Yes
-        → AreRightAll last (map (λ own. own.items) journal.now.acts.items)
-        (map (λ own. own.items) journal.now.lines.items) }
-    ensures no { IfNo result (IsTreeFault last (map (λ own. own.items) journal.now.acts.items)
-        (map (λ own. own.items) journal.now.lines.items)) }
+    requires rows { 2 + count_all (items_of journal.now.acts.items) + count_all (items_of
+        journal.now.lines.items) < 2 ^ 32 }
+    requires places { All (λ own. length own < 2 ^ 32) (items_of journal.now.lines.items) }
+    requires capped { AreCapped LEAF (items_of journal.now.acts.items) }
+    requires near { (row : ℕ) → ¬ IsFarRow last (items_of journal.now.acts.items) (items_of
+        journal.now.lines.items) row }
+    ensures yes { result ≡ Checked.Yes → AreRightAll last (items_of journal.now.acts.items)
+        (items_of journal.now.lines.items) }
+    ensures no { IfNo result (IsTreeFault last (items_of journal.now.acts.items) (items_of
+        journal.now.lines.items)) }
     ensures no_fault { result ≢ Checked.ReadFault }
 {
     match first_tree_fault(alloc, journal, last) {
@@ -94,32 +94,16 @@ fn judge_sessions<S: Source, K: SessionScreens>(
     sources: Vec<S>,
     screens: Vec<K>,
 ) -> CheckDone<S>
-    requires few { length sources.items ≤ SESSIONS }
-    requires screens { length sources.items ≤ length screens.items }
-    requires bytes { 2 + count_all (map (λ own. own.items) journal.now.acts.items)
-        + count_all (map (λ own. own.items) journal.now.lines.items) < 2 ^ 32 }
-    requires sound { IsSound (map (λ own. own.items) journal.now.acts.items)
-        (map (λ own. own.items) journal.now.lines.items) }
+    requires enough { AreEnough (length sources.items) (length screens.items) }
+    requires read { AreReadRows (items_of journal.now.acts.items)
+        (items_of journal.now.lines.items) }
     requires rows { HasNoRowFault (length sources.items) (halt_tree limits.now)
-        (map (λ own. own.items) journal.now.acts.items)
-        (map (λ own. own.items) journal.now.lines.items) }
-    ensures yes { result.answer ≡ Checked.Yes → AreTold (map S.left sources.items)
-        → (text : List ℕ) → HasNoFault
-        (case_of limits.now text (map S.left sources.items) (map K.meaning screens.items))
-        (map (λ own. own.items) journal.now.acts.items)
-        (map (λ own. own.items) journal.now.lines.items) }
-    ensures worth { result.answer ≡ Checked.Yes → AreTold (map S.left sources.items)
-        → (text : List ℕ) → AreWorth
-        (case_of limits.now text (map S.left sources.items) (map K.meaning screens.items))
-        (map (λ own. own.items) journal.now.acts.items)
-        (map (λ own. own.items) journal.now.lines.items) }
-    ensures no { IfNo result.answer (λ fault. (5 ≤ fault.kind → AreTold (map S.left sources.items))
-        → (text : List ℕ) → IsFirstKind
-        (case_of limits.now text (map S.left sources.items) (map K.meaning screens.items))
-        (map (λ own. own.items) journal.now.acts.items)
-        (map (λ own. own.items) journal.now.lines.items) fault.kind fault.row) }
-    ensures read_fault { result.answer ≡ Checked.ReadFault
-        → SomeRose S.faults sources.items result.sources.items }
+        (items_of journal.now.acts.items) (items_of journal.now.lines.items) }
+    ensures answer { IsAnswerOf limits.now (map S.left sources.items) (map K.meaning screens.items)
+        (items_of journal.now.acts.items) (items_of journal.now.lines.items) result.answer }
+    ensures read_fault { result.answer ≡ Checked.ReadFault → FailsBehind S.left S.faults limits.now
+        (map K.meaning screens.items) (items_of journal.now.acts.items) sources.items
+        result.sources.items }
     ensures back { AreBack S.faults S.name sources.items result.sources.items }
 {
     let done = compare_all(alloc, limits, &journal.acts, sources, screens);
@@ -142,29 +126,14 @@ fn judge<S: Source, K: SessionScreens>(
     sources: Vec<S>,
     screens: Vec<K>,
 ) -> CheckDone<S>
-    requires few { length sources.items ≤ SESSIONS }
-    requires screens { length sources.items ≤ length screens.items }
-    requires bytes { 2 + count_all (map (λ own. own.items) journal.now.acts.items)
-        + count_all (map (λ own. own.items) journal.now.lines.items) < 2 ^ 32 }
-    requires sound { IsSound (map (λ own. own.items) journal.now.acts.items)
-        (map (λ own. own.items) journal.now.lines.items) }
-    ensures yes { result.answer ≡ Checked.Yes → AreTold (map S.left sources.items)
-        → (text : List ℕ) → HasNoFault
-        (case_of limits.now text (map S.left sources.items) (map K.meaning screens.items))
-        (map (λ own. own.items) journal.now.acts.items)
-        (map (λ own. own.items) journal.now.lines.items) }
-    ensures worth { result.answer ≡ Checked.Yes → AreTold (map S.left sources.items)
-        → (text : List ℕ) → AreWorth
-        (case_of limits.now text (map S.left sources.items) (map K.meaning screens.items))
-        (map (λ own. own.items) journal.now.acts.items)
-        (map (λ own. own.items) journal.now.lines.items) }
-    ensures no { IfNo result.answer (λ fault. (5 ≤ fault.kind → AreTold (map S.left sources.items))
-        → (text : List ℕ) → IsFirstKind
-        (case_of limits.now text (map S.left sources.items) (map K.meaning screens.items))
-        (map (λ own. own.items) journal.now.acts.items)
-        (map (λ own. own.items) journal.now.lines.items) fault.kind fault.row) }
-    ensures read_fault { result.answer ≡ Checked.ReadFault
-        → SomeRose S.faults sources.items result.sources.items }
+    requires enough { AreEnough (length sources.items) (length screens.items) }
+    requires read { AreReadRows (items_of journal.now.acts.items)
+        (items_of journal.now.lines.items) }
+    ensures answer { IsAnswerOf limits.now (map S.left sources.items) (map K.meaning screens.items)
+        (items_of journal.now.acts.items) (items_of journal.now.lines.items) result.answer }
+    ensures read_fault { result.answer ≡ Checked.ReadFault → FailsByRows S.left S.faults limits.now
+        (map K.meaning screens.items) (items_of journal.now.acts.items)
+        (items_of journal.now.lines.items) sources.items result.sources.items }
     ensures back { AreBack S.faults S.name sources.items result.sources.items }
 {
     match first_row_fault(journal, sources.len(), limits.halt_tree()) {
@@ -184,18 +153,13 @@ pub fn check<S: Source>(
     requires some { 1 ≤ length sources.items }
     requires few { length sources.items ≤ SESSIONS }
     requires screens { length sources.items ≤ length screens.items }
-    ensures yes { result.answer ≡ Checked.Yes → AreTold (map S.left sources.items)
-        → IsLawful (case_of limits.now journal.now (map S.left sources.items)
-        (map (λ own. map (λ b. (Screen-box b).meaning b.value) own.items) screens.items)) }
-    ensures worth { result.answer ≡ Checked.Yes → AreTold (map S.left sources.items)
-        → IsWorth (case_of limits.now journal.now (map S.left sources.items)
-        (map (λ own. map (λ b. (Screen-box b).meaning b.value) own.items) screens.items)) }
-    ensures no { IfNo result.answer (λ fault. (5 ≤ fault.kind → AreTold (map S.left sources.items))
-        → IsFirstFault (case_of limits.now journal.now (map S.left sources.items)
+    ensures answer { IsAnswerTo (case_of limits.now journal.now (map S.left sources.items)
         (map (λ own. map (λ b. (Screen-box b).meaning b.value) own.items) screens.items))
-        fault.kind fault.row) }
+        (map S.left sources.items) result.answer }
     ensures read_fault { result.answer ≡ Checked.ReadFault
-        → SomeRose S.faults sources.items result.sources.items }
+        → StopsAtSource S.left S.faults limits.now journal.now
+        (map (λ own. map (λ b. (Screen-box b).meaning b.value) own.items) screens.items)
+        sources.items result.sources.items }
     ensures back { AreBack S.faults S.name sources.items result.sources.items }
 {
     if journal.len() > JOURNAL_MOST {

@@ -5,6 +5,7 @@ mod act_rows;
 mod agreement;
 mod far_rows;
 mod judging;
+mod laws;
 mod read_rows;
 mod replay;
 mod right_lines;
@@ -21,6 +22,7 @@ mod tree_lines;
 mod tree_reads;
 
 pub use judging::{CheckDone, CheckFault, Checked, JOURNAL_MOST, check};
+pub use laws::one_judgement_stands;
 pub use script::ScriptHand;
 
 #[cfg(test)]

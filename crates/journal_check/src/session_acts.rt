@@ -4,11 +4,12 @@ ghost use Rattle.std.specs.Prelude.{vec_len, vec_capacity};
 ghost use Rattle.fold_law.specs.declared.limits.TheConstants.{LEAF, SESSIONS};
 ghost use Rattle.limit_table.specs.Trees.{halt_tree};
 ghost use Rattle.risk_journal.specs.JournalGrammar.{HasEnded};
-ghost use Rattle.journal_check.specs.Answers.{AreBack, SomeRose};
+ghost use Rattle.journal_check.specs.Items.{items_of};
+ghost use Rattle.journal_check.specs.Answers.{AreBack};
 ghost use Rattle.journal_check.specs.RowNumbers.{count_all};
 ghost use Rattle.journal_check.specs.SameActs.{IsInTrees};
 ghost use Rattle.journal_check.specs.PostBounds.{PostsAtMost};
-ghost use Rattle.journal_check.specs.Sessions.{AreAlike, IsFirstApart};
+ghost use Rattle.journal_check.specs.Sessions.{AreAlike, IsFirstApart, FailsBehind};
 ghost use Rattle.journal_check.specs.TakingNext.{TakesNext};
 ghost use Rattle.journal_check.specs.Tables.{AreCapped};
 
@@ -118,20 +119,16 @@ pub(crate) fn compare_all<S: Source, K: SessionScreens>(
     requires count { length acts.now ≡ length sources.items }
     requires few { length sources.items ≤ SESSIONS }
     requires screens { length sources.items ≤ length screens.items }
-    requires rows { 2 + count_all (map (λ own. own.items) acts.now) < 2 ^ 32 }
-    requires ended { All HasEnded (map (λ own. own.items) acts.now) }
-    requires trees { All (λ own. All (IsInTrees (halt_tree limits.now)) own)
-        (map (λ own. own.items) acts.now) }
-    ensures alike { result.found ≡ ActsFound.Alike
-        → AreAlike limits.now (map S.left sources.items) (map K.meaning screens.items)
-        (map (λ own. own.items) acts.now) (length acts.now) }
-    ensures capped { result.found ≡ ActsFound.Alike
-        → AreCapped LEAF (map (λ own. own.items) acts.now) }
-    ensures apart { (row : ℕ) → result.found ≡ ActsFound.Apart row
-        → IsFirstApart limits.now (map S.left sources.items) (map K.meaning screens.items)
-        (map (λ own. own.items) acts.now) row }
-    ensures read_fault { result.found ≡ ActsFound.ReadFault
-        → SomeRose S.faults sources.items result.sources.items }
+    requires rows { 2 + count_all (items_of acts.now) < 2 ^ 32 }
+    requires ended { All HasEnded (items_of acts.now) }
+    requires trees { All (λ own. All (IsInTrees (halt_tree limits.now)) own) (items_of acts.now) }
+    ensures alike { result.found ≡ ActsFound.Alike → AreAlike limits.now (map S.left sources.items)
+        (map K.meaning screens.items) (items_of acts.now) (length acts.now) }
+    ensures capped { result.found ≡ ActsFound.Alike → AreCapped LEAF (items_of acts.now) }
+    ensures apart { (row : ℕ) → result.found ≡ ActsFound.Apart row → IsFirstApart limits.now (map
+        S.left sources.items) (map K.meaning screens.items) (items_of acts.now) row }
+    ensures read_fault { result.found ≡ ActsFound.ReadFault → FailsBehind S.left S.faults limits.now
+        (map K.meaning screens.items) (items_of acts.now) sources.items result.sources.items }
     ensures back { AreBack S.faults S.name sources.items result.sources.items }
 {
     let mut back = Vec::new(alloc);

@@ -3,6 +3,7 @@ ghost use Rattle.std.specs.Prelude.{◌≡◌, ◌^◌, ◌≤◌, ◌<◌, ◌�
 ghost use Rattle.std.specs.Prelude.{slice_index_or, slice_set, ◌++◌, ◌∷◌, OnOk};
 ghost use Rattle.fold_law.specs.Whole.{whole_of};
 ghost use Rattle.fold_law.specs.declared.limits.TheConstants.{SESSIONS};
+ghost use Rattle.journal_check.specs.Items.{items_of};
 ghost use Rattle.journal_check.specs.Tables.{AreValues, AreAllPlaces, ArePlaces, lines_by};
 
 use fold_law::{Fold, Memory, whole};
@@ -66,7 +67,7 @@ pub(crate) fn places_of(
     requires few { length lines.now < 2 ^ 32 }
     ensures count { IfOk result (λ places. length places.items ≡ sessions) }
     ensures places { IfOk result (λ places. AreAllPlaces lines.now (length lines.now)
-        (map (λ own. own.items) places.items)) }
+        (items_of places.items)) }
 {
     let mut places = empty_lists(alloc, sessions)?;
     let mut place = 0;

@@ -2,6 +2,7 @@
 ghost use Rattle.std.specs.Prelude.{◌≡◌, ◌+◌, ◌≤◌, ◌<◌, ◌^◌, [], length, map, replicate, IfOk, OnOk};
 ghost use Rattle.std.specs.Prelude.{slice_index_or};
 ghost use Rattle.fold_law.specs.declared.limits.TheConstants.{SESSIONS};
+ghost use Rattle.journal_check.specs.Items.{items_of};
 ghost use Rattle.journal_check.specs.Buckets.{tree_value, empty_tree, begun, changed_at, with_post};
 ghost use Rattle.journal_check.specs.Buckets.{with_read, with_act, with_acts, with_sessions, AreByTree};
 ghost use Rattle.journal_check.specs.RowNumbers.{count_all};
@@ -62,7 +63,7 @@ fn begin_session(trees: &mut [TreeActs])
 
 /// How many posts a session has made.
 fn made_by(posts: &[Vec<u64>], session: u32) -> usize
-    ensures { result ≡ length (slice_index_or (map (λ own. own.items) posts.now) session []) }
+    ensures { result ≡ length (slice_index_or (items_of posts.now) session []) }
 {
     match posts.get(session as usize) {
         Some(own) => own.len(),
@@ -171,9 +172,9 @@ fn add_acts(trees: &mut [TreeActs], session: u32, first: u32, acts: &[Act]) -> R
 /// Adds the acts of all sessions to trees in which nothing was done, the first in row 2.
 fn add_sessions(trees: &mut [TreeActs], acts: &[Vec<Act>]) -> Result<(), Memory>
     requires sessions { length acts.now ≤ SESSIONS }
-    requires rows { 2 + count_all (map (λ own. own.items) acts.now) < 2 ^ 32 }
+    requires rows { 2 + count_all (items_of acts.now) < 2 ^ 32 }
     ensures { OnOk result (map tree_value trees.new
-        ≡ with_sessions 0 2 (map tree_value trees.old) (map (λ own. own.items) acts.now)) }
+        ≡ with_sessions 0 2 (map tree_value trees.old) (items_of acts.now)) }
 {
     let mut session = 0;
     let mut row = 2;
@@ -193,9 +194,9 @@ pub(crate) fn acts_by_tree(
     acts: &[Vec<Act>],
 ) -> Result<Vec<TreeActs>, Memory>
     requires sessions { length acts.now ≤ SESSIONS }
-    requires rows { 2 + count_all (map (λ own. own.items) acts.now) < 2 ^ 32 }
+    requires rows { 2 + count_all (items_of acts.now) < 2 ^ 32 }
     ensures count { IfOk result (λ all. length all.items ≡ trees) }
-    ensures each { IfOk result (λ all. AreByTree trees (map (λ own. own.items) acts.now)
+    ensures each { IfOk result (λ all. AreByTree trees (items_of acts.now)
         (map tree_value all.items)) }
 {
     let mut all = empty_trees(alloc, trees, acts.len())?;

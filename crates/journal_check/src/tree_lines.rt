@@ -3,6 +3,7 @@ ghost use Rattle.std.specs.Prelude.{◌≡◌, ℕ, ◌+◌, ◌≤◌, ◌<◌,
 ghost use Rattle.std.specs.Prelude.{slice_index_or};
 ghost use Rattle.risk_board.specs.History.{lines_of};
 ghost use Rattle.risk_board.specs.declared.hand.Line.{Line as LineValue};
+ghost use Rattle.journal_check.specs.Items.{items_of};
 ghost use Rattle.journal_check.specs.Buckets.{tree_value, AreByTree};
 ghost use Rattle.journal_check.specs.LineFaults.{IsLineFault, IsFoundOf, AreRightTrees, EndsBefore};
 ghost use Rattle.journal_check.specs.RightLines.{CountsLines, HaveAllLines};
@@ -32,9 +33,9 @@ fn lacking(posts: &[Vec<u64>], counts: &[u32]) -> Option<usize>
     requires { length counts.now ≡ length posts.now }
     ensures found { IfSome result (λ session. (lines : List LineValue) → CountsLines counts.now lines
         → length (lines_of session lines)
-        < length (slice_index_or (map (λ own. own.items) posts.now) session [])) }
+        < length (slice_index_or (items_of posts.now) session [])) }
     ensures none { result ≡ None → (lines : List LineValue) → CountsLines counts.now lines
-        → HaveAllLines (map (λ own. own.items) posts.now) lines }
+        → HaveAllLines (items_of posts.now) lines }
 {
     for session in 0..posts.len() {
         if posts[session].len() > counts[session] as usize {
@@ -46,7 +47,7 @@ fn lacking(posts: &[Vec<u64>], counts: &[u32]) -> Option<usize>
 
 /// What the lines of a tree are, by what each session posted in it.
 fn judge_lines(alloc: Global, posts: &[Vec<u64>], lines: &[Line]) -> Result<LinesFound, Memory>
-    ensures { IfOk result (IsFoundOf (map (λ own. own.items) posts.now) lines.now) }
+    ensures { IfOk result (IsFoundOf (items_of posts.now) lines.now) }
 {
     let Ok(mut counts) = vec![in alloc; 0u32; posts.len()] else {
         return Err(Memory);
@@ -62,7 +63,7 @@ fn judge_lines(alloc: Global, posts: &[Vec<u64>], lines: &[Line]) -> Result<Line
 
 /// The lines of the tree with this number, none past the last.
 pub(crate) fn lines_in(lines: &[Vec<Line>], tree: usize) -> &[Line]
-    ensures { result.now ≡ tree_lines tree (map (λ own. own.items) lines.now) }
+    ensures { result.now ≡ tree_lines tree (items_of lines.now) }
 {
     match lines.get(tree) {
         Some(own) => own,
@@ -72,8 +73,8 @@ pub(crate) fn lines_in(lines: &[Vec<Line>], tree: usize) -> &[Line]
 
 /// How many acts all sessions have.
 pub(crate) fn acts_count(acts: &[Vec<Act>]) -> u32
-    requires { count_all (map (λ own. own.items) acts.now) < 2 ^ 32 }
-    ensures { result ≡ count_all (map (λ own. own.items) acts.now) }
+    requires { count_all (items_of acts.now) < 2 ^ 32 }
+    ensures { result ≡ count_all (items_of acts.now) }
 {
     let mut count = 0;
     for own in acts {
@@ -89,18 +90,18 @@ pub(crate) fn first_line_row(
     journal: &Journal,
     trees: &[TreeActs],
 ) -> Result<Option<u32>, Memory>
-    requires rows { 2 + count_all (map (λ own. own.items) journal.now.acts.items)
-        + count_all (map (λ own. own.items) journal.now.lines.items) < 2 ^ 32 }
-    requires trees { AreByTree (length trees.now) (map (λ own. own.items) journal.now.acts.items)
+    requires rows { 2 + count_all (items_of journal.now.acts.items)
+        + count_all (items_of journal.now.lines.items) < 2 ^ 32 }
+    requires trees { AreByTree (length trees.now) (items_of journal.now.acts.items)
         (map tree_value trees.now) }
-    requires near { EndsBefore (length trees.now) (map (λ own. own.items) journal.now.acts.items)
-        (map (λ own. own.items) journal.now.lines.items) }
+    requires near { EndsBefore (length trees.now) (items_of journal.now.acts.items)
+        (items_of journal.now.lines.items) }
     ensures found { IfOk result (λ row. IfSome row
-        (IsLineFault (map (λ own. own.items) journal.now.acts.items)
-        (map (λ own. own.items) journal.now.lines.items))) }
+        (IsLineFault (items_of journal.now.acts.items)
+        (items_of journal.now.lines.items))) }
     ensures none { IfOk result (λ row. row ≡ None
-        → AreRightTrees (map (λ own. own.items) journal.now.acts.items)
-        (map (λ own. own.items) journal.now.lines.items)) }
+        → AreRightTrees (items_of journal.now.acts.items)
+        (items_of journal.now.lines.items)) }
 {
     let mut row = 2 + acts_count(&journal.acts);
     let mut lacks = false;

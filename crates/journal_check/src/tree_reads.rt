@@ -5,6 +5,7 @@ ghost use Rattle.fold_law.specs.Sum.{sum_of};
 ghost use Rattle.fold_law.specs.Whole.{whole_of};
 ghost use Rattle.fold_law.specs.declared.limits.TheConstants.{SESSIONS, LEAF};
 ghost use Rattle.risk_board.specs.History.{components_of};
+ghost use Rattle.journal_check.specs.Items.{items_of};
 ghost use Rattle.journal_check.specs.Buckets.{tree_value, AreByTree};
 ghost use Rattle.journal_check.specs.Firsts.{IsFirstRow};
 ghost use Rattle.journal_check.specs.LineFaults.{AreRightTrees, EndsBefore};
@@ -32,7 +33,7 @@ fn first_of(
     requires { All (λ read. read.session < length places.now) reads.now }
     ensures { IfOk result (λ row. (whole : List ℕ → ℕ) (unit components : ℕ) (lines : List LineValue)
         → AreValues whole unit components lines (length lines) values.now
-        → AreAllPlaces lines (length lines) (map (λ own. own.items) places.now)
+        → AreAllPlaces lines (length lines) (items_of places.now)
         → IsFoundRead whole unit components lines reads.now row) }
 {
     match first_wrong_read(alloc, values, places, reads)? {
@@ -106,21 +107,20 @@ pub(crate) fn first_read_row(
     trees: &[TreeActs],
 ) -> Result<Option<u32>, Memory>
     requires sessions { length journal.now.acts.items ≤ SESSIONS }
-    requires capped { AreCapped LEAF (map (λ own. own.items) journal.now.acts.items) }
-    requires places { All (λ own. length own < 2 ^ 32)
-        (map (λ own. own.items) journal.now.lines.items) }
-    requires trees { AreByTree (length trees.now) (map (λ own. own.items) journal.now.acts.items)
-        (map tree_value trees.now) }
-    requires near { EndsBefore (length trees.now) (map (λ own. own.items) journal.now.acts.items)
-        (map (λ own. own.items) journal.now.lines.items) }
-    requires right { AreRightTrees (map (λ own. own.items) journal.now.acts.items)
-        (map (λ own. own.items) journal.now.lines.items) }
+    requires capped { AreCapped LEAF (items_of journal.now.acts.items) }
+    requires places { All (λ own. length own < 2 ^ 32) (items_of journal.now.lines.items) }
+    requires trees { AreByTree (length trees.now) (items_of journal.now.acts.items) (map tree_value
+        trees.now) }
+    requires near { EndsBefore (length trees.now) (items_of journal.now.acts.items) (items_of
+        journal.now.lines.items) }
+    requires right { AreRightTrees (items_of journal.now.acts.items) (items_of
+        journal.now.lines.items) }
     ensures found { (last : ℕ) → length trees.now ≡ last + 1 → IfOk result (λ row. IfSome row
-        (IsFirstRow (IsWrongRead last (map (λ own. own.items) journal.now.acts.items)
-        (map (λ own. own.items) journal.now.lines.items)))) }
-    ensures none { (last : ℕ) → length trees.now ≡ last + 1 → IfOk result (λ row. row ≡ None
-        → (tree : ℕ) → AreRightReads last (map (λ own. own.items) journal.now.acts.items)
-        (map (λ own. own.items) journal.now.lines.items) tree) }
+        (IsFirstRow (IsWrongRead last (items_of journal.now.acts.items) (items_of
+        journal.now.lines.items)))) }
+    ensures none { (last : ℕ) → length trees.now ≡ last + 1 → IfOk result (λ row. row ≡ None → (tree
+        : ℕ) → AreRightReads last (items_of journal.now.acts.items) (items_of
+        journal.now.lines.items) tree) }
 {
     let components = components(journal.acts.len() as u32);
     let mut first = None;

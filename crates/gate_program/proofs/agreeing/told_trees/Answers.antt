@@ -4,7 +4,7 @@ use Rattle.std.proofs.lemmas.List.{length-map}
 use Rattle.risk_journal.specs.declared.acts.Act.{Act}
 use Rattle.tree_check.proofs.Below.{length-below}
 use Rattle.tree_check.specs.Reads.{reads_by}
-use Rattle.gate_program.proofs.Lists.{first_left, map_at}
+use Rattle.gate_files.proofs.Lists.{first_left, map_at}
 use Rattle.gate_program.proofs.TreesTold.{below_at, one_told}
 use Rattle.gate_program.proofs.agreeing.told_trees.Goals as goal
 

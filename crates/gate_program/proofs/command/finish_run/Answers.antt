@@ -1,7 +1,7 @@
 use Rattle.std.proofs.Common.{map, ◌∙◌, arith}
 use Rattle.std.proofs.lemmas.List.{length-map}
 use Rattle.limit_table.proofs.Held.{held_accounts, held_symbols}
-use Rattle.gate_program.specs.CommandOf.{run_value}
+use Rattle.gate_files.specs.CommandOf.{run_value}
 use Rattle.gate_program.proofs.Finished.{kept}
 use Rattle.gate_program.proofs.PlacedDone.{all_few, as_many}
 use Rattle.gate_program.proofs.command.finish_run.Goals as goal

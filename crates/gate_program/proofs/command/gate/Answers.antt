@@ -1,8 +1,8 @@
 use Rattle.std.proofs.Common.{ap, sym, ◌∙◌}
 use Rattle.std.specs.Prelude.{Some}
-use Rattle.gate_program.specs.CommandOf.{command_value, run_value}
-use Rattle.gate_program.specs.Words.{Command}
-use Rattle.gate_program.specs.Words.Command.{Run}
+use Rattle.gate_files.specs.CommandOf.{command_value, run_value}
+use Rattle.gate_files.specs.Words.{Command}
+use Rattle.gate_files.specs.Words.Command.{Run}
 use Rattle.gate_program.proofs.Ways.{command_went}
 use Rattle.gate_program.proofs.command.gate.Goals as goal
 

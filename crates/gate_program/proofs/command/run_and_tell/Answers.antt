@@ -1,6 +1,6 @@
 -- A run that didn't want memory is told.
 use Rattle.std.proofs.Common.{sym, ◌∙◌}
-use Rattle.gate_program.specs.CommandOf.{run_value}
+use Rattle.gate_files.specs.CommandOf.{run_value}
 use Rattle.gate_program.proofs.Ways.{run_told}
 use Rattle.gate_program.proofs.command.run_and_tell.Goals as goal
 

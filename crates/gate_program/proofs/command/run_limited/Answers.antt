@@ -1,7 +1,7 @@
 use Rattle.std.proofs.Common.{◌∙◌, sym, string_bytes, arith}
 use Rattle.std.proofs.lemmas.List.{length-map}
-use Rattle.gate_program.specs.CommandOf.{run_value}
-use Rattle.gate_program.specs.Objects.{objects_of}
+use Rattle.gate_files.specs.CommandOf.{run_value}
+use Rattle.gate_files.specs.Objects.{objects_of}
 use Rattle.gate_program.proofs.RunStarts.{few_sessions, some_session}
 use Rattle.gate_program.proofs.Ways.{counted_as, ended_went, unopened}
 use Rattle.gate_program.proofs.command.run_limited.Goals as goal

@@ -1,9 +1,9 @@
 use Rattle.std.proofs.Common.{◌≡◌, ℕ, refl, length, map, ap, sym, ◌∙◌, subst, arith}
 use Rattle.std.proofs.lemmas.List.{length-map}
 use Rattle.f_array.proofs.NewPasses.{length-new_passes}
-use Rattle.gate_program.specs.CommandOf.{run_value}
+use Rattle.gate_files.specs.CommandOf.{run_value}
 use Rattle.gate_program.specs.Forests.{AreOpened}
-use Rattle.gate_program.specs.Objects.{objects_of, EachOwn}
+use Rattle.gate_files.specs.Objects.{objects_of, EachOwn}
 use Rattle.gate_program.proofs.Owned.{own_after}
 use Rattle.gate_program.proofs.PlacedDone.{PlacesLaw, counts_of, done_before, ended}
 use Rattle.gate_program.proofs.RunStarts.{task_sets}

@@ -1,4 +1,4 @@
-use Rattle.gate_program.specs.CommandOf.{run_value}
+use Rattle.gate_files.specs.CommandOf.{run_value}
 use Rattle.gate_program.proofs.Ways.{went_behind, no_limits_went}
 use Rattle.gate_program.proofs.command.run_words.Goals as goal
 

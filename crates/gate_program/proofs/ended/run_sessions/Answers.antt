@@ -7,7 +7,7 @@ use Rattle.limit_table.specs.Trees.{halt_tree}
 use Rattle.node_rule.specs.declared.view.Plan.{Plan}
 use Rattle.f_array.specs.Records.{AreAllOf}
 use Rattle.gate_program.specs.Forests.{AreOpened}
-use Rattle.gate_program.specs.Objects.{objects_of}
+use Rattle.gate_files.specs.Objects.{objects_of}
 use Rattle.gate_program.specs.Room.{HasSpare}
 use Rattle.limit_table.proofs.Quotas.{quota_in_range}
 use Rattle.gate_program.proofs.NewTasks.{all_ready}

@@ -1,7 +1,7 @@
 use Rattle.std.proofs.Common.{◌∙◌, sym, string_bytes}
 use Rattle.std.proofs.lemmas.List.{length-map}
-use Rattle.gate_program.specs.CommandOf.{run_value}
-use Rattle.gate_program.specs.Objects.{objects_of}
+use Rattle.gate_files.specs.CommandOf.{run_value}
+use Rattle.gate_files.specs.Objects.{objects_of}
 use Rattle.gate_program.proofs.Finished.{finished}
 use Rattle.gate_program.proofs.finish.finish.Goals as goal
 

@@ -1,8 +1,8 @@
 use Rattle.std.proofs.Common.{ap, ◌∙◌, subst, List, ℕ, true, false}
 use Rattle.std.specs.Prelude.{Err}
-use Rattle.gate_program.specs.Early.{KeepsOrFronts}
-use Rattle.gate_program.specs.Run.{Holds}
-use Rattle.gate_program.specs.Pieces.{joined}
+use Rattle.gate_files.specs.Early.{KeepsOrFronts}
+use Rattle.gate_files.specs.Ports.{Holds}
+use Rattle.gate_files.specs.Joined.{joined}
 use Rattle.gate_program.proofs.Finished.{stood}
 use Rattle.gate_program.proofs.finish.keep_journal.Goals as goal
 

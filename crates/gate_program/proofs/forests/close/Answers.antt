@@ -1,4 +1,4 @@
-use Rattle.gate_program.proofs.Results.{ok_by_three}
+use Rattle.gate_files.proofs.Results.{ok_by_three}
 use Rattle.gate_program.proofs.forests.close.Goals as goal
 
 pub returns : goal.returns

@@ -5,14 +5,14 @@ use Rattle.std.proofs.lemmas.List.{length-map, map-append}
 use Rattle.std.proofs.lemmas.Option.{slice_get_read}
 use Rattle.std.specs.Prelude.{Some, None}
 use Rattle.gate_ports.specs.Objects.{SureState}
-use Rattle.gate_program.specs.CommandOf.{run_value}
-use Rattle.gate_program.specs.Objects.{objects_of}
-use Rattle.gate_program.proofs.Early.{leaves_empty}
-use Rattle.gate_program.proofs.Folder.{each_own_later}
+use Rattle.gate_files.specs.CommandOf.{run_value}
+use Rattle.gate_files.specs.Objects.{objects_of}
+use Rattle.gate_files.proofs.Early.{leaves_empty}
+use Rattle.gate_files.proofs.Folder.{each_own_later}
 use Rattle.gate_program.proofs.Created.{creates_named, named_by_venue, next_created}
 use Rattle.gate_program.proofs.Created.{lefts_more, unmade_named}
-use Rattle.gate_program.proofs.Lists.{first_left, map_at}
-use Rattle.gate_program.proofs.Sessions.{outputs_at}
+use Rattle.gate_files.proofs.Lists.{first_left, map_at}
+use Rattle.gate_files.proofs.Sessions.{outputs_at}
 use Rattle.gate_program.proofs.load.create_sessions.Goals as goal
 
 pub close_sessions-requires-clause-few : goal.close_sessions-requires-clause-few

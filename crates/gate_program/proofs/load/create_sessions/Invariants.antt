@@ -2,9 +2,9 @@
 use Rattle.std.proofs.Common.{◌≡◌, ◌+◌, ◌-◌, ◌≤◌, map, length, take, drop}
 use Rattle.std.specs.Prelude.{vec_len, vec_capacity, Some, None}
 use Rattle.gate_ports.specs.Objects.{SureState}
-use Rattle.gate_program.specs.CommandOf.{run_value}
-use Rattle.gate_program.specs.Objects.{objects_of, HasCreated}
-use Rattle.gate_program.specs.Stages.{folder_of}
+use Rattle.gate_files.specs.CommandOf.{run_value}
+use Rattle.gate_files.specs.Objects.{objects_of, HasCreated}
+use Rattle.gate_files.specs.Stages.{folder_of}
 use Rattle.gate_program.proofs.load.create_sessions.Given as goal
 
 abbrev pub invariant-loop-session : goal.invariant-loop-session

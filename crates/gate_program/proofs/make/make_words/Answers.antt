@@ -1,6 +1,6 @@
 use Rattle.std.proofs.Common.{◌≤◌, length, arith, ap, sym, ◌∙◌, subst, List, Vec, Global, ℕ}
 use Rattle.std.specs.List.{AllByRecursion}
-use Rattle.gate_program.specs.Stages.{GivesNoLimits}
+use Rattle.gate_files.specs.Stages.{GivesNoLimits}
 use Rattle.gate_program.proofs.LoadRuns.{files_many, files_small, gives_no_limits}
 use Rattle.gate_program.proofs.Made.{FilesLaw}
 use Rattle.gate_program.proofs.make.make_words.Goals as goal

@@ -4,9 +4,9 @@ use Rattle.std.specs.Prelude.{Some, None}
 use Rattle.std.specs.List.{range_with_len}
 use Rattle.gate_ports.specs.Objects.{SureState}
 use Rattle.gate_program.specs.Loads.{load_folder}
-use Rattle.gate_program.specs.Objects.{objects_of}
+use Rattle.gate_files.specs.Objects.{objects_of}
 use Rattle.gate_program.specs.Room.{HasSpare}
-use Rattle.gate_program.specs.Words.{session_most, venue_name}
+use Rattle.gate_files.specs.Words.{session_most, venue_name}
 use Rattle.gate_program.proofs.LoadRuns.{files_many, lefts_are, names_for, no_screens_in, run_is, run_went}
 use Rattle.gate_program.proofs.LoadRuns.{second_are, second_many, unmade_run}
 use Rattle.gate_program.proofs.make.run_load.Goals as goal

@@ -1,7 +1,8 @@
 -- the pieces so far stand behind those before
 use Rattle.std.proofs.Common.{◌≡◌, ◌++◌}
 use Rattle.std.specs.List.{AllByRecursion, flat_map}
-use Rattle.gate_program.specs.Pieces.{bytes_in, joined, IsWritten}
+use Rattle.gate_program.specs.Pieces.{bytes_in, IsWritten}
+use Rattle.gate_files.specs.Joined.{joined}
 use Rattle.gate_program.proofs.pieces.add_pieces.Given as goal
 
 abbrev pub invariant-loop-piece : goal.invariant-loop-piece

@@ -4,7 +4,7 @@ use Rattle.limit_table.specs.Trees.{halt_tree}
 use Rattle.gate_program.specs.Totals.{HaveTotals}
 use Rattle.gate_program.proofs.Histories.{are_legal_lines}
 use Rattle.gate_program.proofs.Replays.{have_left}
-use Rattle.gate_program.proofs.Results.{ok_more}
+use Rattle.gate_files.proofs.Results.{ok_more}
 use Rattle.gate_program.proofs.replay.journal_after.Goals as goal
 
 pub journal_of-requires-clause-left : goal.journal_of-requires-clause-left

@@ -1,7 +1,7 @@
 use Rattle.std.proofs.Common.{arith, refl, sym, subst, length-take}
 use Rattle.std.proofs.lemmas.Option.{slice_get_read}
 use Rattle.gate_program.specs.Totals.{HasTotal}
-use Rattle.gate_program.proofs.Lists.{map_at}
+use Rattle.gate_files.proofs.Lists.{map_at}
 use Rattle.gate_program.proofs.TotalLists.{one_tree}
 use Rattle.gate_program.proofs.totals.tree_totals.Goals as goal
 

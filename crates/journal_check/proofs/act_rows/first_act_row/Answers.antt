@@ -1,5 +1,5 @@
 -- the first act with the fault stands in the first such row
-use Rattle.std.proofs.Common.{◌≡◌, ◌<◌, ◌≤◌, ◌+◌, ◌∙◌, List, sym, subst, ap, length, arith}
+use Rattle.std.proofs.Common.{◌≡◌, ◌<◌, ◌+◌, ◌∙◌, List, sym, subst, ap, length, arith}
 use Rattle.std.proofs.lemmas.Option.{slice_get_within}
 use Rattle.risk_journal.specs.declared.acts.Act.{Act}
 use Rattle.journal_check.specs.ActFaults.{Has, IsFirstHas, NoneHas}

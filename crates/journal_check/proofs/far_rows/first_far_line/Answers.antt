@@ -1,8 +1,6 @@
 -- the lines of one tree more
-use Rattle.std.proofs.Common.{◌≡◌, ◌<◌, ◌≤◌, ◌∙◌, [], List, sym, subst, ap, length, get_or, map, arith}
+use Rattle.std.proofs.Common.{◌≡◌, ◌∙◌, [], sym, ap, length, get_or, arith}
 use Rattle.std.proofs.lemmas.Bool.{true≢false}
-use Rattle.risk_board.specs.declared.hand.Line.{Line}
-use Rattle.risk_journal.specs.declared.acts.Act.{Act}
 use Rattle.journal_check.specs.Trees.{tree_lines}
 use Rattle.journal_check.proofs.Counts.{count_next, count_own}
 use Rattle.journal_check.proofs.FarLines.{far_more, first_far, none_far}

@@ -1,6 +1,5 @@
 -- acts stand before lines
-use Rattle.std.proofs.Common.{List, subst, ℕ}
-use Rattle.risk_journal.specs.declared.acts.Act.{Act}
+use Rattle.std.proofs.Common.{subst, ℕ}
 use Rattle.journal_check.specs.FarRows.{IsFarAct, IsFarLine, IsFarRow}
 use Rattle.journal_check.specs.Firsts.{IsFirstRow}
 use Rattle.journal_check.proofs.Cases.{if_some_more}

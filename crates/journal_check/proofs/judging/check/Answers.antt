@@ -1,53 +1,73 @@
 -- the text is no journal, or it is one and short
-use Rattle.std.proofs.Common.{◌≡◌, ◌≤◌, ◌<◌, ◌+◌, ◌∙◌, List, ℕ, sym, subst, ap, length, map, arith, inl, inr, refl}
-use Rattle.std.specs.Prelude.{Option}
-use Rattle.risk_board.specs.declared.hand.Line.{Line}
-use Rattle.risk_journal.specs.declared.acts.Act.{Act}
-use Rattle.screen_kit.specs.Screens.{ScreenValue}
-use Rattle.limit_table.specs.Trees.{LimitsValue}
-use Rattle.journal_check.specs.Answers.{AreTold, IfNo}
-use Rattle.journal_check.specs.Faults.{Case, case_of, IsRead, IsFirstKind, IsFirstFault}
-use Rattle.journal_check.specs.declared.judging.CheckFault.{CheckFault}
+use Rattle.std.proofs.Common.{arith, inr, List, ℕ, map, subst, sym}
 use Rattle.journal_check.proofs.Kept.{kept}
-use Rattle.journal_check.proofs.KindOrder.{if_no_more}
-use Rattle.journal_check.proofs.Sources.{itself_back}
+use Rattle.std.proofs.lemmas.List.{length-map}
+use Rattle.limit_table.specs.Trees.{halt_tree}
+use Rattle.risk_journal.specs.declared.acts.Act.{Act}
+use Rattle.journal_check.specs.Faults.{IsRead}
+use Rattle.journal_check.specs.RowFaults.{HasNoRowFault}
+use Rattle.journal_check.proofs.KindOrder.{if_no_more, before_acts}
 use Rattle.journal_check.proofs.TextRows.{rows_within}
 use Rattle.journal_check.proofs.judging.check.Goals as goal
 
-pub judge-requires-clause-bytes : goal.judge-requires-clause-bytes
-judge-requires-clause-bytes g c =
-    omega (
-      arith,
-      rows_within c.args.journal.now (kept c.in-Ok.told.acts.items)
-          (kept c.in-Ok.told.lines.items) c.in-Ok.ensures.read,
-    )
-
-pub judge-requires-clause-sound : goal.judge-requires-clause-sound
-judge-requires-clause-sound g c = c.in-Ok.ensures.read.sound
-
-pub returns-in-Ok-clause-yes : goal.returns-in-Ok-clause-yes
-returns-in-Ok-clause-yes g c = λ yes are_told. record {
-  acts = kept c.in-Ok.told.acts.items;
-  lines = kept c.in-Ok.told.lines.items;
-  read = record { few = omega arith; journal = c.in-Ok.ensures.read };
-  none = c.judge.ensures.yes yes are_told c.args.journal.now;
+pub judge-requires-clause-enough : goal.judge-requires-clause-enough
+judge-requires-clause-enough g c = record {
+  few = c.requires.few;
+  screens = omega (arith, c.requires.screens, length-map c.args.screens.items (λ own. own));
 }
 
-pub returns-in-Ok-clause-worth : goal.returns-in-Ok-clause-worth
-returns-in-Ok-clause-worth g c = λ yes are_told. record {
-  acts = kept c.in-Ok.told.acts.items;
-  lines = kept c.in-Ok.told.lines.items;
-  read = record { few = omega arith; journal = c.in-Ok.ensures.read };
-  worth = c.judge.ensures.worth yes are_told c.args.journal.now;
+pub judge-requires-clause-read : goal.judge-requires-clause-read
+judge-requires-clause-read g c = record {
+  bytes = omega (
+        arith,
+        rows_within c.args.journal.now (kept c.in-Ok.told.acts.items)
+            (kept c.in-Ok.told.lines.items) c.in-Ok.ensures.read,
+      );
+  sound = c.in-Ok.ensures.read.sound;
 }
 
-pub returns-in-Ok-clause-no : goal.returns-in-Ok-clause-no
-returns-in-Ok-clause-no g c =
-    if_no_more _ _ c.judge.result.answer
-    (λ fault first need. inr (record {
-      acts = kept c.in-Ok.told.acts.items;
-      lines = kept c.in-Ok.told.lines.items;
+pub returns-in-Ok-clause-answer : goal.returns-in-Ok-clause-answer
+returns-in-Ok-clause-answer g c =
+    let said = c.judge.ensures.answer in
+    let read : IsRead c.args.journal.now (kept c.in-Ok.told.acts.items)
+        (kept c.in-Ok.told.lines.items) = record {
+      few = omega arith;
+      journal = c.in-Ok.ensures.read;
+    } in record {
+      yes = λ yes are_told. record {
+        acts = kept c.in-Ok.told.acts.items;
+        lines = kept c.in-Ok.told.lines.items;
+        read = read;
+        none = said.yes yes are_told c.args.journal.now;
+      };
+      worth = λ yes are_told. record {
+        acts = kept c.in-Ok.told.acts.items;
+        lines = kept c.in-Ok.told.lines.items;
+        read = read;
+        worth = said.worth yes are_told c.args.journal.now;
+      };
+      no = if_no_more _ _ c.judge.result.answer
+          (λ fault first need. inr (record {
+            acts = kept c.in-Ok.told.acts.items;
+            lines = kept c.in-Ok.told.lines.items;
+            read = read;
+            first = first need c.args.journal.now;
+          }))
+          said.no;
+    }
+
+pub returns-in-Ok-clause-read_fault : goal.returns-in-Ok-clause-read_fault
+returns-in-Ok-clause-read_fault g c = λ is.
+    let failed = c.judge.ensures.read_fault is in
+    let acts : List (List Act) = kept c.in-Ok.told.acts.items in
+    let lines = kept c.in-Ok.told.lines.items in
+    record {
+      acts = acts;
+      lines = lines;
       read = record { few = omega arith; journal = c.in-Ok.ensures.read };
-      first = first need c.args.journal.now;
-    }))
-    c.judge.ensures.no
+      none = before_acts c.args.limits.now c.args.journal.now
+          (map g.S.Source.left c.args.sources.items) _ acts lines
+          (subst (λ (n : ℕ). HasNoRowFault n (halt_tree c.args.limits.now) acts lines)
+          (sym (length-map c.args.sources.items g.S.Source.left)) failed.rows);
+      behind = failed.behind;
+    }

@@ -1,5 +1,5 @@
 -- the first of the faults that rows have by themselves
-use Rattle.std.proofs.Common.{◌≡◌, ◌∙◌, List, ℕ, subst, length, arith, inl, inr, refl}
+use Rattle.std.proofs.Common.{ℕ, subst, arith, inl, inr, refl}
 use Rattle.journal_check.specs.FarRows.{IsEarlyRow}
 use Rattle.journal_check.specs.Firsts.{IsFirstRow}
 use Rattle.journal_check.proofs.Kept.{kept, kept_count}

@@ -1,5 +1,5 @@
 -- one session more
-use Rattle.std.proofs.Common.{◌≡◌, ◌≢◌, ◌<◌, ◌≤◌, ◌+◌, ◌++◌, ◌∙◌, [], List, ℕ, sym, subst, ap, refl, length, map, drop, arith, All}
+use Rattle.std.proofs.Common.{◌≡◌, ◌+◌, ◌++◌, ◌∙◌, [], List, sym, subst, ap, refl, length, map, arith, All}
 use Rattle.std.proofs.Common.{get_or, length-drop}
 use Rattle.std.proofs.lemmas.List.{length-map}
 use Rattle.std.specs.Prelude.{slice_get, Some}
@@ -14,7 +14,7 @@ use Rattle.journal_check.specs.Sessions.{IsAlike, AreAlike}
 use Rattle.journal_check.specs.Answers.{AreBack}
 use Rattle.journal_check.proofs.Counts.{count_next, count_own}
 use Rattle.journal_check.proofs.Kept.{kept, kept_count, kept_own, kept_at}
-use Rattle.journal_check.proofs.NextSource.{source_at, rest_left, set_is, sets_left, left_is}
+use Rattle.journal_check.proofs.NextSource.{rest_left, set_is, sets_left, left_is}
 use Rattle.journal_check.proofs.NextSource.{more_count, more_back, next_all_back, next_rose}
 use Rattle.journal_check.proofs.Sources.{all_back}
 use Rattle.journal_check.proofs.SessionSteps.{one_more, alike_as, apart_as}
@@ -196,10 +196,14 @@ returns-in-ReadFault-clause-back g c =
 pub returns-in-ReadFault-clause-read_fault : goal.returns-in-ReadFault-clause-read_fault
 returns-in-ReadFault-clause-read_fault g c = λ is.
     let last = c.loop-session.invariant in
-    next_rose c.compare_next.ensures.next c.args.sources.items
-    (map g.K.SessionScreens.meaning c.args.screens.items)
-    c.loop-session.session last.count last.rest last.screens last.back c.in-ReadFault.is _
-    c.with_rest-in-ReadFault.ensures.sources
+    record {
+      session = c.loop-session.session;
+      rose = next_rose c.compare_next.ensures.next c.args.sources.items
+          (map g.K.SessionScreens.meaning c.args.screens.items)
+          c.loop-session.session last.count last.rest last.screens last.back c.in-ReadFault.is _
+          c.with_rest-in-ReadFault.ensures.sources;
+      earlier = last.alike;
+    }
 
 pub returns-in-Memory-clause-back : goal.returns-in-Memory-clause-back
 returns-in-Memory-clause-back g c =

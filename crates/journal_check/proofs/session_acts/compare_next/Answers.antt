@@ -1,5 +1,5 @@
 -- the source that was called comes back
-use Rattle.std.proofs.Common.{◌≡◌, ap, map}
+use Rattle.std.proofs.Common.{ap, map}
 use Rattle.journal_check.proofs.Sources.{taken_first}
 use Rattle.journal_check.proofs.session_acts.compare_next.Goals as goal
 

@@ -1,7 +1,7 @@
 -- all trees are told
 use Rattle.std.proofs.Common.{◌≡◌, ◌∙◌, ap, sym, subst, length, map, replicate, take, drop, ◌++◌, List, arith}
 use Rattle.std.proofs.lemmas.List.{take_at, length-map}
-use Rattle.journal_check.specs.Buckets.{TreeValue, tree_value, empty_tree, with_sessions, AreByTree}
+use Rattle.journal_check.specs.Buckets.{tree_value, empty_tree, with_sessions, AreByTree}
 use Rattle.journal_check.specs.declared.tree_acts.TreeActs.{TreeActs}
 use Rattle.journal_check.proofs.Filled.{all_told, told_count}
 use Rattle.journal_check.proofs.Kept.{kept, kept_count}

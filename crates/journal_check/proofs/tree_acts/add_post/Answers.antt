@@ -1,5 +1,5 @@
 -- the session's posts with one more
-use Rattle.std.proofs.Common.{◌≡◌, ◌<◌, ℕ, List, [], ◌∷◌, ◌++◌, ap, length, arith, Vec, Global}
+use Rattle.std.proofs.Common.{◌<◌, ℕ, List, [], ◌∷◌, ◌++◌, ap, length, arith, Vec, Global}
 use Rattle.journal_check.specs.Buckets.{TreeValue}
 use Rattle.journal_check.proofs.Changed.{map-changed}
 use Rattle.journal_check.proofs.tree_acts.add_post.Goals as goal

@@ -1,5 +1,5 @@
 -- one tree more has begun
-use Rattle.std.proofs.Common.{◌≡◌, ◌<◌, ◌≤◌, ◌∙◌, ap, length, map, get_or, arith, refl}
+use Rattle.std.proofs.Common.{◌<◌, ◌∙◌, ap, length, map, get_or, arith, refl}
 use Rattle.std.proofs.lemmas.List.{length-map}
 use Rattle.journal_check.specs.Buckets.{tree_value, no_tree, begun}
 use Rattle.journal_check.specs.declared.tree_acts.TreeActs.{TreeActs}

@@ -1,5 +1,5 @@
 -- the first line, or else the first read
-use Rattle.std.proofs.Common.{List, subst, refl, map, inl, inr}
+use Rattle.std.proofs.Common.{subst, refl, inl, inr}
 use Rattle.std.specs.Prelude.{IfSome, Option}
 use Rattle.journal_check.specs.LineFaults.{IsLineFault}
 use Rattle.journal_check.specs.TreeFaults.{IsReadsFault, IsTreeFault}

@@ -1,5 +1,5 @@
 -- the first read, as a fault
-use Rattle.std.proofs.Common.{List, subst, refl, map}
+use Rattle.std.proofs.Common.{subst, refl}
 use Rattle.std.specs.Prelude.{IfSome}
 use Rattle.journal_check.specs.Firsts.{IsFirstRow}
 use Rattle.journal_check.specs.ReadFaults.{IsWrongRead}

@@ -1,5 +1,5 @@
 -- one session more is counted
-use Rattle.std.proofs.Common.{◌≡◌, ◌∙◌, sym, ap, length, arith}
+use Rattle.std.proofs.Common.{◌∙◌, ap, length, arith}
 use Rattle.journal_check.proofs.Counts.{count_next, count_own, count_end}
 use Rattle.journal_check.proofs.Kept.{kept, kept_count, kept_own}
 use Rattle.journal_check.proofs.tree_lines.acts_count.Goals as goal

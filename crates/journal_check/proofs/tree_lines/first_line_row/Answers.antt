@@ -1,11 +1,10 @@
 -- the lines of one tree more
-use Rattle.std.proofs.Common.{◌≡◌, ◌<◌, ◌≤◌, ◌+◌, ◌∙◌, [], List, ℕ, sym, subst, ap, refl, length, map, arith, inl, inr}
+use Rattle.std.proofs.Common.{◌≡◌, ◌<◌, ◌+◌, ◌∙◌, [], List, ℕ, sym, subst, ap, refl, length, arith, inl, inr}
 use Rattle.std.proofs.Common.{get_or, take}
 use Rattle.std.proofs.lemmas.Bool.{true≢false}
 use Rattle.std.proofs.lemmas.Option.{slice_get_within}
 use Rattle.risk_board.specs.declared.hand.Line.{Line}
 use Rattle.risk_journal.specs.declared.acts.Act.{Act}
-use Rattle.journal_check.specs.Buckets.{tree_value}
 use Rattle.journal_check.specs.Firsts.{IsFirstWrong}
 use Rattle.journal_check.specs.LineFaults.{IsFoundOf, EndsBefore}
 use Rattle.journal_check.specs.RightLines.{IsRightLine}

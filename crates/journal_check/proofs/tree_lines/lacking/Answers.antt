@@ -1,6 +1,6 @@
 -- no session has more posts than lines
-use Rattle.std.proofs.Common.{◌<◌, ◌≤◌, [], ℕ, List, ap, length, map, arith, ⊎_elim}
-use Rattle.std.proofs.lemmas.List.{get_or_past, length-map}
+use Rattle.std.proofs.Common.{◌<◌, ◌≤◌, [], ap, length, arith, ⊎_elim}
+use Rattle.std.proofs.lemmas.List.{get_or_past}
 use Rattle.journal_check.proofs.Cases.{le_or_lt}
 use Rattle.journal_check.proofs.Kept.{kept, kept_count}
 use Rattle.journal_check.proofs.tree_lines.lacking.Goals as goal

@@ -1,5 +1,5 @@
 -- the row of the first read that isn't right
-use Rattle.std.proofs.Common.{◌≡◌, ◌<◌, List, ℕ, subst, sym, ap, refl, length, map, arith}
+use Rattle.std.proofs.Common.{◌<◌, List, ℕ, subst, ap, length, map}
 use Rattle.std.specs.Prelude.{IfSome}
 use Rattle.std.proofs.lemmas.Option.{get_or_from_slice_get}
 use Rattle.risk_board.specs.declared.hand.Line.{Line}

@@ -1,7 +1,7 @@
 -- the reads of one tree more
-use Rattle.std.proofs.Common.{◌≡◌, ◌<◌, ◌≤◌, ◌+◌, ◌∙◌, ◌==◌, List, ℕ, sym, subst, ap, refl, length, map, max, arith, All}
-use Rattle.std.proofs.Common.{get_or, cond, eqb}
-use Rattle.std.specs.Prelude.{Option, None}
+use Rattle.std.proofs.Common.{◌≡◌, ◌<◌, ◌≤◌, ◌+◌, ◌∙◌, List, ℕ, sym, subst, ap, length, max, arith, All}
+use Rattle.std.proofs.Common.{get_or, cond}
+use Rattle.std.specs.Prelude.{Option}
 use Rattle.std.proofs.lemmas.Option.{slice_get-get_or}
 use Rattle.fold_law.specs.Sum.{sum_of}
 use Rattle.fold_law.specs.Whole.{whole_of}
@@ -10,7 +10,7 @@ use Rattle.risk_board.specs.declared.hand.Line.{Line}
 use Rattle.risk_board.specs.History.{components_of}
 use Rattle.risk_journal.specs.declared.acts.Act.{Act}
 use Rattle.journal_check.specs.LineFaults.{EndsBefore}
-use Rattle.journal_check.specs.ReadFaults.{IsFirstSoFar, AreRightReads}
+use Rattle.journal_check.specs.ReadFaults.{IsFirstSoFar}
 use Rattle.journal_check.specs.ReadRows.{ReadRow, tree_reads}
 use Rattle.journal_check.specs.Trees.{tree_lines, fold_in}
 use Rattle.journal_check.specs.declared.tree_acts.TreeActs.{TreeActs}

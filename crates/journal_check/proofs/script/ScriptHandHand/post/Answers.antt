@@ -1,6 +1,6 @@
-use Rattle.std.proofs.Common.{◌+◌, ◌-◌, ◌≤◌, ◌<◌, ap, sym, subst, arith, length, length-set, slice_set}
+use Rattle.std.proofs.Common.{◌+◌, ◌≤◌, ◌<◌, ap, sym, subst, arith, length, length-set}
 use Rattle.risk_board.specs.Calls.{post_count}
-use Rattle.journal_check.specs.Script.{ScriptValue, KeepsScript}
+use Rattle.journal_check.specs.Script.{ScriptValue}
 use Rattle.journal_check.specs.ScriptKept.{script_of}
 use Rattle.journal_check.proofs.ScriptCalls.{scripted-post}
 use Rattle.journal_check.proofs.script.ScriptHandHand.post.Goals as goal

@@ -1,4 +1,4 @@
-use Rattle.std.proofs.Common.{◌≡◌, ◌+◌, ◌-◌, ◌≤◌, ap, sym, subst, arith}
+use Rattle.std.proofs.Common.{◌≡◌, ◌≤◌, ap, sym, subst, arith}
 use Rattle.journal_check.specs.Script.{ScriptValue, script_answer}
 use Rattle.journal_check.specs.ScriptKept.{script_of}
 use Rattle.journal_check.proofs.ScriptCalls.{scripted-read}

@@ -1,0 +1,12 @@
+pub mod Lists
+pub mod Numbers
+pub mod LimitFiles
+pub mod LimitTexts
+pub mod Chains
+pub mod OutputNames
+pub mod WordTests
+pub mod Folder
+pub mod Early
+pub mod Closings
+pub mod Results
+pub mod Sessions

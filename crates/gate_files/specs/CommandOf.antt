@@ -1,0 +1,46 @@
+-- What the parsed words of a run are.
+use Rattle.std.specs.Prelude.{ℕ, ◌≤◌, IsTrue, List, [], ◌∷◌, ◌++◌, codes, map, string_bytes}
+use Rattle.std.specs.List.{flat_map, range_with_len}
+use Rattle.make_load.specs.declared.session.TheConstants.{ORDERS_MOST}
+use Rattle.make_load.specs.declared.summary.Asked.{Asked}
+use Rattle.gate_files.specs.declared.words.Command.{Command as Read}
+use Rattle.gate_files.specs.declared.words.Command.TheVariants as read
+use Rattle.gate_files.specs.declared.words.Run.{Run}
+use Rattle.gate_files.specs.Words.{RunWords, Command, two_digits}
+use Rattle.gate_files.specs.Words.{is_run, session_most}
+use Rattle.gate_files.specs.Words.Command.{Run as run_command, Make as make_command}
+
+-- the words of a run
+abbrev pub run_value : Run → RunWords
+run_value run = record {
+  limits = run.limits.now;
+  out = run.out.now;
+  sessions = map string_bytes run.sessions.now;
+}
+
+-- the command that was read
+abbrev pub command_value : Read → Command
+command_value (read.Run run) = run_command (run_value run)
+command_value (read.Make asked) = make_command asked
+
+-- a load has one session to the most, and each one order to the most
+pub record IsAsked (asked : Asked) : Type 0 where
+  pub some : 1 ≤ asked.sessions
+  pub most : asked.sessions ≤ session_most
+  pub some_orders : 1 ≤ asked.orders
+  pub most_orders : asked.orders ≤ ORDERS_MOST
+
+-- the words that were read are those of a form
+abbrev pub IsForm : Read → Type 0
+IsForm (read.Run run) = IsTrue (is_run (run_value run))
+IsForm (read.Make asked) = IsAsked asked
+
+-- the names of a session's outputs, after the folder of outputs
+abbrev pub files_of : ℕ → List (List ℕ)
+files_of session =
+    (codes "/s" ++ two_digits session ++ codes ".venue")
+    ∷ (codes "/s" ++ two_digits session ++ codes ".client") ∷ []
+
+-- the names that a run of so many sessions writes, after the folder of outputs
+abbrev pub file_names : ℕ → List (List ℕ)
+file_names count = flat_map files_of (range_with_len 0 count) ++ codes "/journal.csv" ∷ []

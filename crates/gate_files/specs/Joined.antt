@@ -1,0 +1,8 @@
+-- Texts in pieces.
+use Rattle.std.specs.Prelude.{ℕ, List, Vec}
+use Rattle.std.specs.Global.{Global}
+use Rattle.std.specs.List.{flat_map}
+
+-- the bytes of pieces, one after another
+abbrev pub joined : List (Vec ℕ Global) → List ℕ
+joined pieces = flat_map (λ piece. piece.items) pieces

@@ -1,0 +1,13 @@
+pub mod Words
+pub mod CommandOf
+pub mod Names
+pub mod Early
+pub mod Ports
+pub mod Standing
+pub mod Limits
+pub mod Told
+pub mod Stops
+pub mod Joined
+pub mod Stages
+pub mod Statuses
+pub mod Objects

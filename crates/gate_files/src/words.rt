@@ -1,0 +1,267 @@
+//! The words of the command line.
+ghost use Rattle.std.specs.Prelude.{◌≡◌, ◌≢◌, ℕ, ◌<◌, ◌≤◌, ◌∷◌, ◌++◌, List, map, string_bytes};
+ghost use Rattle.std.specs.Prelude.{IfSome, MatchOption, ◌^◌, decimal};
+ghost use Rattle.std.specs.List.{list_all, list_any};
+ghost use Rattle.std.specs.Option.{option_map};
+ghost use Rattle.std.specs.Str.{bytes_eq};
+ghost use Rattle.gate_files.specs.Words.{command_of, is_word, is_run, is_among, load_of, number_in};
+ghost use Rattle.gate_files.specs.Words.{run_of};
+ghost use Rattle.gate_files.specs.Words.{output_names, are_distinct, session_most};
+ghost use Rattle.gate_files.specs.CommandOf.{command_value, run_value, file_names, files_of, IsForm};
+
+use fold_law::SESSIONS;
+use itoa::Buffer;
+use make_load::{Asked, ORDERS_MOST};
+
+/// The words of a run.
+#[derive(Clone, Copy, Debug)]
+pub struct Run<'a> {
+    /// The name of the limit file.
+    pub limits: &'a str,
+    /// The folder of the outputs.
+    pub out: &'a str,
+    /// The names of the sessions' inputs.
+    pub sessions: &'a [String],
+}
+
+/// What the words ask for.
+#[derive(Clone, Copy, Debug)]
+pub enum Command<'a> {
+    /// A run over files.
+    Run(Run<'a>),
+    /// A load, and a run over it.
+    Make(Asked),
+}
+
+/// The command that the words ask for. None where they are no form.
+pub fn command_from<'a>(words: &'a [String]) -> Option<Command<'a>>
+    ensures command { option_map command_value result ≡ command_of (map string_bytes words.now) }
+    ensures form { IfSome result IsForm }
+{
+    let [command, first, second, others @ ..] = words else {
+        return None;
+    };
+    if command.as_str() == "run" {
+        run_from(first.as_str(), second.as_str(), others)
+    } else if command.as_str() == "make" {
+        load_from(first.as_str(), second.as_str(), others)
+    } else {
+        None
+    }
+}
+
+/// The run that the words after `run` ask for.
+fn run_from<'a>(limits: &'a str, out: &'a str, sessions: &'a [String]) -> Option<Command<'a>>
+    ensures command { option_map command_value result
+        ≡ run_of limits.now out.now (map string_bytes sessions.now) }
+    ensures form { IfSome result IsForm }
+{
+    let run = Run {
+        limits,
+        out,
+        sessions,
+    };
+    if is_run(&run) {
+        Some(Command::Run(run))
+    } else {
+        None
+    }
+}
+
+/// The load that the words after `make` ask for.
+fn load_from<'a>(number: &str, sessions: &str, others: &[String]) -> Option<Command<'a>>
+    ensures command { option_map command_value result
+        ≡ load_of number.now sessions.now (map string_bytes others.now) }
+    ensures form { IfSome result IsForm }
+{
+    let [orders] = others else {
+        return None;
+    };
+    let Some(number) = number_in(0, u32::MAX, number) else {
+        return None;
+    };
+    let Some(sessions) = number_in(1, SESSIONS, sessions) else {
+        return None;
+    };
+    let Some(orders) = number_in(1, ORDERS_MOST, orders.as_str()) else {
+        return None;
+    };
+    Some(Command::Make(Asked {
+        number,
+        sessions,
+        orders,
+    }))
+}
+
+/// The number that a word spells in digits without a leading zero, where it does.
+fn number_of(word: &str) -> Option<u32>
+    ensures { MatchOption result ((number : ℕ) → number < 2 ^ 32 → decimal number ≢ word.now)
+        (λ number. decimal number ≡ word.now) }
+{
+    let Ok(number) = word.parse::<u32>() else {
+        return None;
+    };
+    let mut digits = Buffer::new();
+    if digits.format(number).as_bytes() == word.as_bytes() {
+        Some(number)
+    } else {
+        None
+    }
+}
+
+/// The same, where it is in this range.
+fn number_in(least: u32, most: u32, word: &str) -> Option<u32>
+    ensures number { result ≡ number_in least most word.now }
+    ensures range { IfSome result (λ number. (least ≤ number) × (number ≤ most)) }
+{
+    let Some(number) = number_of(word) else {
+        return None;
+    };
+    if number < least {
+        return None;
+    }
+    if number > most {
+        return None;
+    }
+    Some(number)
+}
+
+/// Whether the words are those of a run.
+fn is_run(run: &Run) -> bool
+    ensures { result ≡ is_run (run_value run.now) }
+{
+    let count = run.sessions.len();
+    if !has_words(run) {
+        return false;
+    }
+    if count < 1 || count > SESSIONS as usize {
+        return false;
+    }
+    if !are_distinct(run.sessions) {
+        return false;
+    }
+    !reads_outputs(run, count)
+}
+
+/// Whether each name of the run is a word.
+fn has_words(run: &Run) -> bool
+    ensures { let words = run_value run.now in
+        result ≡ list_all is_word (words.limits ∷ words.out ∷ words.sessions) }
+{
+    if !is_word(run.limits) {
+        return false;
+    }
+    if !is_word(run.out) {
+        return false;
+    }
+    are_words(run.sessions)
+}
+
+/// Whether the limit file or a session is an output of a run of so many sessions.
+fn reads_outputs(run: &Run, count: usize) -> bool
+    requires { count ≤ session_most }
+    ensures { let words = run_value run.now in
+        result ≡ list_any (λ name. is_among name (output_names words.out count))
+        (words.limits ∷ words.sessions) }
+{
+    if is_output(run.out, count, run.limits) {
+        return true;
+    }
+    has_output(run.out, count, run.sessions)
+}
+
+/// Not empty, and without a leading dash.
+fn is_word(word: &str) -> bool
+    ensures { result ≡ is_word word.now }
+{
+    match word.as_bytes() {
+        [] => false,
+        [first, ..] => *first != b'-',
+    }
+}
+
+/// Whether each is a word.
+fn are_words(words: &[String]) -> bool
+    ensures { result ≡ list_all (λ word. is_word (string_bytes word)) words.now }
+{
+    words.iter().all(|word| is_word(word.as_str()))
+}
+
+/// Whether the name is one of these.
+fn is_among(name: &str, names: &[String]) -> bool
+    ensures { result ≡ list_any (λ other. bytes_eq name.now (string_bytes other)) names.now }
+{
+    names.iter().any(|other| name == other.as_str())
+}
+
+/// Whether no two are equal.
+fn are_distinct(names: &[String]) -> bool
+    ensures { result ≡ are_distinct (map string_bytes names.now) }
+{
+    for place in 0..names.len() {
+        if is_among(names[place].as_str(), &names[place + 1..]) {
+            return false;
+        }
+    }
+    true
+}
+
+/// Whether a run of so many sessions with these outputs writes one of the names.
+fn has_output(out: &str, count: usize, names: &[String]) -> bool
+    requires { count ≤ session_most }
+    ensures { result ≡ list_any (λ name. is_among (string_bytes name)
+        (output_names out.now count)) names.now }
+{
+    for name in names {
+        if is_output(out, count, name.as_str()) {
+            return true;
+        }
+    }
+    false
+}
+
+/// Whether a run of so many sessions with these outputs writes the name.
+fn is_output(out: &str, count: usize, name: &str) -> bool
+    requires { count ≤ session_most }
+    ensures { result ≡ is_among name.now (output_names out.now count) }
+{
+    match name_within(out, name) {
+        None => false,
+        Some(rest) => is_file(count, rest),
+    }
+}
+
+/// Whether a run of so many sessions writes this name in its folder of outputs.
+fn is_file(count: usize, rest: &[u8]) -> bool
+    requires { count ≤ session_most }
+    ensures { result ≡ is_among rest.now (file_names count) }
+{
+    for session in 0..count {
+        if is_file_of(session, rest) {
+            return true;
+        }
+    }
+    rest == b"/journal.csv".as_slice()
+}
+
+/// Whether this is the name of one of a session's outputs in the folder of outputs.
+fn is_file_of(session: usize, rest: &[u8]) -> bool
+    requires { session < 100 }
+    ensures { result ≡ is_among rest.now (files_of session) }
+{
+    let tens = b'0' + (session / 10) as u8;
+    let units = b'0' + (session % 10) as u8;
+    let venue = [b'/', b's', tens, units, b'.', b'v', b'e', b'n', b'u', b'e'];
+    let client = [
+        b'/', b's', tens, units, b'.', b'c', b'l', b'i', b'e', b'n', b't',
+    ];
+    rest == venue.as_slice() || rest == client.as_slice()
+}
+
+/// What of the name comes after the folder.
+fn name_within<'a>(out: &str, name: &'a str) -> Option<&'a [u8]>
+    ensures { MatchOption result ((rest : List ℕ) → name.now ≢ out.now ++ rest)
+        (λ rest. name.now ≡ out.now ++ rest.now) }
+{
+    name.as_bytes().strip_prefix(out.as_bytes())
+}

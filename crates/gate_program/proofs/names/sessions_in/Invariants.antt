@@ -1,6 +1,0 @@
--- the names of the sessions so far
-use Rattle.gate_program.specs.Names.{AreNames}
-use Rattle.gate_program.proofs.names.sessions_in.Given as goal
-
-abbrev pub invariant-loop-session : goal.invariant-loop-session
-invariant-loop-session l = AreNames l.out l.session l.all.items
