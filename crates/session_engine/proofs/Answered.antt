@@ -17,7 +17,7 @@ use Rattle.order_desk.specs.Desks.{DeskValue, IsLater}
 use Rattle.order_desk.specs.Reported.{Settled}
 use Rattle.session_engine.specs.declared.counts.Counts.{Counts}
 use Rattle.session_engine.specs.Later.{continues_then, same_sink, later_sink}
-use Rattle.session_engine.specs.Running.{Running, Continues, kept_of, TellsAnswer, GivesNext, TakesFront, frame_acts}
+use Rattle.session_engine.specs.Running.{Running, Continues, kept_of, TellsAnswer, TakesFront, frame_acts}
 use Rattle.fix_orders.specs.declared.message.Message.{Message}
 use Rattle.fix_orders.specs.declared.message.Stamp.{Stamp}
 use Rattle.fix_orders.specs.Faults.{value_of}
@@ -26,7 +26,7 @@ use Rattle.session_engine.specs.Answers.{Wording, forward_text}
 use Rattle.session_engine.specs.Taken.{Kept, TakesSound, ReadsAs, answer_act, answer_stamp, note_acts, note_by, counted_client}
 use Rattle.session_engine.specs.Taken.{counts_answered, counts_decided, Forwards, Gives, GivesFront}
 use Rattle.session_engine.specs.Trips.{acts_tripped}
-use Rattle.session_engine.proofs.MessageFacts.{RequestFacts, ReportFacts}
+use Rattle.session_engine.proofs.MessageFacts.{RequestFacts}
 use Rattle.session_engine.proofs.ReportFrames.{Told, takes_report}
 use Rattle.session_engine.proofs.RequestFrames.{Asked, IsAnswered, takes_request}
 

@@ -1,6 +1,6 @@
 -- What a session did that a fault ended doesn't know the places of reads either.
-use Rattle.std.proofs.Common.{◌≡◌, ℕ, ◌+◌, List, length, map, take, sym, ap, ◌∙◌, inl, inr}
-use Rattle.std.specs.Prelude.{Option, ◌⊎◌}
+use Rattle.std.proofs.Common.{◌≡◌, ℕ, ◌+◌, List, length, map, take, sym, ap, ◌∙◌, inl, inr, ⊎_elim}
+use Rattle.std.specs.Prelude.{Option}
 use Rattle.std.specs.List.{concat}
 use Rattle.fix_fields.specs.Frames.{FrameValue}
 use Rattle.gate_ports.specs.Faults.{Rose}
@@ -39,40 +39,32 @@ module _ (limits : LimitsValue) (screens : List ScreenValue) (acts others : List
         own.venue_is;
     client_is = between_by _ _ _ _ client (clients_alike (take given frames))
         (clients_alike frames) own.client_is;
-    one = one own.one;
+    one = ⊎_elim
+        (λ (is : venue ≡ concat (session_of limits screens acts frames).venue).
+        inl (is ∙ ap concat (sym (venues_alike frames))))
+        (λ (is : client ≡ concat (session_of limits screens acts frames).client).
+        inr (is ∙ ap concat (sym (clients_alike frames)))) own.one;
   }
-    where
-      one : (venue ≡ concat (session_of limits screens acts frames).venue)
-          ⊎ (client ≡ concat (session_of limits screens acts frames).client)
-          → (venue ≡ concat (session_of limits screens others frames).venue)
-          ⊎ (client ≡ concat (session_of limits screens others frames).client)
-      one (inl is) = inl (is ∙ ap concat (sym (venues_alike frames)))
-      one (inr is) = inr (is ∙ ap concat (sym (clients_alike frames)))
 
   fails_others : (frames : List FrameValue) (given : ℕ) (venue_failed client_failed : Type 0)
       → FailsLast limits screens (reads_of acts) frames given venue_failed client_failed
       → FailsLast limits screens (reads_of others) frames given venue_failed client_failed
-  fails_others frames given venue_failed client_failed own =
-      record { last = own.last; failed = by own.failed }
-    where
-      by : (venue_failed × (length (session_of limits screens acts frames).venue
-          ≡ length (session_of limits screens acts (take given frames)).venue + 1))
-          ⊎ (client_failed × (length (session_of limits screens acts frames).client
-          ≡ length (session_of limits screens acts (take given frames)).client + 1))
-          → (venue_failed × (length (session_of limits screens others frames).venue
-          ≡ length (session_of limits screens others (take given frames)).venue + 1))
-          ⊎ (client_failed × (length (session_of limits screens others frames).client
-          ≡ length (session_of limits screens others (take given frames)).client + 1))
-      by (inl (failed, number)) = inl (
-        failed,
-        ap length (venues_alike frames) ∙ number
-            ∙ ap (λ (m : List (List ℕ)). length m + 1) (sym (venues_alike (take given frames))),
-      )
-      by (inr (failed, number)) = inr (
-        failed,
-        ap length (clients_alike frames) ∙ number
-            ∙ ap (λ (m : List (List ℕ)). length m + 1) (sym (clients_alike (take given frames))),
-      )
+  fails_others frames given venue_failed client_failed own = record {
+    last = own.last;
+    failed = ⊎_elim
+        (λ (own_failed : venue_failed × (length (session_of limits screens acts frames).venue
+        ≡ length (session_of limits screens acts (take given frames)).venue + 1)). inl (
+          own_failed.0,
+          ap length (venues_alike frames) ∙ own_failed.1
+              ∙ ap (λ (m : List (List ℕ)). length m + 1) (sym (venues_alike (take given frames))),
+        ))
+        (λ (own_failed : client_failed × (length (session_of limits screens acts frames).client
+        ≡ length (session_of limits screens acts (take given frames)).client + 1)). inr (
+          own_failed.0,
+          ap length (clients_alike frames) ∙ own_failed.1
+              ∙ ap (λ (m : List (List ℕ)). length m + 1) (sym (clients_alike (take given frames))),
+        )) own.failed;
+  }
 
   abbrev behind_others : (fetched : List ℕ) (end : End) (venue client : List ℕ)
       → StopsBehind limits screens fetched acts end venue client

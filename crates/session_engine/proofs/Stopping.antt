@@ -1,6 +1,6 @@
 -- A session that stopped early did what the session function says of its first frames.
-use Rattle.std.proofs.Common.{◌≡◌, ℕ, ◌+◌, ◌*◌, ◌^◌, ◌≤◌, ◌<◌, List, [], ◌∷◌, ◌++◌, length, map, take, drop}
-use Rattle.std.proofs.Common.{refl, sym, ap, ◌∙◌, subst, arith, inl, inr}
+use Rattle.std.proofs.Common.{◌≡◌, ℕ, ◌+◌, ◌*◌, ◌≤◌, List, [], ◌∷◌, ◌++◌, length, map, take, drop}
+use Rattle.std.proofs.Common.{refl, sym, ap, ◌∙◌, subst, arith, inl, inr, ⊎_elim}
 use Rattle.std.specs.Prelude.{Option, Some, None, ◌⊎◌}
 use Rattle.std.specs.List.{concat}
 use Rattle.std.specs.Io.KnownBytes.{Appends}
@@ -22,7 +22,7 @@ use Rattle.frame_run.specs.Sinks.{SinkValue}
 use Rattle.frame_run.specs.Taking.{SplitsTo, StopsBy, TakesSource}
 use Rattle.frame_run.proofs.Fetches.{consumes_none}
 use Rattle.session_engine.specs.Follows.{Follows, IsByInput, IsBetween, StopsBehind, StopsSource}
-use Rattle.session_engine.specs.Follows.{HasGiven, EndsAs}
+use Rattle.session_engine.specs.Follows.{HasGiven}
 use Rattle.session_engine.specs.Follows.{FailsLast, DoesNothing, input_most, session_of, session_with}
 use Rattle.session_engine.specs.Done.{Ran}
 use Rattle.session_engine.specs.Later.{rose_later, same_sink}
@@ -173,50 +173,35 @@ module _ {H M K : Type 0} (meaning : K → ScreenValue) where
         client_is = between_by _ _ _ _ to_client.text
             (ap (λ (s : SessionValue). s.client) before_by)
             (ap (λ (s : SessionValue). s.client) after_by) to_client.between;
-        one = whole_by one;
+        one = ⊎_elim
+            (λ (is : to_venue.text ≡ concat took_ideal.session.venue).
+            inl (is ∙ ap concat (sym (ap (λ (s : SessionValue). s.venue) after_by))))
+            (λ (is : to_client.text ≡ concat took_ideal.session.client).
+            inr (is ∙ ap concat (sym (ap (λ (s : SessionValue). s.client) after_by)))) one;
       };
       failed = λ is. record {
         last = omega (arith, length-append frames (frame ∷ []));
-        failed = at_last (fails is);
+        failed = ⊎_elim
+            (λ (own : Rose now.venue.faults next.venue.faults
+            × (next.counts.venue ≡ now.counts.venue + 1)). inl (
+              rose_later start.venue.faults now.venue.faults next.venue.faults took.venue_later
+                  own.0,
+              ap (λ (s : SessionValue). length s.venue) after_by
+                  ∙ sym took_ideal.stands.stands.venue ∙ own.1
+                  ∙ ap (λ n. n + 1) took.stands.stands.venue
+                  ∙ ap (λ (s : SessionValue). length s.venue + 1) (sym before_by),
+            ))
+            (λ (own : Rose now.client.faults next.client.faults
+            × (next.counts.client ≡ now.counts.client + 1)). inr (
+              rose_later start.client.faults now.client.faults next.client.faults
+                  took.client_later own.0,
+              ap (λ (s : SessionValue). length s.client) after_by
+                  ∙ sym took_ideal.stands.stands.client ∙ own.1
+                  ∙ ap (λ n. n + 1) took.stands.stands.client
+                  ∙ ap (λ (s : SessionValue). length s.client + 1) (sym before_by),
+            )) (fails is);
       };
     }
-      where
-        whole_by : ((to_venue.text ≡ concat took_ideal.session.venue)
-            ⊎ (to_client.text ≡ concat took_ideal.session.client))
-            → ((to_venue.text
-            ≡ concat (session_with limits screens reads (frames ++ frame ∷ [])).venue)
-            ⊎ (to_client.text
-            ≡ concat (session_with limits screens reads (frames ++ frame ∷ [])).client))
-        whole_by (inl is) = inl (is ∙ ap concat (sym (ap (λ (s : SessionValue). s.venue) after_by)))
-        whole_by (inr is) = inr (is ∙ ap concat (sym (ap (λ (s : SessionValue). s.client) after_by)))
-
-        at_last : ((Rose now.venue.faults next.venue.faults
-            × (next.counts.venue ≡ now.counts.venue + 1))
-            ⊎ (Rose now.client.faults next.client.faults
-            × (next.counts.client ≡ now.counts.client + 1)))
-            → ((Rose start.venue.faults next.venue.faults
-            × (length (session_with limits screens reads (frames ++ frame ∷ [])).venue
-            ≡ length (session_with limits screens reads
-            (take (length frames) (frames ++ frame ∷ []))).venue + 1))
-            ⊎ (Rose start.client.faults next.client.faults
-            × (length (session_with limits screens reads (frames ++ frame ∷ [])).client
-            ≡ length (session_with limits screens reads
-            (take (length frames) (frames ++ frame ∷ []))).client + 1)))
-        at_last (inl (rose, number)) = inl (
-          rose_later start.venue.faults now.venue.faults next.venue.faults took.venue_later rose,
-          ap (λ (s : SessionValue). length s.venue) after_by
-              ∙ sym took_ideal.stands.stands.venue ∙ number
-              ∙ ap (λ n. n + 1) took.stands.stands.venue
-              ∙ ap (λ (s : SessionValue). length s.venue + 1) (sym before_by),
-        )
-        at_last (inr (rose, number)) = inr (
-          rose_later start.client.faults now.client.faults next.client.faults took.client_later
-              rose,
-          ap (λ (s : SessionValue). length s.client) after_by
-              ∙ sym took_ideal.stands.stands.client ∙ number
-              ∙ ap (λ n. n + 1) took.stands.stands.client
-              ∙ ap (λ (s : SessionValue). length s.client + 1) (sym before_by),
-        )
 
     -- one of the streams got a front of the message
     pub stopped_next : (why : PortFault) → (why ≡ fault.Failed → failed)
@@ -448,17 +433,11 @@ pub ran_first : (limits : LimitsValue) (screens : List ScreenValue) (left : Opti
     → Ran limits screens left left acts ending.Memory venue venue client client
 ran_first limits screens left acts venue client is = record {
   follows = follows_first limits screens left acts venue client is;
-  ends = ends is;
-  few = few is;
+  ends = ⊎_elim (λ (ended : acts ≡ Ended ending.Memory ∷ []). inl ([], ended))
+      (λ (none : acts ≡ []). inr (none, refl)) is;
+  few = ⊎_elim (λ (ended : acts ≡ Ended ending.Memory ∷ []). omega (arith, ap length ended))
+      (λ (none : acts ≡ []). omega (arith, ap length none)) is;
   venue_is = same_sink venue;
   client_is = same_sink client;
   write_fault = λ is. absurd cc;
 }
-  where
-    ends : (acts ≡ Ended ending.Memory ∷ []) ⊎ (acts ≡ []) → EndsAs acts ending.Memory
-    ends (inl ended) = inl ([], ended)
-    ends (inr none) = inr (none, refl)
-
-    few : (acts ≡ Ended ending.Memory ∷ []) ⊎ (acts ≡ []) → length acts < 2 ^ 32
-    few (inl ended) = omega (arith, ap length ended)
-    few (inr none) = omega (arith, ap length none)

@@ -14,7 +14,6 @@ pub forward-requires-clause-passed : goal.forward-requires-clause-passed
 forward-requires-clause-passed g c =
     passes c.args.sound.now (message.Cancel c.args.cancel.now) c.requires.read refl
 
-
 pub forward-requires-clause-time : goal.forward-requires-clause-time
 forward-requires-clause-time g c = λ fields has.
     ap (λ (s : Stamp). s.time) c.tell_answer-stamp.ensures.stamp
@@ -33,7 +32,6 @@ returns-in-None-clause-taken g c =
     (ap (λ (d : DeskValue _ _ _). map g.K.Screen.meaning d.screens) c.decide_cancel-refusal.ensures.same) c.tell_answer-stamp.ensures.told _
     c.tell_answer-stamp.result c.in-None.is c.tell_answer-stamp.ensures.stamp
     c.forward.ensures.given c.forward.ensures.cause
-
 
 pub returns-in-Some-clause-taken : goal.returns-in-Some-clause-taken
 returns-in-Some-clause-taken g c =

@@ -1,5 +1,5 @@
 -- A report was settled, told and passed on.
-use Rattle.std.proofs.Common.{refl, ap, ◌∙◌, subst, inr}
+use Rattle.std.proofs.Common.{refl, ap, ◌∙◌, subst}
 use Rattle.std.specs.Io.KnownBytes.{Appends}
 use Rattle.fix_orders.specs.declared.message.Message.TheVariants as message
 use Rattle.fix_orders.specs.declared.message.Stamp.{Stamp}
@@ -12,7 +12,6 @@ use Rattle.session_engine.proofs.session.Session.take_cancel_reject.Goals as goa
 pub forward-requires-clause-passed : goal.forward-requires-clause-passed
 forward-requires-clause-passed g c =
     passes c.args.sound.now (message.CancelReject c.args.reject.now) c.requires.read refl
-
 
 pub forward-requires-clause-time : goal.forward-requires-clause-time
 forward-requires-clause-time g c = λ fields has.

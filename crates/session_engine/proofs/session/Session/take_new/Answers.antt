@@ -25,7 +25,6 @@ pub forward-requires-clause-passed : goal.forward-requires-clause-passed
 forward-requires-clause-passed g c =
     passes c.args.sound.now (message.New c.args.order.now) c.requires.read refl
 
-
 pub forward-requires-clause-time : goal.forward-requires-clause-time
 forward-requires-clause-time g c = λ fields has.
     ap (λ (s : Stamp). s.time) c.tell_answer-stamp.ensures.stamp
@@ -70,7 +69,6 @@ returns-in-Some-clause-taken g c =
     (c.write_reject_order.ensures fields
     (rw (c.bytes.ensures.bytes, c.frame.ensures.frame) has))))
     c.give_written.ensures.cause
-
 
 pub write_reject_order-requires-clause-accepted : goal.write_reject_order-requires-clause-accepted
 write_reject_order-requires-clause-accepted g c =

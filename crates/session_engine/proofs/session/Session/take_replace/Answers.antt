@@ -28,7 +28,6 @@ pub forward-requires-clause-passed : goal.forward-requires-clause-passed
 forward-requires-clause-passed g c =
     passes c.args.sound.now (message.Replace c.args.replace.now) c.requires.read refl
 
-
 pub forward-requires-clause-time : goal.forward-requires-clause-time
 forward-requires-clause-time g c = λ fields has.
     ap (λ (s : Stamp). s.time) c.tell_answer-stamp.ensures.stamp
