@@ -6,7 +6,8 @@
 //! larger. A *level* is a price's place among 524,287 between the symbol's collars. The root of a
 //! symbol's tree joins the values of all sessions by halves, and is *clear* where its highest buy is
 //! below its lowest sell. What of a session's orders may rest is kept order by order, with all *terms*
-//! that the venue may have of each. No code here knows of frames or of threads.
+//! that the venue may have of each. `run_cross` filters a session so, frame by frame. No code here knows
+//! of threads.
 #![tactic(auto)]
 
 mod cross;

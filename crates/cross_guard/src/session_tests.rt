@@ -739,17 +739,40 @@ const BUYS_AGAINST_IT: [Row; 2] = [
     ),
 ];
 
-#[test]
-fn orders_that_cross_another_sessions_are_refused(rt: HostRuntime) -> Result<(), Fail> {
-    let alloc = rt.alloc();
+/// A session that has a buy at 10.00.
+const BUYS: [Row; 1] = [(
+    "a buy alone",
+    Comes::Order("a1", BUY, AT_10, 10),
+    true,
+    &[47_186_444_288],
+)];
+
+/// Sells of a session while another has a buy at 10.00.
+const SELLS_AGAINST_IT: [Row; 2] = [
+    (
+        "a sell at the other's price",
+        Comes::Order("a1", SELL, AT_10, 10),
+        false,
+        &[434_287, 0],
+    ),
+    (
+        "a sell above it",
+        Comes::Order("a2", SELL, AT_10_01, 10),
+        true,
+        &[434_187],
+    ),
+];
+
+/// Two sessions in turn over one board, each compared with its rows.
+fn in_turn(rt: &impl Abort, alloc: Global, first: &[Row], second: &[Row]) -> Result<(), Fail> {
     let Ok(limits) = read_limits(alloc, XYZ) else {
         return Err("no limits")?;
     };
-    assert!(&rt; limits.quota() <= QUOTA, "a quota in range");
+    assert!(rt; limits.quota() <= QUOTA, "a quota in range");
     let trees = limits.symbols().len().max(1) as u32;
     let board = PlainBoard::<Cross>::open(alloc, trees, 2, limits.quota())?;
-    let ports = ports_of(alloc, &SELLS)?;
-    let first = run_cross(
+    let ports = ports_of(alloc, first)?;
+    let done = run_cross(
         alloc,
         0,
         &limits,
@@ -758,10 +781,10 @@ fn orders_that_cross_another_sessions_are_refused(rt: HostRuntime) -> Result<(),
         ports.pass,
         ports.client,
     );
-    compare(&rt, alloc, "the first session", &SELLS, &first)?;
-    let ports = ports_of(alloc, &BUYS_AGAINST_IT)?;
-    let hand = first.hand.give_back().hand(1);
-    let second = run_cross(
+    compare(rt, alloc, "the first session", first, &done)?;
+    let ports = ports_of(alloc, second)?;
+    let hand = done.hand.give_back().hand(1);
+    let done = run_cross(
         alloc,
         1,
         &limits,
@@ -770,7 +793,13 @@ fn orders_that_cross_another_sessions_are_refused(rt: HostRuntime) -> Result<(),
         ports.pass,
         ports.client,
     );
-    compare(&rt, alloc, "the second session", &BUYS_AGAINST_IT, &second)
+    compare(rt, alloc, "the second session", second, &done)
+}
+
+#[test]
+fn of_two_sessions_orders_that_cross_one_is_passed(rt: HostRuntime) -> Result<(), Fail> {
+    in_turn(&rt, rt.alloc(), &SELLS, &BUYS_AGAINST_IT)?;
+    in_turn(&rt, rt.alloc(), &BUYS, &SELLS_AGAINST_IT)
 }
 
 /// What a session of a sell and a buy at its price does where the ports fail.
