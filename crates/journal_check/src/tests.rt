@@ -381,3 +381,59 @@ fn sessions_are_told_apart(rt: HostRuntime) -> Result<(), Fail> {
     assert_eq!(rt; said(&rt, alloc, two, &[ORDER, ORDER], NEVER)?, fault(5, 2));
     Ok(())
 }
+
+/// The journal above with one byte in place of another.
+fn with_byte(alloc: Global, place: usize, byte: u8) -> Result<Vec<u8>, AllocError> {
+    let mut text = Vec::from_slice(alloc, SENT)?;
+    if let Some(old) = text.get_mut(place) {
+        *old = byte;
+    }
+    Ok(text)
+}
+
+/// Whether the byte is a digit.
+fn is_digit_at(place: usize) -> bool {
+    match SENT.get(place) {
+        Some(byte) => byte.is_ascii_digit(),
+        None => false,
+    }
+}
+
+/// Whether the byte stands in the stamp of a read. Each tree has one read here, and any stamp is its.
+fn is_in_stamp(place: usize) -> bool {
+    let mut commas = 0u32;
+    let mut of_read = false;
+    for earlier in 0..place {
+        match SENT.get(earlier) {
+            Some(b'\n') => {
+                commas = 0;
+                of_read = SENT.get(earlier.saturating_add(1)) == Some(&b'r');
+            }
+            Some(b',') => commas = commas.saturating_add(1),
+            _ => {}
+        }
+    }
+    of_read && commas == 3
+}
+
+#[test]
+fn each_other_digit_is_a_fault_but_in_the_stamp_of_an_only_read(
+    rt: HostRuntime,
+) -> Result<(), Fail> {
+    let alloc = rt.alloc();
+    for place in 0..SENT.len() {
+        if is_digit_at(place) {
+            for byte in [b'0', b'1', b'2', b'7', b'9'] {
+                let text = with_byte(alloc, place, byte)?;
+                let answer = said(&rt, alloc, &text, &[ORDER], NEVER)?;
+                let is_lawful = text.as_slice() == SENT || is_in_stamp(place);
+                assert_eq!(rt;
+                    answer == Checked::Yes,
+                    is_lawful,
+                    "place {place}, byte {byte}"
+                );
+            }
+        }
+    }
+    Ok(())
+}

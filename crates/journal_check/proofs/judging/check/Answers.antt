@@ -19,10 +19,10 @@ judge-requires-clause-enough g c = record {
 pub judge-requires-clause-read : goal.judge-requires-clause-read
 judge-requires-clause-read g c = record {
   bytes = omega (
-        arith,
-        rows_within c.args.journal.now (kept c.in-Ok.told.acts.items)
-            (kept c.in-Ok.told.lines.items) c.in-Ok.ensures.read,
-      );
+    arith,
+    rows_within c.args.journal.now (kept c.in-Ok.told.acts.items)
+        (kept c.in-Ok.told.lines.items) c.in-Ok.ensures.read,
+  );
   sound = c.in-Ok.ensures.read.sound;
 }
 
@@ -30,7 +30,7 @@ pub returns-in-Ok-clause-answer : goal.returns-in-Ok-clause-answer
 returns-in-Ok-clause-answer g c =
     let said = c.judge.ensures.answer in
     let read : IsRead c.args.journal.now (kept c.in-Ok.told.acts.items)
-        (kept c.in-Ok.told.lines.items) = record {
+    (kept c.in-Ok.told.lines.items) = record {
       few = omega arith;
       journal = c.in-Ok.ensures.read;
     } in record {

@@ -17,10 +17,14 @@ returns-in-Some-clause-answer g c =
     let count : c.len.result ≡ length left =
     omega (arith, c.len.ensures, length-map c.args.sources.items g.S.Source.left) in
     rw c.answered.ensures.answer
-    (record { yes = λ is. absurd (no_yes _ is); worth = λ is. absurd (no_yes _ is); no = λ need text. row_first c.args.limits.now text left (map g.K.SessionScreens.meaning c.args.screens.items) acts lines c.in-Some.fault
-    (subst (λ (n : ℕ). IsRowFault n (halt_tree c.args.limits.now) acts lines c.in-Some.fault) count
-    (subst (λ (t : ℕ). IsRowFault c.len.result t acts lines c.in-Some.fault) c.halt_tree.ensures.tree
-    c.in-Some.ensures.found)) })
+    (record {
+      yes = λ is. absurd (no_yes _ is);
+      worth = λ is. absurd (no_yes _ is);
+      no = λ need text. row_first c.args.limits.now text left (map g.K.SessionScreens.meaning c.args.screens.items) acts lines c.in-Some.fault
+          (subst (λ (n : ℕ). IsRowFault n (halt_tree c.args.limits.now) acts lines c.in-Some.fault) count
+          (subst (λ (t : ℕ). IsRowFault c.len.result t acts lines c.in-Some.fault) c.halt_tree.ensures.tree
+          c.in-Some.ensures.found));
+    })
 
 pub returns-in-Some-clause-back : goal.returns-in-Some-clause-back
 returns-in-Some-clause-back g c =
