@@ -7,73 +7,18 @@ usage: check_tests.py
 import unittest
 from collections import Counter
 
+import journals
 from changes import changes
-from judge_tests import INPUTS, JOURNAL, LIMITS
+from journals import HEAD, WORKED
 from model import check
 from model.check import first_fault
 from model.journal import Fault, read_journal
 from model.judge import Wrong, judge_journal
 from model.limits import Limits
 from model.session import run_session
-from rows import base, buy, one
+from rows import buy
 
-# One order that is sent: its limits, its file and its journal.
-ONE = one(base(1_000), buy("C1", "a1", 100, "10.0000"))
-SENT = """kind,session,a,b,c,d
-post,0,0,1,1000,
-post,0,1,1,1000,
-post,0,2,1,1000,
-read,0,3,0,0,0
-read,0,0,1,1,1000
-read,0,1,1,1,1000
-read,0,2,1,1,1000
-sent,0,0,,,
-ended,0,0,,,
-line,0,0,1,1,1000
-line,0,1,1,1,1000
-line,0,2,1,1,1000
-"""
-HEAD = SENT.splitlines()[0] + "\n"
-# What is changed in it: a name, the old text and the new one, and the fault's kind and row.
-OF_ONE = (
-    ("nothing", "", "", None),
-    ("a value that isn't the root", "read,0,0,1,1,1000", "read,0,0,1,1,999", (7, 6)),
-    ("the last line is gone", "line,0,2,1,1,1000\n", "", (6, 0)),
-    ("another value is posted", "post,0,0,1,1000,", "post,0,0,1,999,", (5, 2)),
-    ("no header", HEAD, "", (1, 1)),
-    ("no row has a LF", SENT, "kind,session,a,b,c,d", (1, 1)),
-    ("a number with a zero", "sent,0,0,,,", "sent,0,00,,,", (1, 9)),
-    ("the session hasn't ended", SENT[SENT.index("ended"):], "", (1, 10)),
-    ("nothing at all", SENT, "", (1, 1)),
-    ("no session", SENT, HEAD, (2, 0)),
-    ("a session more", "line,0,0,1,1,1000", "ended,1,0,,,\nline,0,0,1,1,1000", (2, 0)),
-    ("an end by a failed write", "ended,0,0,,,", "ended,0,5,,,", (3, 10)),
-    ("a post in a tree that isn't", "post,0,2,1,1000,", "post,0,4,1,1000,", (4, 4)),
-    ("a line of such a tree", "line,0,2,1,1,1000\n", "line,0,4,1,1,1000\n", (4, 13)),
-    ("a cut file", "ended,0,0,,,", "ended,0,1,0,,", (5, 10)),
-    ("an act more", "sent,0,0,,,", "sent,0,0,,,\nnoted,0,1,1,0,0", (5, 10)),
-    ("an act less", "sent,0,0,,,\n", "", (5, 9)),
-    ("a line of another value", "line,0,1,1,1,1000", "line,0,1,1,1,999", (6, 12)),
-    ("a line of a session that isn't", "line,0,1,1,1,1000", "line,7,1,1,1,1000", (6, 12)),
-    ("a line of the second post", "line,0,1,1,1,1000", "line,0,1,1,2,1000", (6, 12)),
-    ("a line of no post", "line,0,2,1,1,1000\n", "line,0,2,1,1,1000\nline,0,3,1,1,0\n", (6, 14)),
-    ("a place behind the lines", "read,0,0,1,1,1000", "read,0,0,1,2,1000", (7, 6)),
-    ("a place before the own post", "read,0,0,1,1,1000", "read,0,0,1,0,0", (7, 6)),
-    ("a read of the halt tree", "read,0,3,0,0,0", "read,0,3,0,1,0", (7, 5)),
-    ("another stamp", "read,0,0,1,1,1000", "read,0,0,7,1,1000", None),
-)
-# The same of two sessions that race; session 1 is refused.
-OF_TWO = (
-    ("nothing", "", "", None),
-    ("one stamp at two places", "read,1,0,2,2,1200", "read,1,0,1,2,1200", (7, 15)),
-    ("a smaller stamp at a later place", "read,0,0,1,1,600", "read,0,0,3,1,600", (7, 15)),
-    ("a halt root of 1", "read,0,3,0,0,0", "read,0,3,0,0,1", (5, 9)),
-    ("the verdict of the account", "refused,1,0,1,0,0", "refused,1,0,2,0,0", (5, 21)),
-    ("the acts of the second session and a line", "refused,1,0,1,0,0\nended,1,0,,,\nline,0,0,1,1,600",
-     "refused,1,0,2,0,0\nended,1,0,,,\nline,0,0,1,1,601", (5, 21)),
-    ("a line that comes too late", "line,0,0,1,1,600\nline,1,0,2,1,600",
-     "line,1,0,1,1,600\nline,0,0,2,1,600", (7, 6)),
-)
+ONE, SENT = journals.SENT, journals.SENT.journal
 
 
 def is_lawful(limits, text, inputs):
@@ -91,28 +36,22 @@ def is_lawful(limits, text, inputs):
 class Faults(unittest.TestCase):
     """Faults of each kind."""
 
-    def expect(self, text, limits, inputs, table):
-        """The fault of each change in a table."""
-        for name, old, new, wanted in table:
-            with self.subTest(name):
-                self.assertIn(old, text)
-                found = first_fault(Limits(limits), text.replace(old, new, 1).encode(), inputs)
-                self.assertEqual(found, wanted)
-
-    def test_of_one_session(self):
-        self.expect(SENT, ONE.limits, ONE.inputs, OF_ONE)
-
-    def test_of_two_sessions(self):
-        self.expect(JOURNAL, LIMITS, INPUTS, OF_TWO)
+    def test_forged_journals(self):
+        for worked, table in WORKED:
+            for name, old, new, wanted in table:
+                with self.subTest(worked.name, forged=name):
+                    self.assertIn(old, worked.journal)
+                    data = worked.journal.replace(old, new, 1).encode()
+                    self.assertEqual(first_fault(Limits(worked.limits), data, worked.inputs), wanted)
 
     def test_each_change_has_a_fault_or_is_lawful_too(self):
         """The judge of runs, which walks each tree once, takes exactly what has no fault."""
-        for text, limits, inputs in ((SENT, ONE.limits, ONE.inputs), (JOURNAL, LIMITS, INPUTS)):
-            own, counts = Limits(limits), Counter()
-            for name, changed in changes(text):
-                found = first_fault(own, changed.encode(), inputs)
+        for worked, _ in WORKED:
+            own, counts = Limits(worked.limits), Counter()
+            for name, changed in changes(worked.journal):
+                found = first_fault(own, changed.encode(), worked.inputs)
                 counts[found and found[0]] += 1
-                if (found is None) != is_lawful(own, changed, inputs):
+                if (found is None) != is_lawful(own, changed, worked.inputs):
                     self.fail(f"{name}: {found}")
             self.assertEqual(set(counts), {None, *range(1, 8)}, counts)
 
@@ -126,7 +65,7 @@ class Faults(unittest.TestCase):
     def test_a_text_that_is_too_long(self):
         """It isn't read."""
         data = bytearray(check.BYTES_MOST + 1)
-        self.assertEqual(first_fault(Limits(LIMITS), data, INPUTS), (1, 0))
+        self.assertEqual(first_fault(Limits(ONE.limits), data, ONE.inputs), (1, 0))
 
 
 class Grammar(unittest.TestCase):

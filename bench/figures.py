@@ -23,6 +23,9 @@ from dataclasses import dataclass
 from types import SimpleNamespace
 from typing import Callable
 
+import check_times
+import checks
+import cross_stress
 import forests
 import fuzz
 import live
@@ -33,6 +36,7 @@ import refuse
 import replay
 import sessions
 import stress
+from model.judge import Wrong
 from model.session import ENDS
 from rows import RUNS
 from sessions import spread
@@ -42,7 +46,10 @@ README = os.path.join(sessions.HERE, "README.md")
 # Sessions, and the orders of each.
 LOADS = ((1, 40_000), (4, 2_000), (8, 1_000), (8, 2_000), (8, 5_000), (32, 2_000),
          (64, 2_000))
-STRESS_RUNS, FUZZ_RUNS = 2_000, 24_000
+# The same for a check beside its run, and for the guard.
+CHECK_LOADS = ((1, 10_000), (8, 2_000), (32, 2_000), (64, 2_000))
+CROSS_LOADS = ((1, 10_000), (8, 2_000), (32, 2_000), (64, 2_000))
+STRESS_RUNS, FUZZ_RUNS, GUARD_RUNS, CHECKED_RUNS = 2_000, 24_000, 1_000, 1_000
 # What the refusals for a field fault have as their code, and how many codes there are.
 FIELD_FAULT, REFUSALS, NOTES = 16, 16, 6
 # Trees, posts of each pass in each, and the works: 2,048,000 posts each time.
@@ -73,6 +80,25 @@ def session_rows(asked):
     """A row for each load."""
     return [session_cells(sessions.measure(asked.gate, count, orders, asked.runs))
             for count, orders in LOADS]
+
+
+def check_cells(seen):
+    """The row of a load that is run and checked."""
+    return (f"{seen.sessions}", f"{seen.orders:,}", spread(seen.runs), spread(seen.checks),
+            f"{seen.times_as_long():.2f}", megabytes(seen.run_memory),
+            megabytes(seen.check_memory), megabytes(seen.journal))
+
+
+def check_rows(asked):
+    """A row for each load that is run and checked."""
+    return [check_cells(check_times.measure(asked.gate, count, orders, asked.runs))
+            for count, orders in CHECK_LOADS]
+
+
+def cross_rows(asked):
+    """A row for each load of the guard."""
+    return [session_cells(sessions.measure(asked.gate, count, orders, asked.runs, "cross"))
+            for count, orders in CROSS_LOADS]
 
 
 def power(points):
@@ -116,18 +142,61 @@ def stress_cells(counts):
             ("orders and requests sent, refused; notes",
              f"{counts['sent']:,}, {counts['refused']:,}; {counts['noted']:,}"),
             ("causes of refusals that came; of notes",
-             f"{causes(counts, 'refused', REFUSALS)}; {causes(counts, 'noted', NOTES)}")]
+             f"{causes(counts, 'refused', REFUSALS)}; {causes(counts, 'noted', NOTES)}"),
+            ("journals that the program's own check called lawful", f"{counts['checked']:,}")]
 
 
-def judged(asked, runs):
+def judged(asked, runs, has_check=False):
     """What the scripts that judge runs are asked."""
-    return SimpleNamespace(gate=asked.gate, runs=runs, seed=1, sessions=None, check=False, keep=None,
-                           only=None, jobs=len(os.sched_getaffinity(0)))
+    return SimpleNamespace(gate=asked.gate, runs=runs, seed=1, sessions=None, check=has_check,
+                           keep=None, only=None, jobs=len(os.sched_getaffinity(0)))
 
 
 def stress_rows(asked):
-    """What came in runs judged from outside."""
-    return stress_cells(stress.run_all(judged(asked, STRESS_RUNS)))
+    """What came in runs judged from outside, whose journals the program checks too where it can."""
+    has_check = stress.has_command(asked.gate, "check")
+    return stress_cells(stress.run_all(judged(asked, STRESS_RUNS, has_check), stress.judge))
+
+
+def guard_cells(counts):
+    """The rows of guards judged from outside."""
+    return [("runs; of them those whose sessions met", f"{counts['runs']:,}; {counts['met']:,}"),
+            ("sessions", f"{counts['sessions']:,}"),
+            ("posts, reads", f"{counts['post']:,}, {counts['read']:,}"),
+            ("orders and replaces that were asked about and passed on", f"{counts['sent']:,}"),
+            ("refused as Cross, as Quota",
+             f"{counts['refused', 17]:,}, {counts['refused', 5]:,}"),
+            ("of the runs: what was passed on was run, and judged", f"{counts['run on']:,}")]
+
+
+def guard_rows(asked):
+    """What came in guards judged from outside."""
+    return guard_cells(stress.run_all(judged(asked, GUARD_RUNS), cross_stress.judge))
+
+
+def checks_cells(every, changed):
+    """The rows of journals that the program checks, of each change of worked ones and of changes of
+    the journals of runs."""
+    words = ["LAWFUL", *(f"check fault {kind}" for kind in range(1, 8))]
+
+    def told(counts):
+        return ", ".join(f"{counts[word]:,}" for word in words)
+
+    total = sum(every.values())
+    runs = changed["runs"]
+    return [("each small change of the worked journals", f"{total:,}"),
+            ("of them lawful, and with a first fault of the kinds 1 to 7", told(every)),
+            ("runs; journals of them, whole and changed, by their inputs and limits and by others",
+             f"{runs:,}; {sum(changed.values()) - runs:,}"),
+            ("of these lawful, and with a first fault of the kinds 1 to 7", told(changed))]
+
+
+def checks_rows(asked):
+    """What came in checks by the program."""
+    wanted = SimpleNamespace(gate=os.path.abspath(asked.gate), seed=1, runs=CHECKED_RUNS,
+                             changes=20, keep=None)
+    return checks_cells(*(checks.run_all(SimpleNamespace(**vars(wanted), every=is_every))
+                          for is_every in (True, False)))
 
 
 def fuzz_cells(counts):
@@ -242,8 +311,8 @@ def message_rows(asked):
 @dataclass(frozen=True)
 class Group:
     """Figures of one table: its name, its columns, what measures its rows, which programs that
-    needs, whether it takes seconds, whether each figure is of several runs, and what says more of
-    the rows, if anything does."""
+    needs, whether it takes seconds, whether each figure is of several runs, what says more of the
+    rows, if anything does, and which command of the program it is of."""
     name: str
     head: tuple
     rows: Callable
@@ -251,6 +320,7 @@ class Group:
     is_quick: bool = False
     is_repeated: bool = True
     more: Callable = None
+    command: str = "run"
 
 
 ON_TREES = ("forest", "mutex", "steps", "bare mutex", "bare steps")
@@ -260,7 +330,15 @@ GROUPS = (
           more=growth),
     Group("most", ("Session", "Seconds", "Memory at most", "Bytes read", "Bytes written"),
           most_rows, is_quick=True),
+    Group("check", ("Sessions", "Orders each", "A run", "A check of its journal",
+                    "Times as long", "Memory of the run", "Memory of the check", "Journal"),
+          check_rows, is_quick=True, command="check"),
+    Group("cross", ("Sessions", "Orders each", "On all processors", "On one", "Times as fast",
+                    "Memory at most", "Read", "Written"), cross_rows, is_quick=True,
+          command="cross"),
     Group("stress", ("What", "How many"), stress_rows, is_repeated=False),
+    Group("checks", ("What", "How many"), checks_rows, is_repeated=False, command="check"),
+    Group("guards", ("What", "How many"), guard_rows, is_repeated=False, command="cross"),
     Group("fuzz", ("What", "How many"), fuzz_rows, is_repeated=False),
     Group("refuse", ("Run", "Runs", "Status 8", "As with ample memory", "Whole journals at 8",
                      "Sessions ended by memory"), refuse_rows, ("cc",),
@@ -284,7 +362,11 @@ def left_out(group, asked):
     if not (asked.groups or asked.all or group.is_quick):
         return "takes minutes (--all)"
     missing = [name for name in group.needs if shutil.which(name) is None]
-    return f"needs {', '.join(missing)}" if missing else None
+    if missing:
+        return f"needs {', '.join(missing)}"
+    if group.command != "run" and not stress.has_command(asked.gate, group.command):
+        return f"the program has no `{group.command}`"
+    return None
 
 
 def place(asked):
@@ -318,7 +400,7 @@ def run_group(group, asked):
     """Runs a group and prints it. Gives whether nothing was wrong."""
     try:
         part = measured(group, asked)
-    except (SystemExit, OSError, ValueError, subprocess.SubprocessError) as wrong:
+    except (SystemExit, OSError, ValueError, Wrong, subprocess.SubprocessError) as wrong:
         print(f"## {group.name}\n\nIt ended with something wrong: {wrong}\n", flush=True)
         return False
     print(f"## {group.name}\n\n{part}", flush=True)

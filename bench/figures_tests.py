@@ -8,18 +8,24 @@ usage: figures_tests.py
 import contextlib
 import io
 import os
+import subprocess
+import sys
 import tempfile
 import unittest
 from collections import Counter
 from types import SimpleNamespace
 from unittest import mock
 
+import check_times
 import figures
 import machine
 import most
 import sessions
 from table import marks, part_of, read_table, table, with_part
 
+STAND_IN = os.path.join(sessions.HERE, "stand_in.py")
+# What stands in the place of a table that no built program was there for.
+NOT_YET = "Not measured yet.\n"
 GATE = os.environ.get("GATE_PROGRAM", sessions.PROGRAM)
 BY_NAME = {group.name: group for group in figures.GROUPS}
 DOCUMENT = "before\n<!-- bench/run live -->\nold\n<!-- end of live -->\nafter\n"
@@ -76,9 +82,28 @@ class Rows(unittest.TestCase):
     def test_what_judged_runs_count(self):
         counts = Counter({"runs": 10, "met": 4, "sessions": 30, "post": 1_000, "read": 900,
                           "sent": 50, "refused": 60, "noted": 7, ("refused", 16): 60,
-                          ("noted", 1): 6, ("noted", 3): 1})
+                          ("noted", 1): 6, ("noted", 3): 1, "checked": 9})
         self.assertEqual([cells[1] for cells in figures.stress_cells(counts)], [
-            "10; 4", "30", "1,000, 900", "50, 60; 7", "1 of 16; 2 of 6"])
+            "10; 4", "30", "1,000, 900", "50, 60; 7", "1 of 16; 2 of 6", "9"])
+
+    def test_a_check_beside_its_run(self):
+        seen = check_times.Figures(8, 2_000, [0.02, 0.04, 0.06], [0.04, 0.06, 0.12], 17_000_000,
+                                   9_500_000, 6_200_000)
+        self.assertEqual(figures.check_cells(seen), (
+            "8", "2,000", "0.040 s (0.020 to 0.060)", "0.060 s (0.040 to 0.120)", "2.00", "17 MB",
+            "9.5 MB", "6.2 MB"))
+
+    def test_what_guards_count(self):
+        counts = Counter({"runs": 10, "met": 4, "sessions": 30, "post": 1_000, "read": 900,
+                          "sent": 50, ("refused", 17): 60, ("refused", 5): 7, "run on": 2})
+        self.assertEqual([cells[1] for cells in figures.guard_cells(counts)], [
+            "10; 4", "30", "1,000, 900", "50", "60, 7", "2"])
+
+    def test_what_checks_count(self):
+        every = Counter({"LAWFUL": 3, "check fault 1": 2_000, "check fault 7": 5})
+        changed = Counter({"runs": 2, "LAWFUL": 2, "check fault 5": 40})
+        self.assertEqual([cells[1] for cells in figures.checks_cells(every, changed)], [
+            "2,008", "3, 2,000, 0, 0, 0, 0, 0, 5", "2; 42", "2, 0, 0, 0, 0, 40, 0, 0"])
 
     def test_what_inputs_with_something_wrong_count(self):
         counts = Counter({"runs": 10, "sessions": 12, "frames": 99, ("fault", 3): 2,
@@ -136,12 +161,15 @@ class Command(unittest.TestCase):
     """What is run, what is left out, and what stands in README.md."""
 
     def test_quick_groups_alone_run_with_no_words(self):
-        asked = SimpleNamespace(all=False, groups=[])
-        ran = [group.name for group in figures.GROUPS if figures.left_out(group, asked) is None]
-        self.assertEqual(ran, ["sessions", "most"])
+        for gate, own in ((STAND_IN, ["sessions", "most", "check", "cross"]),
+                          (sys.executable, ["sessions", "most"])):
+            asked = SimpleNamespace(all=False, groups=[], gate=gate)
+            ran = [group.name for group in figures.GROUPS if figures.left_out(group, asked) is None]
+            self.assertEqual(ran, own)
 
     def test_what_is_missing_is_told(self):
-        asked = SimpleNamespace(all=True, groups=[])
+        asked = SimpleNamespace(all=True, groups=[], gate="no program")
+        self.assertEqual(figures.left_out(BY_NAME["check"], asked), "the program has no `check`")
         with mock.patch("shutil.which", lambda name: None):
             self.assertEqual(figures.left_out(BY_NAME["forests"], asked), "needs rt, rustc")
             self.assertIsNone(figures.left_out(BY_NAME["live"], asked))
@@ -181,9 +209,45 @@ class Command(unittest.TestCase):
             text = file.read()
         for group in figures.GROUPS:
             with self.subTest(group.name):
-                head, rows = read_table(part_of(text, group.name))
+                part = part_of(text, group.name)
+                if part == NOT_YET:
+                    continue
+                head, rows = read_table(part)
                 self.assertEqual(head, list(group.head))
                 self.assertTrue(all(cell for row in rows for cell in row))
+
+    def test_small_loads_over_the_stand_in(self):
+        """Each group that the stand-in can run, with few runs and few orders."""
+        small = {"LOADS": ((1, 2),), "CHECK_LOADS": ((2, 2),), "CROSS_LOADS": ((2, 2),),
+                 "STRESS_RUNS": 1, "GUARD_RUNS": 1, "CHECKED_RUNS": 1}
+        asked = SimpleNamespace(gate=STAND_IN, runs=1)
+        with mock.patch.multiple(figures, **small), mock.patch("checks.every", lambda: ()):
+            for name in ("sessions", "check", "cross", "stress", "guards", "checks"):
+                with self.subTest(name):
+                    rows = BY_NAME[name].rows(asked)
+                    self.assertEqual({len(row) for row in rows}, {len(BY_NAME[name].head)})
+
+    def test_a_check_that_finds_a_fault_is_told(self):
+        with mock.patch.dict(os.environ, {"WRONG": "faulty"}), self.assertRaises(
+                subprocess.SubprocessError):
+            check_times.measure(STAND_IN, 1, 2, 1)
+        with self.assertRaises(ValueError):
+            check_times.checked(["echo", "check fault"], os.sched_getaffinity(0))
+
+    def test_orders_of_the_guard_never_cross(self):
+        seen = sessions.measure(STAND_IN, 2, 3, 1, "cross")
+        self.assertEqual(seen.last, "status 0")
+        self.assertEqual(seen.read, seen.written - self.journal_bytes(6))
+
+    def journal_bytes(self, orders):
+        """What the guard's journal has where each of so many orders is passed on."""
+        with tempfile.TemporaryDirectory() as folder:
+            made = sessions.Runs(STAND_IN, folder, sessions.texts_of(2, orders // 2, "cross"), "cross")
+            made.seconds(os.sched_getaffinity(0))
+            with open(os.path.join(made.out, "cross.csv"), encoding="ascii") as file:
+                text = file.read()
+        self.assertEqual(text.count("\nsent,"), orders)
+        return len(text)
 
     def test_a_small_load(self):
         if not os.path.exists(GATE):

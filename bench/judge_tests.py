@@ -7,42 +7,10 @@ The run is typed in: session 0's buy of 60 @ 10.00 is sent, session 1's is refus
 """
 import unittest
 
+from journals import RACED, TERMS
 from model.judge import Wrong, judge_run
 from rows import text
 
-LIMITS = "firm,,1000,,,\naccount,ACC,100000,,,\nsymbol,XYZ,100000,1,12,100000\n"
-JOURNAL = """kind,session,a,b,c,d
-post,0,0,1,600,
-post,0,1,1,600,
-post,0,2,1,600,
-read,0,3,0,0,0
-read,0,0,1,1,600
-read,0,1,1,1,600
-read,0,2,1,1,600
-sent,0,0,,,
-ended,0,0,,,
-post,1,0,1,600,
-post,1,1,1,600,
-post,1,2,1,600,
-read,1,3,0,0,0
-read,1,0,2,2,1200
-read,1,1,2,2,1200
-read,1,2,2,2,1200
-post,1,0,2,0,
-post,1,1,2,0,
-post,1,2,2,0,
-refused,1,0,1,0,0
-ended,1,0,,,
-line,0,0,1,1,600
-line,1,0,2,1,600
-line,1,0,3,2,0
-line,0,1,1,1,600
-line,1,1,2,1,600
-line,1,1,3,2,0
-line,0,2,1,1,600
-line,1,2,2,1,600
-line,1,2,3,2,0
-"""
 TOLD = """session 0 whole sent 1 refused 0 noted 0
 session 1 whole sent 0 refused 1 noted 0
 tree 0 firm - posts 3 root 600 limit 1000
@@ -53,9 +21,7 @@ status 0
 """
 
 
-TERMS = "1=ACC|55=XYZ|54=1|38=60|40=2|44=10.00|60=T|"
-INPUTS = [text(f"35=D|49=C1|56=GATE|34=1|52=T|11=a1|{TERMS}"),
-          text(f"35=D|49=C2|56=GATE|34=1|52=T|11=b1|{TERMS}")]
+LIMITS, INPUTS, JOURNAL = RACED.limits, RACED.inputs, RACED.journal
 VENUES = [text(f"35=D|49=GATE|56=VENUE|34=1|52=T|11=a1|{TERMS}"), b""]
 CLIENTS = [b"", text("35=8|49=GATE|56=C2|34=1|52=T|37=NONE|11=b1|17=G1|150=8|39=8|103=3|1=ACC|"
                      "55=XYZ|54=1|38=60|151=0|14=0|6=0|58=FIRM|")]

@@ -15,12 +15,19 @@ def frame(fields):
     return f"{front}10={sum(front.encode()) % 256:03}\x01"
 
 
-def order(number):
-    """A NewOrderSingle (35=D) to buy 1 to 9 shares at 10.00 to 10.99."""
+def order(number, side=1, units=10):
+    """A NewOrderSingle (35=D) to buy 1 to 9 shares at 10.00 to 10.99, or on another Side (54) at so
+    many units and as many cents."""
     return frame([
         (35, "D"), (49, "C1"), (56, "GATE"), (34, number), (52, TIME), (11, f"order-{number}"), (1, "ACC"),
-        (55, "XYZ"), (54, 1), (38, number % 9 + 1), (40, 2), (44, f"10.{number % 100:02}"), (60, TIME),
+        (55, "XYZ"), (54, side), (38, number % 9 + 1), (40, 2), (44, f"{units}.{number % 100:02}"),
+        (60, TIME),
     ])
+
+
+def sell(number):
+    """The same to sell at 20.00 to 20.99."""
+    return order(number, side=2, units=20)
 
 
 def main():

@@ -1,9 +1,10 @@
 #!/usr/bin/env python3
-"""Runs the built program over sessions of buy limit orders, on all processors and on one by turns.
+"""Runs the built program over sessions of limit orders, on all processors and on one by turns.
 
-usage: sessions.py [SESSIONS] [ORDERS] [--gate PATH] [--runs N]      8 of 2,000 orders, 7 runs
+usage: sessions.py [SESSIONS] [ORDERS] [--gate PATH] [--runs N] [--cross]     8 of 2,000, 7 runs
 
-Prints the seconds from start to end on all processors and on one, where the sessions can only take
+The orders are buys. With `--cross` the guard against crossing orders is run, and every second
+session sells at a higher price, so that each order is passed on. Prints the seconds from start to end on all processors and on one, where the sessions can only take
 turns, each the median and the range of the runs; how many times as fast all are, by the median of
 the ratios of runs beside each other; the most memory of a run; the bytes read and written; and the
 load of the machine.
@@ -17,7 +18,7 @@ import tempfile
 import time
 from dataclasses import dataclass
 
-from orders import order
+from orders import order, sell
 
 LIMITS = ("firm,,999999999999,,,\naccount,ACC,999999999999,,,\n"
           "symbol,XYZ,999999999999,1,1000,1000000\nquota,,200000,,,\n")
@@ -55,15 +56,38 @@ def spread(seconds):
     return f"{statistics.median(seconds):.3f} s ({min(seconds):.3f} to {max(seconds):.3f})"
 
 
+def timed(words, processors):
+    """The seconds of a call on these processors, and the last line that it prints."""
+    start = time.perf_counter()
+    done = subprocess.run(words, check=True, capture_output=True, text=True,
+                          preexec_fn=lambda: os.sched_setaffinity(0, processors))
+    return time.perf_counter() - start, done.stdout.splitlines()[-1]
+
+
+def memory_of(words):
+    """The most memory of a call, in bytes, which is looked at again and again. What the system tells
+    of a process that has ended isn't taken: it has in it what the memory was before the program was
+    called, which is Python's."""
+    most = 0
+    with subprocess.Popen(words, stdout=subprocess.DEVNULL) as gate:
+        while gate.poll() is None:
+            most = max(most, highest(gate.pid))
+            time.sleep(0.0002)
+    return most
+
+
 class Runs:
     """Runs of a program in a folder, over sessions of these texts."""
 
-    def __init__(self, gate, folder, texts):
+    def __init__(self, gate, folder, texts, command="run"):
         self.out, self.inputs = os.path.join(folder, "out"), os.path.join(folder, "in")
         os.mkdir(self.out)
         os.mkdir(self.inputs)
         names = [write(self.inputs, f"s{place:02}.fix", text) for place, text in enumerate(texts)]
-        self.words = [gate, "run", write(folder, "limits.csv", LIMITS), self.out] + names
+        limits = write(folder, "limits.csv", LIMITS)
+        self.words = [gate, command, limits, self.out] + names
+        self.journal = os.path.join(self.out, "journal.csv")
+        self.check_words = [gate, "check", limits, self.journal] + names
         self.last = ""
 
     def clear(self):
@@ -74,24 +98,15 @@ class Runs:
     def seconds(self, processors):
         """The seconds of a run on these processors."""
         self.clear()
-        start = time.perf_counter()
-        done = subprocess.run(self.words, check=True, capture_output=True, text=True,
-                              preexec_fn=lambda: os.sched_setaffinity(0, processors))
-        taken = time.perf_counter() - start
-        self.last = done.stdout.splitlines()[-1]
+        taken, self.last = timed(self.words, processors)
         return taken
 
     def memory(self):
-        """The most memory of a run, in bytes, of a few that are looked at again and again. What the
-        system tells of a process that has ended isn't taken: it has in it what the memory was
-        before the program was called, which is Python's."""
+        """The most memory of a run, in bytes, of a few."""
         most = 0
         for _ in range(LOOKED_AT):
             self.clear()
-            with subprocess.Popen(self.words, stdout=subprocess.DEVNULL) as gate:
-                while gate.poll() is None:
-                    most = max(most, highest(gate.pid))
-                    time.sleep(0.0002)
+            most = max(most, memory_of(self.words))
         return most
 
 
@@ -114,12 +129,19 @@ class Figures:
         return statistics.median(one / own for one, own in zip(self.on_one, self.side_by_side))
 
 
-def measure(gate, sessions, orders, runs):
+def texts_of(sessions, orders, command="run"):
+    """The text of each session: buys, and for the guard sells above them in every second one."""
+    numbers = range(1, orders + 1)
+    buys = "".join(map(order, numbers))
+    sells = "".join(map(sell, numbers)) if command == "cross" else buys
+    return [sells if place % 2 else buys for place in range(sessions)]
+
+
+def measure(gate, sessions, orders, runs, command="run"):
     """The figures of so many sessions of so many orders."""
     every, side_by_side, on_one = os.sched_getaffinity(0), [], []
-    text = "".join(order(number) for number in range(1, orders + 1))
     with tempfile.TemporaryDirectory() as folder:
-        made = Runs(gate, folder, [text] * sessions)
+        made = Runs(gate, folder, texts_of(sessions, orders, command), command)
         for _ in range(runs):
             side_by_side.append(made.seconds(every))
             on_one.append(made.seconds({min(every)}))
@@ -134,12 +156,14 @@ def arguments():
     parser.add_argument("orders", nargs="?", type=int, default=2_000)
     parser.add_argument("--gate", default=PROGRAM)
     parser.add_argument("--runs", type=int, default=7)
+    parser.add_argument("--cross", action="store_true")
     return parser.parse_args()
 
 
 def main():
     asked = arguments()
-    seen = measure(asked.gate, asked.sessions, asked.orders, asked.runs)
+    command = "cross" if asked.cross else "run"
+    seen = measure(asked.gate, asked.sessions, asked.orders, asked.runs, command)
     print(f"{seen.sessions} sessions of {seen.orders} orders: {spread(seen.side_by_side)} on "
           f"{seen.processors} processors, {spread(seen.on_one)} on one, "
           f"{seen.times_as_fast():.2f} times as fast; at most {seen.memory / 1e6:.1f} MB, "

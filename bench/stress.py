@@ -63,6 +63,15 @@ def call(program, folder, limits, inputs, command="run", **more):
     return subprocess.run(words, capture_output=True, check=False, **more), out
 
 
+def has_command(program, command):
+    """Whether there is a program that tells this command in its usage."""
+    try:
+        done = subprocess.run([program], capture_output=True, check=False)
+    except OSError:
+        return False
+    return f"gate {command} ".encode() in done.stdout
+
+
 def check(program, folder, journal, sessions):
     """The status and the text of a check of a journal over a run's own files."""
     names = [os.path.join(folder, f"s{number:02}.fix") for number in range(sessions)]
@@ -130,6 +139,8 @@ def tell(counts, seconds):
     print(f"{counts['runs']:,} runs of {counts['sessions']:,} sessions, which met in "
           f"{counts['met']:,} of them, {seconds:.0f} s; {platform.machine()}, "
           f"{os.cpu_count()} processors, load {os.getloadavg()[0]:.1f}")
+    if counts["checked"]:
+        print(f"{counts['checked']:,} journals were called lawful by the program's own check")
     print(f"posts {counts['post']:,}, reads {counts['read']:,}, sent {counts['sent']:,}, "
           f"refused {counts['refused']:,}, noted {counts['noted']:,}")
     print(f"refused by code  {causes}")
@@ -145,6 +156,7 @@ def judge(asked, folder, number, counts):
     if asked.check:
         told = check(asked.gate, folder, found[2].encode(), len(inputs))
         demand(told == LAWFUL, "its own check", told)
+        counts["checked"] += 1
 
 
 def run_all(asked, judge_one):

@@ -1,0 +1,86 @@
+#!/usr/bin/env python3
+"""Runs the built program over sessions of buy limit orders, and has it check the journal of each run,
+by turns.
+
+usage: check_times.py [SESSIONS] [ORDERS] [--gate PATH] [--runs N]      8 of 2,000 orders, 7 runs
+
+Prints the seconds of a run and of a check from start to end, each the median and the range; how many
+times as long a check takes, by the median of the ratios of neighbours; the most memory of both; the
+bytes of the journal; and the load of the machine. It ends with status 1 where a check doesn't say
+that its journal is lawful.
+"""
+import argparse
+import os
+import statistics
+import sys
+import tempfile
+from dataclasses import dataclass
+
+from sessions import LOOKED_AT, PROGRAM, Runs, memory_of, spread, texts_of, timed
+
+LAWFUL = "LAWFUL"
+
+
+@dataclass
+class Figures:
+    """What runs and the checks of their journals took: the seconds of each, and in bytes the most
+    memory of both and what the journal has."""
+    sessions: int
+    orders: int
+    runs: list
+    checks: list
+    run_memory: int
+    check_memory: int
+    journal: int
+
+    def times_as_long(self):
+        """The median of the ratios of a check and the run beside it."""
+        return statistics.median(check / run for run, check in zip(self.runs, self.checks))
+
+
+def checked(words, processors):
+    """The seconds of a check; ValueError where it doesn't say that the journal is lawful."""
+    taken, last = timed(words, processors)
+    if last != LAWFUL:
+        raise ValueError(f"a check says {last}")
+    return taken
+
+
+def measure(gate, sessions, orders, runs):
+    """The figures of so many sessions of so many orders."""
+    every, own, checks = os.sched_getaffinity(0), [], []
+    with tempfile.TemporaryDirectory() as folder:
+        made = Runs(gate, folder, texts_of(sessions, orders))
+        for _ in range(runs):
+            own.append(made.seconds(every))
+            checks.append(checked(made.check_words, every))
+        run_memory = made.memory()
+        return Figures(sessions, orders, own, checks, run_memory,
+                       max(memory_of(made.check_words) for _ in range(LOOKED_AT)),
+                       os.path.getsize(made.journal))
+
+
+def arguments():
+    """What the command line asks for."""
+    parser = argparse.ArgumentParser()
+    parser.add_argument("sessions", nargs="?", type=int, default=8)
+    parser.add_argument("orders", nargs="?", type=int, default=2_000)
+    parser.add_argument("--gate", default=PROGRAM)
+    parser.add_argument("--runs", type=int, default=7)
+    return parser.parse_args()
+
+
+def main():
+    asked = arguments()
+    try:
+        seen = measure(asked.gate, asked.sessions, asked.orders, asked.runs)
+    except ValueError as wrong:
+        sys.exit(str(wrong))
+    print(f"{seen.sessions} sessions of {seen.orders} orders: a run {spread(seen.runs)}, a check "
+          f"{spread(seen.checks)}, {seen.times_as_long():.2f} times as long; at most "
+          f"{seen.run_memory / 1e6:.1f} MB and {seen.check_memory / 1e6:.1f} MB; a journal of "
+          f"{seen.journal:,} bytes; load {os.getloadavg()[0]:.1f}")
+
+
+if __name__ == "__main__":
+    main()
