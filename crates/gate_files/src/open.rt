@@ -51,11 +51,7 @@ fn fetch_name<D: Folder>(alloc: Global, name: &str, folder: &mut D) -> Result<Ve
 }
 
 /// Reads the limit file.
-pub fn read_limits<D: Folder>(
-    alloc: Global,
-    name: &str,
-    folder: &mut D,
-) -> Result<Limits, Status>
+pub fn read_limits<D: Folder>(alloc: Global, name: &str, folder: &mut D) -> Result<Limits, Status>
     ensures went { Went (folder_of D.texts D.read_faults D.write_faults folder.old)
         (folder_of D.texts D.read_faults D.write_faults folder.new) }
     ensures texts { D.texts folder.new ≡ D.texts folder.old }
@@ -80,10 +76,7 @@ pub struct Sinks<K> {
 }
 
 /// Makes the two outputs of a session. Where the second can't be made the first is closed empty.
-pub fn create_outputs<D: Folder>(
-    outputs: &Outputs,
-    folder: &mut D,
-) -> Result<Sinks<D::Out>, Status>
+pub fn create_outputs<D: Folder>(outputs: &Outputs, folder: &mut D) -> Result<Sinks<D::Out>, Status>
     ensures went { Went (folder_of D.texts D.read_faults D.write_faults folder.old)
         (folder_of D.texts D.read_faults D.write_faults folder.new) }
     ensures texts { IfOk result (λ sinks. D.texts folder.new ≡ option_map

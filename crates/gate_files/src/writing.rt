@@ -26,7 +26,11 @@ fn give_pieces<S: Sink>(sink: &mut S, pieces: &[Vec<u8>]) -> Result<(), PortFaul
 }
 
 /// Creates a name, gives it these pieces and closes it.
-pub fn write_file<D: Folder>(name: &str, pieces: &[Vec<u8>], folder: &mut D) -> Result<(), PortFault>
+pub fn write_file<D: Folder>(
+    name: &str,
+    pieces: &[Vec<u8>],
+    folder: &mut D,
+) -> Result<(), PortFault>
     ensures went { Went (folder_of D.texts D.read_faults D.write_faults folder.old)
         (folder_of D.texts D.read_faults D.write_faults folder.new) }
     ensures ok { OnOk result (Holds (D.texts folder.new) name.now (joined pieces.now)) }

@@ -26,7 +26,10 @@ use crate::replay::journal_after;
 use crate::tasks::tasks_of;
 use crate::told::Told;
 use fold_law::Memory;
-use gate_files::{Answer, Command, Inputs, Named, Names, Opened, Run, Status, close_sessions, command_from, names_in, open_sessions, read_limits, tell, tell_answer};
+use gate_files::{
+    Answer, Command, Inputs, Named, Names, Opened, Run, Status, close_sessions, command_from,
+    names_in, open_sessions, read_limits, tell, tell_answer,
+};
 use gate_ports::{Folder, Gate, Sink};
 use limit_table::Limits;
 use make_load::Asked;

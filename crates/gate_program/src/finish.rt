@@ -15,7 +15,9 @@ use crate::pieces::journal_pieces;
 use crate::summary::text_after;
 use crate::told::Told;
 use fold_law::Memory;
-use gate_files::{Answer, Inputs, Names, Opened, Run, Status, close_sessions, standing, write_file};
+use gate_files::{
+    Answer, Inputs, Names, Opened, Run, Status, close_sessions, standing, write_file,
+};
 use gate_ports::{Folder, PortFault};
 use limit_table::Limits;
 use risk_journal::{End, Journal};
