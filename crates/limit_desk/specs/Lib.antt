@@ -1,2 +1,4 @@
 pub mod Least
 pub mod LeastLaws
+pub mod Officers
+pub mod OneAnswer

@@ -6,7 +6,14 @@
 #![tactic(auto)]
 
 mod least;
+mod officer;
+mod officer_law;
 mod reading;
 
 pub use least::{Min, OPEN};
+pub use officer::{OfficerRow, OfficerTree, ROWS_MOST, read_officer};
+pub use officer_law::one_officer_answer_stands;
 pub use reading::{LimitSeen, effective};
+
+#[cfg(test)]
+mod tests;

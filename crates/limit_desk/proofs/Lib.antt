@@ -1,0 +1,3 @@
+pub mod OfficerRows
+pub mod OfficerReads
+pub mod OneAnswer
