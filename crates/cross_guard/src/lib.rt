@@ -35,6 +35,8 @@ pub use run::{CrossDone, run_cross};
 #[cfg(test)]
 mod orders_tests;
 #[cfg(test)]
+mod session_rows;
+#[cfg(test)]
 mod session_tests;
 #[cfg(test)]
 mod tests;
