@@ -193,6 +193,7 @@ fn ports_of(alloc: Global, rows: &[Row]) -> Result<Ports, Fail> {
 /// Runs a session over these limits with a board of its own.
 fn runs(rt: &impl Abort, alloc: Global, limits: &Limits, ports: Ports) -> Result<Ended, Fail> {
     assert!(rt; limits.quota() <= QUOTA, "a quota in range");
+    let _few = limits.halt_tree();
     let trees = limits.symbols().len().max(1) as u32;
     let hand = PlainBoard::<Cross>::open(alloc, trees, 1, limits.quota())?.hand(0);
     let Ports {
@@ -344,6 +345,7 @@ fn in_turn(rt: &impl Abort, alloc: Global, first: &[Row], second: &[Row]) -> Res
         return Err("no limits")?;
     };
     assert!(rt; limits.quota() <= QUOTA, "a quota in range");
+    let _few = limits.halt_tree();
     let trees = limits.symbols().len().max(1) as u32;
     let board = PlainBoard::<Cross>::open(alloc, trees, 2, limits.quota())?;
     let ports = ports_of(alloc, first)?;

@@ -120,7 +120,7 @@ fn posts_stand_in_the_order_of_the_rows(rt: HostRuntime) -> Result<(), Fail> {
 
 #[test]
 fn a_posted_limit_is_read(rt: HostRuntime) -> Result<(), Fail> {
-    let board = PlainBoard::<Min>::open(rt.alloc(), 1, 2, 2)?;
+    let board = PlainBoard::<Min>::open(rt.alloc(), 1, 3, 2)?;
     let mut desk = board.hand(1);
     desk.reserve(1)?;
     assert_eq!(rt;
@@ -131,7 +131,7 @@ fn a_posted_limit_is_read(rt: HostRuntime) -> Result<(), Fail> {
     let mut officer = desk.give_back().hand(0);
     officer.reserve(1)?;
     officer.post(0, 500);
-    let mut desk = officer.give_back().hand(1);
+    let mut desk = officer.give_back().hand(2);
     desk.reserve(1)?;
     assert_eq!(rt; effective(&mut desk, 0, 1000).limit, 500, "the post counts");
     Ok(())
