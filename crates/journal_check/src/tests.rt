@@ -1,6 +1,6 @@
 //! Journals against the answers that were worked out for them by hand, each fault alone and before each
 //! later one; and a source that fails. Bytes of inputs have a bar for SOH.
-use crate::{CheckFault, Checked, check};
+use crate::{CheckFault, Checked, JOURNAL_MOST, check};
 use fold_law::SESSIONS;
 use gate_ports::MemSource;
 use limit_table::{Limits, read_limits};
@@ -15,6 +15,13 @@ const LIMITS: &[u8] = b"firm,,1000,,,\naccount,ACC,100000,,,\nsymbol,XYZ,100000,
 const ORDER: &[u8] =
     b"8=FIX.4.4|9=113|35=D|49=C1|56=GATE|34=1|52=20240102-10:00:00|11=a1|1=ACC|55=XYZ|54=1|38=100|\
         40=2|44=10.0000|60=20240102-10:00:00|10=175|";
+
+/// That order, and one like it: together they are above the firm's limit.
+const TWO_ORDERS: &[u8] =
+    b"8=FIX.4.4|9=113|35=D|49=C1|56=GATE|34=1|52=20240102-10:00:00|11=a1|1=ACC|55=XYZ|54=1|38=100|\
+        40=2|44=10.0000|60=20240102-10:00:00|10=175|\
+        8=FIX.4.4|9=113|35=D|49=C1|56=GATE|34=1|52=20240102-10:00:00|11=a2|1=ACC|55=XYZ|54=1|38=100|\
+        40=2|44=10.0000|60=20240102-10:00:00|10=176|";
 
 /// No input.
 const NOTHING: &[u8] = b"";
@@ -34,7 +41,39 @@ line,0,0,1,1,1000\n\
 line,0,1,1,1,1000\n\
 line,0,2,1,1,1000\n";
 
-/// The same with another value in the read of the firm's root.
+/// The journal of a session with the two orders: the first is sent, and the second refused.
+const ONE_REFUSED: &[u8] = b"kind,session,a,b,c,d\n\
+post,0,0,1,1000,\n\
+post,0,1,1,1000,\n\
+post,0,2,1,1000,\n\
+read,0,3,0,0,0\n\
+read,0,0,1,1,1000\n\
+read,0,1,1,1,1000\n\
+read,0,2,1,1,1000\n\
+sent,0,0,,,\n\
+post,0,0,2,2000,\n\
+post,0,1,2,2000,\n\
+post,0,2,2,2000,\n\
+read,0,3,0,0,0\n\
+read,0,0,2,2,2000\n\
+read,0,1,2,2,2000\n\
+read,0,2,2,2,2000\n\
+post,0,0,3,1000,\n\
+post,0,1,3,1000,\n\
+post,0,2,3,1000,\n\
+refused,0,1,1,0,0\n\
+ended,0,0,,,\n\
+line,0,0,1,1,1000\n\
+line,0,0,2,2,2000\n\
+line,0,0,3,3,1000\n\
+line,0,1,1,1,1000\n\
+line,0,1,2,2,2000\n\
+line,0,1,3,3,1000\n\
+line,0,2,1,1,1000\n\
+line,0,2,2,2,2000\n\
+line,0,2,3,3,1000\n";
+
+/// The journal of the one order with another value in the read of the firm's root.
 const OTHER_READ: &[u8] = b"kind,session,a,b,c,d\n\
 post,0,0,1,1000,\n\
 post,0,1,1,1000,\n\
@@ -94,8 +133,8 @@ struct Case {
     fault: Option<CheckFault>,
 }
 
-/// The faults alone, and before each later one. The rows of acts are 2 to 10, and those of lines 11 to
-/// 13.
+/// The faults alone, and the first of two of a kind. The rows of acts are 2 to 10, and those of lines 11
+/// to 13.
 const CASES: &[Case] = &[
     Case {
         name: "no change",
@@ -120,6 +159,11 @@ const CASES: &[Case] = &[
     Case {
         name: "early",
         changes: &[(10, b"ended,0,4,,,\n")],
+        fault: Some(CheckFault { row: 10, kind: 3 }),
+    },
+    Case {
+        name: "early by a write that failed",
+        changes: &[(10, b"ended,0,5,,,\n")],
         fault: Some(CheckFault { row: 10, kind: 3 }),
     },
     Case {
@@ -188,36 +232,6 @@ const CASES: &[Case] = &[
         fault: Some(CheckFault { row: 5, kind: 7 }),
     },
     Case {
-        name: "text before count",
-        changes: &[(1, b"kind\n"), (10, b"ended,0,0,,,\nended,1,0,,,\n")],
-        fault: Some(CheckFault { row: 1, kind: 1 }),
-    },
-    Case {
-        name: "count before early",
-        changes: &[(10, b"ended,0,4,,,\nended,1,0,,,\n")],
-        fault: Some(CheckFault { row: 0, kind: 2 }),
-    },
-    Case {
-        name: "early before tree",
-        changes: &[(2, b"post,0,4,1,1000,\n"), (10, b"ended,0,6,,,\n")],
-        fault: Some(CheckFault { row: 10, kind: 3 }),
-    },
-    Case {
-        name: "tree before acts",
-        changes: &[(2, b"post,0,0,1,999,\n"), (13, b"line,0,4,1,1,1000\n")],
-        fault: Some(CheckFault { row: 13, kind: 4 }),
-    },
-    Case {
-        name: "acts before lines",
-        changes: &[(9, b"sent,0,1,,,\n"), (11, b"line,0,0,1,2,1000\n")],
-        fault: Some(CheckFault { row: 9, kind: 5 }),
-    },
-    Case {
-        name: "lines before reads",
-        changes: &[(5, b"read,0,3,0,1,0\n"), (12, b"line,0,1,1,1,1001\n")],
-        fault: Some(CheckFault { row: 12, kind: 6 }),
-    },
-    Case {
         name: "a missing line before reads",
         changes: &[(5, b"read,0,3,0,1,0\n"), (13, b"")],
         fault: Some(CheckFault { row: 0, kind: 6 }),
@@ -231,6 +245,159 @@ const CASES: &[Case] = &[
         name: "a wrong line before a missing one",
         changes: &[(11, b""), (12, b"line,0,1,1,1,1001\n")],
         fault: Some(CheckFault { row: 11, kind: 6 }),
+    },
+];
+
+/// Each kind of fault before each later one.
+const BEFORE: &[Case] = &[
+    Case {
+        name: "text before count",
+        changes: &[(1, b"kind\n"), (10, b"ended,0,0,,,\nended,1,0,,,\n")],
+        fault: Some(CheckFault { row: 1, kind: 1 }),
+    },
+    Case {
+        name: "text before early",
+        changes: &[(1, b"kind\n"), (10, b"ended,0,4,,,\n")],
+        fault: Some(CheckFault { row: 1, kind: 1 }),
+    },
+    Case {
+        name: "text before tree",
+        changes: &[(1, b"kind\n"), (13, b"line,0,4,1,1,1000\n")],
+        fault: Some(CheckFault { row: 1, kind: 1 }),
+    },
+    Case {
+        name: "text before acts",
+        changes: &[(1, b"kind\n"), (9, b"sent,0,1,,,\n")],
+        fault: Some(CheckFault { row: 1, kind: 1 }),
+    },
+    Case {
+        name: "text before lines",
+        changes: &[(1, b"kind\n"), (11, b"line,0,0,1,2,1000\n")],
+        fault: Some(CheckFault { row: 1, kind: 1 }),
+    },
+    Case {
+        name: "text before reads",
+        changes: &[(1, b"kind\n"), (8, b"read,0,2,1,0,1000\n")],
+        fault: Some(CheckFault { row: 1, kind: 1 }),
+    },
+    Case {
+        name: "count before early",
+        changes: &[(10, b"ended,0,4,,,\nended,1,0,,,\n")],
+        fault: Some(CheckFault { row: 0, kind: 2 }),
+    },
+    Case {
+        name: "count before tree",
+        changes: &[
+            (10, b"ended,0,0,,,\nended,1,0,,,\n"),
+            (13, b"line,0,4,1,1,1000\n"),
+        ],
+        fault: Some(CheckFault { row: 0, kind: 2 }),
+    },
+    Case {
+        name: "count before acts",
+        changes: &[(9, b"sent,0,1,,,\n"), (10, b"ended,0,0,,,\nended,1,0,,,\n")],
+        fault: Some(CheckFault { row: 0, kind: 2 }),
+    },
+    Case {
+        name: "count before lines",
+        changes: &[
+            (10, b"ended,0,0,,,\nended,1,0,,,\n"),
+            (11, b"line,0,0,1,2,1000\n"),
+        ],
+        fault: Some(CheckFault { row: 0, kind: 2 }),
+    },
+    Case {
+        name: "count before reads",
+        changes: &[
+            (8, b"read,0,2,1,0,1000\n"),
+            (10, b"ended,0,0,,,\nended,1,0,,,\n"),
+        ],
+        fault: Some(CheckFault { row: 0, kind: 2 }),
+    },
+    Case {
+        name: "early before tree",
+        changes: &[(2, b"post,0,4,1,1000,\n"), (10, b"ended,0,6,,,\n")],
+        fault: Some(CheckFault { row: 10, kind: 3 }),
+    },
+    Case {
+        name: "early before acts",
+        changes: &[(9, b"sent,0,1,,,\n"), (10, b"ended,0,4,,,\n")],
+        fault: Some(CheckFault { row: 10, kind: 3 }),
+    },
+    Case {
+        name: "early before lines",
+        changes: &[(10, b"ended,0,4,,,\n"), (11, b"line,0,0,1,2,1000\n")],
+        fault: Some(CheckFault { row: 10, kind: 3 }),
+    },
+    Case {
+        name: "early before reads",
+        changes: &[(8, b"read,0,2,1,0,1000\n"), (10, b"ended,0,4,,,\n")],
+        fault: Some(CheckFault { row: 10, kind: 3 }),
+    },
+    Case {
+        name: "tree before acts",
+        changes: &[(2, b"post,0,0,1,999,\n"), (13, b"line,0,4,1,1,1000\n")],
+        fault: Some(CheckFault { row: 13, kind: 4 }),
+    },
+    Case {
+        name: "tree before lines",
+        changes: &[(11, b"line,0,0,1,2,1000\n"), (13, b"line,0,4,1,1,1000\n")],
+        fault: Some(CheckFault { row: 13, kind: 4 }),
+    },
+    Case {
+        name: "tree before reads",
+        changes: &[(8, b"read,0,2,1,0,1000\n"), (13, b"line,0,4,1,1,1000\n")],
+        fault: Some(CheckFault { row: 13, kind: 4 }),
+    },
+    Case {
+        name: "acts before lines",
+        changes: &[(9, b"sent,0,1,,,\n"), (11, b"line,0,0,1,2,1000\n")],
+        fault: Some(CheckFault { row: 9, kind: 5 }),
+    },
+    Case {
+        name: "acts before reads",
+        changes: &[(8, b"read,0,2,1,0,1000\n"), (9, b"sent,0,1,,,\n")],
+        fault: Some(CheckFault { row: 9, kind: 5 }),
+    },
+    Case {
+        name: "lines before reads",
+        changes: &[(5, b"read,0,3,0,1,0\n"), (12, b"line,0,1,1,1,1001\n")],
+        fault: Some(CheckFault { row: 12, kind: 6 }),
+    },
+];
+
+/// The journal of two orders, by the stamps of its reads. Those of the halt tree are in rows 5 and 13, and
+/// those of the firm's in 6 and 14.
+const STAMPS: &[Case] = &[
+    Case {
+        name: "no change",
+        changes: &[],
+        fault: None,
+    },
+    Case {
+        name: "a later stamp of a later read",
+        changes: &[(14, b"read,0,0,3,2,2000\n")],
+        fault: None,
+    },
+    Case {
+        name: "one stamp at two places",
+        changes: &[(14, b"read,0,0,1,2,2000\n")],
+        fault: Some(CheckFault { row: 14, kind: 7 }),
+    },
+    Case {
+        name: "an earlier stamp at a later place",
+        changes: &[(6, b"read,0,0,4,1,1000\n")],
+        fault: Some(CheckFault { row: 14, kind: 7 }),
+    },
+    Case {
+        name: "an earlier stamp at one place",
+        changes: &[(5, b"read,0,3,1,0,0\n")],
+        fault: Some(CheckFault { row: 13, kind: 7 }),
+    },
+    Case {
+        name: "later stamps at one place",
+        changes: &[(5, b"read,0,3,1,0,0\n"), (13, b"read,0,3,2,0,0\n")],
+        fault: None,
     },
 ];
 
@@ -251,7 +418,7 @@ fn limits(alloc: Global) -> Result<Limits, Fail> {
     }
 }
 
-/// The row with this number of the journal above, with its changes.
+/// The row with this number of a journal, with its changes.
 fn add_row(text: &mut Vec<u8>, number: usize, row: &[u8], case: &Case) -> Result<(), AllocError> {
     for change in case.changes {
         if change.0 == number {
@@ -263,12 +430,12 @@ fn add_row(text: &mut Vec<u8>, number: usize, row: &[u8], case: &Case) -> Result
     Ok(())
 }
 
-/// The journal above with the changes of a case.
-fn changed(alloc: Global, case: &Case) -> Result<Vec<u8>, AllocError> {
+/// A journal with the changes of a case.
+fn changed(alloc: Global, journal: &[u8], case: &Case) -> Result<Vec<u8>, AllocError> {
     let mut text = Vec::new(alloc);
     let mut row = Vec::new(alloc);
     let mut number = 1usize;
-    for byte in SENT {
+    for byte in journal {
         if *byte == b'\n' {
             add_row(&mut text, number, &row, case)?;
             row.clear();
@@ -321,18 +488,57 @@ fn worked_journals_have_their_answers(rt: HostRuntime) -> Result<(), Fail> {
     Ok(())
 }
 
-#[test]
-fn each_fault_comes_alone_and_before_later_ones(rt: HostRuntime) -> Result<(), Fail> {
-    let alloc = rt.alloc();
-    for case in CASES {
-        let text = changed(alloc, case)?;
-        let answer = said(&rt, alloc, &text, &[ORDER], NEVER)?;
+/// Compares each case of a journal of a session with this input.
+fn compares(
+    rt: &impl Abort,
+    alloc: Global,
+    journal: &[u8],
+    input: &[u8],
+    cases: &[Case],
+) -> Result<(), Fail> {
+    for case in cases {
+        let text = changed(alloc, journal, case)?;
+        let answer = said(rt, alloc, &text, &[input], NEVER)?;
         let expected = match case.fault {
             Some(first) => Checked::No(first),
             None => Checked::Yes,
         };
         assert_eq!(rt; answer, expected, "{}", case.name);
     }
+    Ok(())
+}
+
+#[test]
+fn each_fault_comes_alone(rt: HostRuntime) -> Result<(), Fail> {
+    compares(&rt, rt.alloc(), SENT, ORDER, CASES)
+}
+
+#[test]
+fn each_kind_comes_before_each_later_one(rt: HostRuntime) -> Result<(), Fail> {
+    compares(&rt, rt.alloc(), SENT, ORDER, BEFORE)
+}
+
+#[test]
+fn stamps_stand_in_the_order_of_places(rt: HostRuntime) -> Result<(), Fail> {
+    compares(&rt, rt.alloc(), ONE_REFUSED, TWO_ORDERS, STAMPS)
+}
+
+/// So many bytes of a letter.
+fn letters(alloc: Global, count: usize) -> Result<Vec<u8>, AllocError> {
+    let piece = [b'k'; 65_536];
+    let mut text = Vec::with_capacity(alloc, count)?;
+    for _ in 0..count / piece.len() {
+        text.extend_from_slice(&piece)?;
+    }
+    text.extend_from_slice(&piece[..count % piece.len()])?;
+    Ok(text)
+}
+
+#[test]
+fn a_journal_of_a_byte_too_many_is_no_text(rt: HostRuntime) -> Result<(), Fail> {
+    let alloc = rt.alloc();
+    let text = letters(alloc, JOURNAL_MOST + 1)?;
+    assert_eq!(rt; said(&rt, alloc, &text, &[NOTHING], NEVER)?, fault(1, 0));
     Ok(())
 }
 
