@@ -40,10 +40,11 @@ pub(crate) fn read_files<D: Folder>(
         (folder_with D.texts D.read_faults D.write_faults (told_text status) folder.new)
         (number_of status)) }
 {
-    let limits = match read_limits(alloc, check.limits, folder) {
-        Ok(limits) => limits.counted_for(check.sessions.len() as u32),
+    let file = match read_limits(alloc, check.limits, folder) {
+        Ok(file) => file,
         Err(status) => return Err(status),
     };
+    let limits = file.counted_for(check.sessions.len() as u32);
     match fetch_name(alloc, check.journal, JOURNAL_MOST + 1, folder) {
         Ok(journal) => Ok(Files { limits, journal }),
         Err(status) => Err(status),

@@ -7,6 +7,10 @@
 mod command;
 mod files;
 mod inputs;
+mod laws;
 mod telling;
+#[cfg(test)]
+mod tests;
 
 pub use command::check_words;
+pub use laws::one_verdict_stands;

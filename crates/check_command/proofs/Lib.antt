@@ -1,0 +1,5 @@
+pub mod Sources
+pub mod Cases
+pub mod Ways
+pub mod Told
+pub mod OneVerdict
