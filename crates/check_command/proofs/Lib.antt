@@ -1,5 +1,4 @@
 pub mod Sources
 pub mod Cases
 pub mod Ways
-pub mod Told
 pub mod OneVerdict
