@@ -1,22 +1,21 @@
 -- The case of sources that were opened is that of the files at their names.
-use Rattle.std.proofs.Common.{◌≡◌, ◌≢◌, ℕ, zero, suc, ◌+◌, ◌<◌, ◌≤◌, List, [], ◌∷◌, ◌++◌, length, map}
+use Rattle.std.proofs.Common.{◌≡◌, ℕ, zero, suc, ◌+◌, ◌<◌, List, [], ◌∷◌, ◌++◌, length, map}
 use Rattle.std.proofs.Common.{get_or, refl, sym, ap, ◌∙◌, subst, arith, inl, inr, length-append, true, false}
 use Rattle.std.proofs.lemmas.List.{length-map}
 use Rattle.std.proofs.lemmas.Option.{slice_get_within, slice_get-get_or}
-use Rattle.std.specs.Prelude.{Option, Some, None, IfSome, IsSome, ◌⊎◌, slice_get}
+use Rattle.std.specs.Prelude.{Option, Some, None, IfSome, ◌⊎◌, slice_get}
 use Rattle.std.specs.Option.{is_some}
 use Rattle.gate_ports.specs.Names.{Texts, MeansName}
 use Rattle.gate_files.specs.Words.{CheckWords}
-use Rattle.gate_files.specs.Stages.{HasFront}
-use Rattle.gate_files.proofs.Chains.{rose_is_some}
 use Rattle.gate_files.proofs.Lists.{mapped_at, there_is}
 use Rattle.limit_table.specs.declared.limits.Limits.{Limits}
 use Rattle.risk_board.specs.declared.hand.Line.{Line}
 use Rattle.risk_journal.specs.declared.acts.Act.{Act}
 use Rattle.screen_kit.specs.Screens.{ScreenValue}
 use Rattle.journal_check.specs.Answers.{AreBack, AreTold}
-use Rattle.journal_check.specs.Faults.{Case, case_of, told, IsFirstFault, IsLawful, IsRead}
+use Rattle.journal_check.specs.Faults.{case_of, told, armed_in, IsFirstFault, IsLawful, IsRead}
 use Rattle.journal_check.specs.Judging.{StopsAtSource}
+use Rattle.journal_check.specs.SessionActs.{IsOwnSession}
 use Rattle.journal_check.specs.Worth.{IsWorth}
 use Rattle.journal_check.specs.declared.judging.TheConstants.{JOURNAL_MOST}
 use Rattle.check_command.specs.Inputs.{name_in, AreNew, AreOwn}
@@ -172,7 +171,9 @@ module _ {S : Type 0} (left name : S → Option (List ℕ)) (faults : S → ℕ)
                     stops.behind.rose.at,
                 length-map sources left,
               ) in
-              in_case (map left sources) other _
+              in_case (map left sources) other
+              (λ (b : List ℕ). IsOwnSession limits
+              (armed_in (case_of limits bytes (map left sources) sets) other) b own)
               (each_some other (get_or (map left sources) other None)
               (slice_get-get_or (map left sources) other None inside))
               (stops.behind.earlier other own less at);

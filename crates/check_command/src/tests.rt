@@ -183,12 +183,18 @@ fn folder_of(alloc: Global, row: &Row) -> Result<MemFolder, Fail> {
     Ok(folder)
 }
 
+/// The words of a command line.
+fn words_of(alloc: Global, words: &[&str]) -> Result<Vec<String>, AllocError> {
+    let mut all = Vec::new(alloc);
+    for word in words {
+        all.push(String::from_str(alloc, word)?)?;
+    }
+    Ok(all)
+}
+
 /// The answer to a row.
 fn answer_to_row(alloc: Global, row: &Row) -> Result<Answer, Fail> {
-    let mut words = Vec::new(alloc);
-    for word in ["check", "limits", "journal", "session"] {
-        words.push(String::from_str(alloc, word)?)?;
-    }
+    let words = words_of(alloc, &["check", "limits", "journal", "session"])?;
     let mut folder = folder_of(alloc, row)?;
     match command_from(&words) {
         Some(Command::Check(check)) => {

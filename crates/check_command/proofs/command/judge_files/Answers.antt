@@ -5,6 +5,7 @@ use Rattle.std.specs.Prelude.{Option}
 use Rattle.gate_ports.specs.Names.{Texts}
 use Rattle.gate_files.specs.CommandOf.{check_value}
 use Rattle.gate_files.proofs.Folder.{went_on}
+use Rattle.check_command.specs.Files.{AreRead}
 use Rattle.check_command.specs.Inputs.{AreOwn}
 use Rattle.check_command.proofs.Cases.{back_own}
 use Rattle.check_command.proofs.Ways.{few_sessions, some_session, judged, unopened}
@@ -52,11 +53,14 @@ returns-in-Ok-clause-went g c = went_on _ _ _ c.in-Ok.ensures.went c.give_back.e
 
 pub returns-in-Ok-clause-way : goal.returns-in-Ok-clause-way
 returns-in-Ok-clause-way g c =
+    let read = subst (λ (t : List ℕ). AreRead (g.D.Folder.texts c.args.folder.now)
+    (check_value c.args.check.now) c.args.files.now.limits t) (sym c.deref.ensures.value)
+    c.requires.read in
     judged g.D.In.Source.left g.D.In.Source.name g.D.In.Source.faults
-    (check_value c.args.check.now) _ c.args.files.now.limits c.args.files.now.journal.items
+    (check_value c.args.check.now) _ c.args.files.now.limits c.deref.result.now
     c.in-Ok.sources.items c.judge.result.sources.items
     (c.in-Ok.ensures.many ∙ sym (length-map c.args.check.now.sessions.now string_bytes))
-    _ _ _ _ _ _ _ _ _ c.judge.result.answer c.answer_to.result c.requires.read
+    _ _ _ _ _ _ _ _ _ c.judge.result.answer c.answer_to.result read
     c.in-Ok.ensures.ok c.judge.ensures.answer c.judge.ensures.read_fault c.in-Ok.ensures.went
     c.give_back.ensures c.in-Ok.ensures.texts c.answer_to.ensures
 
