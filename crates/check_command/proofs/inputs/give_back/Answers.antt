@@ -19,7 +19,7 @@ done-requires-clause-means g c =
     c.remove-next.new.self.items place c.remove-next.result c.loop-place.invariant.rest below
     c.remove-next.ensures.value c.remove-next.ensures.by_index.2 in
     let owned = next_own g.D.In.Source.left g.D.In.Source.name g.D.In.Source.faults _ _ _
-    c.args.sources.items place c.remove-next.result _ taken.0
+    c.args.sources.items place c.remove-next.result c.as_str.result.now taken.0
     (name_at c.args.names.now place c.index-names-place.result _
     (omega (arith, below, c.requires.few)) c.index-names-place.is
           c.as_str.ensures.value)
@@ -35,7 +35,7 @@ done-requires-clause-there g c =
     c.remove-next.new.self.items place c.remove-next.result c.loop-place.invariant.rest below
     c.remove-next.ensures.value c.remove-next.ensures.by_index.2 in
     let owned = next_own g.D.In.Source.left g.D.In.Source.name g.D.In.Source.faults _ _ _
-    c.args.sources.items place c.remove-next.result _ taken.0
+    c.args.sources.items place c.remove-next.result c.as_str.result.now taken.0
     (name_at c.args.names.now place c.index-names-place.result _
     (omega (arith, below, c.requires.few)) c.index-names-place.is
           c.as_str.ensures.value)
@@ -53,7 +53,7 @@ loop-place-preserved g c =
     record {
       rest = taken.1;
       given = one_given_back g.D.In.Source.left g.D.In.Source.name g.D.In.Source.faults _ _ _ _
-          c.args.sources.items place c.remove-next.result _ taken.0
+          c.args.sources.items place c.remove-next.result c.as_str.result.now taken.0
           (name_at c.args.names.now place c.index-names-place.result _
           (omega (arith, below, c.requires.few)) c.index-names-place.is
           c.as_str.ensures.value)
