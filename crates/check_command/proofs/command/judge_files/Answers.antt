@@ -1,5 +1,5 @@
 -- The sessions were opened, the journal was judged, and the sessions were given back.
-use Rattle.std.proofs.Common.{List, ℕ, map, length, arith, string_bytes, sym, ◌∙◌, subst}
+use Rattle.std.proofs.Common.{List, ℕ, map, arith, string_bytes, sym, ◌∙◌, subst}
 use Rattle.std.proofs.lemmas.List.{length-map}
 use Rattle.std.specs.Prelude.{Option}
 use Rattle.gate_ports.specs.Names.{Texts}
