@@ -40,8 +40,13 @@ fn judge_files<D: Folder>(
         Ok(sources) => sources,
         Err(status) => return Answer::Stopped(status),
     };
-    let CheckDone { answer, sources } =
-        judge(alloc, &files.limits, &files.journal, sources, screens);
+    let CheckDone { answer, sources } = judge(
+        alloc,
+        &files.limits,
+        &files.journal,
+        sources,
+        screens,
+    );
     give_back(check.sessions, sources, folder);
     answer_to(alloc, answer)
 }

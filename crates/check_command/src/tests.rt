@@ -13,6 +13,9 @@ use screen_kit::Screen;
 use std::alloc::{AllocError, Global};
 use std::test::*;
 
+/// What is told of a lawful journal.
+const LAWFUL: &[u8] = b"LAWFUL\n";
+
 /// A fault, and what is told of it.
 const TEXTS: &[(CheckFault, &[u8])] = &[
     (CheckFault { row: 0, kind: 1 }, b"check fault 1 row 0\n"),
@@ -83,7 +86,7 @@ const ROWS: &[Row] = &[
         journal: SENT,
         fails: None,
         status: 0,
-        told: b"LAWFUL\n",
+        told: LAWFUL,
     },
     Row {
         name: "another read",
@@ -228,7 +231,7 @@ fn checks_have_their_answers(rt: HostRuntime) -> Result<(), Fail> {
 fn verdicts_have_their_texts(rt: HostRuntime) -> Result<(), Fail> {
     let alloc = rt.alloc();
     let lawful = lawful_text(alloc).ok().ok_or("memory")?;
-    assert_eq!(rt; lawful.as_slice(), b"LAWFUL\n");
+    assert_eq!(rt; lawful.as_slice(), LAWFUL);
     for row in TEXTS {
         let text = fault_text(alloc, row.0).ok().ok_or("memory")?;
         assert_eq!(rt; text.as_slice(), row.1);

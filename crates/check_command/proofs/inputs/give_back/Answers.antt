@@ -22,7 +22,7 @@ done-requires-clause-means g c =
     c.args.sources.items place c.remove-next.result c.as_str.result.now taken.0
     (name_at c.args.names.now place c.index-names-place.result _
     (omega (arith, below, c.requires.few)) c.index-names-place.is
-          c.as_str.ensures.value)
+    c.as_str.ensures.value)
     c.loop-place.invariant.given.texts c.requires.own in
     owned.means
 
@@ -38,7 +38,7 @@ done-requires-clause-there g c =
     c.args.sources.items place c.remove-next.result c.as_str.result.now taken.0
     (name_at c.args.names.now place c.index-names-place.result _
     (omega (arith, below, c.requires.few)) c.index-names-place.is
-          c.as_str.ensures.value)
+    c.as_str.ensures.value)
     c.loop-place.invariant.given.texts c.requires.own in
     owned.there
 
