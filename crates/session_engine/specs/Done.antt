@@ -14,13 +14,12 @@ use Rattle.frame_run.specs.Sinks.{SinkValue, sink_of, IsLaterSink}
 use Rattle.order_desk.specs.Values.{first_book}
 use Rattle.session_engine.specs.Follows.{EndsAs, FetchesInput, Follows}
 
--- a hand on the trees of sums that has made no call
-abbrev pub IsIdleSumHand : LimitsValue → HandValue → Type 0
-IsIdleSumHand limits hand = IsSumHand limits hand × (hand.calls ≡ [])
-
--- a hand on the halt tree that has made no call
-abbrev pub IsIdleHaltHand : HandValue → Type 0
-IsIdleHaltHand hand = IsHaltHand hand × (hand.calls ≡ [])
+-- a hand on the trees of sums and one on the halt tree, which have made no call
+pub record AreIdleHands (limits : LimitsValue) (sum halt : HandValue) : Type 0 where
+  pub sum_is : IsSumHand limits sum
+  pub no_sum_call : sum.calls ≡ []
+  pub halt_is : IsHaltHand halt
+  pub no_halt_call : halt.calls ≡ []
 
 -- no call was made yet, and the book has no order
 pub record IsBeginning {H M : Type 0} (limits : LimitsValue) (hands : HandsValue H M)

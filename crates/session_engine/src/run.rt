@@ -6,7 +6,7 @@ ghost use Rattle.risk_journal.specs.ActLists.{calls_below, calls_at};
 ghost use Rattle.admit_core.specs.Hands.{IsFresh};
 ghost use Rattle.order_desk.specs.Values.{first_book};
 ghost use Rattle.session_engine.specs.Counted.{no_counts};
-ghost use Rattle.session_engine.specs.Done.{IsIdleSumHand, IsIdleHaltHand, IsBeginning};
+ghost use Rattle.session_engine.specs.Done.{AreIdleHands, IsBeginning};
 ghost use Rattle.session_engine.specs.Done.{AreHandsDone, IsSourceDone, RanOver};
 ghost use Rattle.session_engine.specs.Follows.{EndsWith};
 ghost use Rattle.session_engine.specs.Session.{armed_for, unnamed_client};
@@ -202,8 +202,7 @@ pub fn run_session<H: Hand, M: Hand, S: Source, V: Sink, C: Sink, G: Gate>(
     client: C,
     gate: &G,
 ) -> SessionDone<H, M, S, V, C>
-    requires sum { IsIdleSumHand limits.now (H.meaning hands.sum) }
-    requires halt { IsIdleHaltHand (M.meaning hands.halt) }
+    requires { AreIdleHands limits.now (H.meaning hands.sum) (M.meaning hands.halt) }
     ensures hands { AreHandsDone limits.now H.SameOrigin H.meaning M.SameOrigin M.meaning
         hands.sum result.hands.sum hands.halt result.hands.halt result.acts.items }
     ensures follows { RanOver S.left V.held V.faults V.name C.held C.faults C.name limits.now
