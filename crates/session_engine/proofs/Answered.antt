@@ -26,7 +26,7 @@ use Rattle.session_engine.specs.Answers.{Wording, forward_text}
 use Rattle.session_engine.specs.Taken.{Kept, TakesSound, ReadsAs, answer_act, answer_stamp, note_acts, note_by, counted_client}
 use Rattle.session_engine.specs.Taken.{counts_answered, counts_decided, Forwards, Gives, GivesFront}
 use Rattle.session_engine.specs.Trips.{acts_tripped}
-use Rattle.session_engine.proofs.MessageFacts.{RequestFacts}
+use Rattle.session_engine.proofs.MessageFacts.{HeadFacts}
 use Rattle.session_engine.proofs.ReportFrames.{Told, takes_report}
 use Rattle.session_engine.proofs.RequestFrames.{Asked, IsAnswered, takes_request}
 
@@ -120,7 +120,7 @@ module _ {H M K : Type 0} (meaning : K → ScreenValue) (full failed : Type 0) (
     ≡ asked.screens before.desk.limits (map meaning before.desk.screens) before.desk.book.value)
     (tells : TellsAnswer refusal asked.head.sender (record before { desk = decided }) now) where
   facts : (fields : List FieldValue) → HasFieldsIn sound.bytes sound.frame fields
-      → RequestFacts fields asked.head
+      → HeadFacts true fields asked.head
   facts fields has = asked.facts fields (reads.each fields has)
 
   answered_from : (venue client : Option (List ℕ)) (answer : Option Refusal)

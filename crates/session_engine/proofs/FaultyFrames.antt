@@ -6,7 +6,6 @@ use Rattle.std.specs.Io.KnownBytes.{Appends}
 use Rattle.fix_fields.specs.Fields.{FieldValue}
 use Rattle.fix_orders.specs.declared.message.FieldFault.{FieldFault}
 use Rattle.fix_orders.specs.Reading.{read_of}
-use Rattle.risk_journal.specs.declared.acts.Act.{Act}
 use Rattle.risk_journal.specs.declared.acts.Act.TheVariants.{Refused, Noted}
 use Rattle.session_engine.specs.declared.counts.Counts.{Counts}
 use Rattle.session_engine.specs.declared.note.Note.TheVariants as note
@@ -15,9 +14,7 @@ use Rattle.session_engine.specs.Session.{LimitsValue, SessionValue, asks, client
 use Rattle.session_engine.specs.Session.{after_sound, with_frame}
 use Rattle.session_engine.specs.Reaches.{with_reads}
 use Rattle.session_engine.specs.Taken.{Kept, StandsAs, Takes, counted_client, counted_venue}
-use Rattle.session_engine.proofs.QuietActs.{reads_of-quiet}
-use Rattle.session_engine.proofs.TakenLemmas.{frame_by, steps_quiet, next_by, takes_next}
-use Rattle.session_engine.proofs.TakenLemmas.{appends_nothing}
+use Rattle.session_engine.proofs.TakenLemmas.{frame_by, takes_told, appends_nothing}
 
 -- what is kept after a request with a field fault
 pub record Rejects (fields : List FieldValue) (fault : FieldFault) (before after : Kept)
@@ -39,37 +36,19 @@ pub takes_rejected : (limits : LimitsValue) (fields : List FieldValue) (fault : 
     → Rejects fields fault before after
     → (next : SessionValue) × Takes (with_frame (after_sound limits fields)) 0 session next before after
 takes_rejected limits fields fault session before after asks_are read own rejects =
-    let s = own.stands in
-    let act : ℕ → Act = λ n. Refused n fault_code fault.tag fault.reason in
-    let acts = session.acts ++ act session.frames ∷ [] in
     let client_id = client_after true fields session.client_id in
     let client_is : client_id ≡ after.client_id =
     ap (client_after true fields) own.client_is ∙ sym rejects.client_id in
-    let text : List ℕ → ℕ → List ℕ = λ receiver n. reject_text receiver n fields fault in
-    let message : Option (List ℕ) = Some (text client_id (length session.client + 1)) in
+    let message : Option (List ℕ) =
+    Some (reject_text client_id (length session.client + 1) fields fault) in
     let number : after.counts.client ≡ length session.client + 1 =
-    ap (λ (c : Counts). c.client) rejects.counts ∙ ap (λ n. n + 1) s.client in
-    let P : List ℕ → Type 0 =
-    λ receiver. Appends before.client after.client (text receiver (length session.client + 1)) in
-    let Q : ℕ → Type 0 =
-    λ n. Appends before.client after.client (text after.client_id n) in
-    takes_next (with_frame (after_sound limits fields)) 0 session before after acts session.book session.screens
-    client_id None None message own
-    (ap (λ l. l ++ act session.frames ∷ []) s.acts_are
-    ∙ ap (λ n. before.acts ++ act n ∷ []) (sym s.frames) ∙ sym rejects.acts)
-    (s.book_is ∙ sym rejects.book) (own.screens_are ∙ sym rejects.screens) client_is
-    (record {
-      frames = ap (λ (c : Counts). c.frames) rejects.counts;
-      orders = ap (λ (c : Counts). c.orders) rejects.counts;
-      venue = omega (arith, ap (λ (c : Counts). c.venue) rejects.counts);
-      client = ap (λ (c : Counts). c.client) rejects.counts;
-      firms = ap (λ (c : Counts). c.firms) rejects.counts;
-    }) (appends_nothing before.venue after.venue rejects.venue)
-    (subst P (sym client_is) (subst Q number rejects.client))
-    (steps_quiet (with_frame (after_sound limits fields)) session
-    (next_by acts session.book session.screens client_id None None message session)
-    (reads_of-quiet session.acts (act session.frames ∷ []) refl)
-    (λ more. frame_by limits fields true (Err fault) (with_reads more session) asks_are read))
+    ap (λ (c : Counts). c.client) rejects.counts ∙ ap (λ n. n + 1) own.stands.client in
+    takes_told (with_frame (after_sound limits fields)) 0 session before after
+    (λ frame. Refused frame fault_code fault.tag fault.reason) client_id None message own refl
+    rejects.acts rejects.book rejects.screens client_is rejects.counts
+    (appends_nothing before.venue after.venue rejects.venue)
+    (rw (client_is, ← number) rejects.client)
+    (λ more. frame_by limits fields true (Err fault) (with_reads more session) asks_are read)
 
 -- what is kept after a report with a field fault
 pub record Returns (fields : List FieldValue) (fault : FieldFault) (before after : Kept)
@@ -91,29 +70,13 @@ pub takes_returned : (limits : LimitsValue) (fields : List FieldValue) (fault : 
     → Returns fields fault before after
     → (next : SessionValue) × Takes (with_frame (after_sound limits fields)) 0 session next before after
 takes_returned limits fields fault session before after asks_are read own returns =
-    let s = own.stands in
-    let act : ℕ → Act = λ n. Noted n (note_code note.FaultyField) fault.tag fault.reason in
-    let acts = session.acts ++ act session.frames ∷ [] in
-    let text : ℕ → List ℕ = λ n. reject_text (codes "VENUE") n fields fault in
-    let message : Option (List ℕ) = Some (text (length session.venue + 1)) in
+    let message : Option (List ℕ) =
+    Some (reject_text (codes "VENUE") (length session.venue + 1) fields fault) in
     let number : after.counts.venue ≡ length session.venue + 1 =
-    ap (λ (c : Counts). c.venue) returns.counts ∙ ap (λ n. n + 1) s.venue in
-    let P : ℕ → Type 0 = λ n. Appends before.venue after.venue (text n) in
-    takes_next (with_frame (after_sound limits fields)) 0 session before after acts session.book session.screens
-    session.client_id None message None own
-    (ap (λ l. l ++ act session.frames ∷ []) s.acts_are
-    ∙ ap (λ n. before.acts ++ act n ∷ []) (sym s.frames) ∙ sym returns.acts)
-    (s.book_is ∙ sym returns.book) (own.screens_are ∙ sym returns.screens)
-    (own.client_is ∙ sym returns.client_id)
-    (record {
-      frames = ap (λ (c : Counts). c.frames) returns.counts;
-      orders = ap (λ (c : Counts). c.orders) returns.counts;
-      venue = ap (λ (c : Counts). c.venue) returns.counts;
-      client = omega (arith, ap (λ (c : Counts). c.client) returns.counts);
-      firms = ap (λ (c : Counts). c.firms) returns.counts;
-    }) (subst P number returns.venue)
+    ap (λ (c : Counts). c.venue) returns.counts ∙ ap (λ n. n + 1) own.stands.venue in
+    takes_told (with_frame (after_sound limits fields)) 0 session before after
+    (λ frame. Noted frame (note_code note.FaultyField) fault.tag fault.reason) session.client_id
+    message None own refl returns.acts returns.book returns.screens
+    (own.client_is ∙ sym returns.client_id) returns.counts (rw (← number) returns.venue)
     (appends_nothing before.client after.client returns.client)
-    (steps_quiet (with_frame (after_sound limits fields)) session
-    (next_by acts session.book session.screens session.client_id None message None session)
-    (reads_of-quiet session.acts (act session.frames ∷ []) refl)
-    (λ more. frame_by limits fields false (Err fault) (with_reads more session) asks_are read))
+    (λ more. frame_by limits fields false (Err fault) (with_reads more session) asks_are read)

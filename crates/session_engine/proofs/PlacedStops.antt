@@ -13,7 +13,6 @@ use Rattle.screen_kit.specs.Screens.{ScreenValue}
 use Rattle.session_engine.specs.Follows.{FailsLast, HasGiven}
 use Rattle.session_engine.specs.Follows.{StopsBehind, StopsEarly, StopsSource, session_of}
 use Rattle.session_engine.specs.Session.{LimitsValue, SessionValue}
-use Rattle.session_engine.specs.Stopped.{between_by}
 use Rattle.session_engine.proofs.CoverLemmas.{covers_orders}
 use Rattle.session_engine.proofs.MovedTapes.{unplaced}
 use Rattle.session_engine.proofs.PlacedFollows.{session_alike, acts_alike, none_alike}
@@ -35,15 +34,9 @@ module _ (limits : LimitsValue) (screens : List ScreenValue) (acts others : List
       → HasGiven limits screens (reads_of others) frames given venue client
   given_others frames given venue client own = record {
     all_but_one = own.all_but_one;
-    venue_is = between_by _ _ _ _ venue (venues_alike (take given frames)) (venues_alike frames)
-        own.venue_is;
-    client_is = between_by _ _ _ _ client (clients_alike (take given frames))
-        (clients_alike frames) own.client_is;
-    one = ⊎_elim
-        (λ (is : venue ≡ concat (session_of limits screens acts frames).venue).
-        inl (is ∙ ap concat (sym (venues_alike frames))))
-        (λ (is : client ≡ concat (session_of limits screens acts frames).client).
-        inr (is ∙ ap concat (sym (clients_alike frames)))) own.one;
+    venue_is = simp venues_alike own.venue_is;
+    client_is = simp clients_alike own.client_is;
+    one = simp (venues_alike, clients_alike) own.one;
   }
 
   fails_others : (frames : List FrameValue) (given : ℕ) (venue_failed client_failed : Type 0)
@@ -51,19 +44,7 @@ module _ (limits : LimitsValue) (screens : List ScreenValue) (acts others : List
       → FailsLast limits screens (reads_of others) frames given venue_failed client_failed
   fails_others frames given venue_failed client_failed own = record {
     last = own.last;
-    failed = ⊎_elim
-        (λ (own_failed : venue_failed × (length (session_of limits screens acts frames).venue
-        ≡ length (session_of limits screens acts (take given frames)).venue + 1)). inl (
-          own_failed.0,
-          ap length (venues_alike frames) ∙ own_failed.1
-              ∙ ap (λ (m : List (List ℕ)). length m + 1) (sym (venues_alike (take given frames))),
-        ))
-        (λ (own_failed : client_failed × (length (session_of limits screens acts frames).client
-        ≡ length (session_of limits screens acts (take given frames)).client + 1)). inr (
-          own_failed.0,
-          ap length (clients_alike frames) ∙ own_failed.1
-              ∙ ap (λ (m : List (List ℕ)). length m + 1) (sym (clients_alike (take given frames))),
-        )) own.failed;
+    failed = simp (venues_alike, clients_alike) own.failed;
   }
 
   abbrev behind_others : (fetched : List ℕ) (end : End) (venue client : List ℕ)
@@ -83,10 +64,6 @@ module _ (limits : LimitsValue) (screens : List ScreenValue) (acts others : List
       (venue_failed client_failed : Type 0)
       → StopsEarly limits screens fetched acts end venue client venue_failed client_failed
       → StopsEarly limits screens fetched others end venue client venue_failed client_failed
-  stops_others fetched ending.Whole venue client venue_failed client_failed own = tt
-  stops_others fetched (ending.Cut place) venue client venue_failed client_failed own = tt
-  stops_others fetched (ending.Broken place) venue client venue_failed client_failed own = tt
-  stops_others fetched (ending.TooLong place) venue client venue_failed client_failed own = tt
   stops_others fetched ending.ReadFault venue client venue_failed client_failed own = record {
     frames = own.frames;
     rest = own.rest;
@@ -110,6 +87,7 @@ module _ (limits : LimitsValue) (screens : List ScreenValue) (acts others : List
   })
   stops_others fetched ending.Memory venue client venue_failed client_failed (inr own) =
       inr (behind_others fetched ending.Memory venue client own)
+  stops_others fetched _ venue client venue_failed client_failed own = tt
 
 -- Acts that differ in their reads' places alone are those of a session that stopped so too.
 pub source_others : (limits : LimitsValue) (screens : List ScreenValue) (acts others : List Act)

@@ -25,7 +25,7 @@ use Rattle.session_engine.specs.Session.{after_settling, after_effect, after_pas
 use Rattle.session_engine.specs.Session.{with_frame}
 use Rattle.session_engine.specs.Reaches.{with_reads}
 use Rattle.session_engine.specs.Taken.{Kept, StandsAs, Takes, counted_client, note_acts, note_by}
-use Rattle.session_engine.proofs.MessageFacts.{ReportFacts, report_facts, reject_facts}
+use Rattle.session_engine.proofs.MessageFacts.{HeadFacts, head_facts}
 use Rattle.session_engine.proofs.QuietActs.{notes_unread, reads_of-quiet}
 use Rattle.session_engine.proofs.AddedActs.{settled_adds}
 use Rattle.session_engine.proofs.TakenLemmas.{frame_by, counted, next_by, takes_next}
@@ -37,7 +37,7 @@ pub record Told : Type 0 where
   pub message : Message
   pub head : Head
   pub settle : LimitsValue → BookValue → List Act → Settled
-  pub facts : (fields : List FieldValue) → read_of fields ≡ Ok message → ReportFacts fields head
+  pub facts : (fields : List FieldValue) → read_of fields ≡ Ok message → HeadFacts false fields head
   pub reads : (limits : LimitsValue) (book : BookValue) (acts : List Act)
       → reads_of (settle limits book acts).acts ≡ reads_of acts
   pub by : (limits : LimitsValue) (fields : List FieldValue) (session : SessionValue)
@@ -49,7 +49,7 @@ report_told report = record {
   message = message.Report report;
   head = report.head;
   settle = λ limits. report_settled limits report;
-  facts = λ fields. report_facts fields report;
+  facts = λ fields read. head_facts fields (message.Report report) read refl refl;
   reads = λ limits book acts.
       let outcome = outcome_of_report book report in
       (settled_adds limits (record book { orders = outcome.orders }) acts outcome.answer).unread;
@@ -61,7 +61,7 @@ reject_told reject = record {
   message = message.CancelReject reject;
   head = reject.head;
   settle = λ limits. reject_settled limits reject;
-  facts = λ fields. reject_facts fields reject;
+  facts = λ fields read. head_facts fields (message.CancelReject reject) read refl refl;
   reads = λ limits book acts.
       let outcome = outcome_of_reject book reject in
       (settled_adds limits (record book { orders = outcome.orders }) acts outcome.answer).unread;
@@ -94,7 +94,7 @@ pub record Settles (limits : LimitsValue) (fields : List FieldValue) (report : T
 
 -- a report that was settled and passed on
 pub takes_report : (limits : LimitsValue) (fields : List FieldValue) (report : Told)
-    (session : SessionValue) → ReportFacts fields report.head
+    (session : SessionValue) → HeadFacts false fields report.head
     → read_of fields ≡ Ok report.message → (before after : Kept)
     → StandsAs before session → (own : Effect) (told : List Act)
     → Settles limits fields report own told before after
@@ -103,8 +103,8 @@ takes_report limits fields report session facts read before after stands own tol
     let s = stands.stands in
     let notes : ℕ → List Act = λ frame. note_acts frame (note_by own) in
     let acts = told ++ notes session.frames in
-    let text : List ℕ → ℕ → List ℕ = λ receiver n. forward_text receiver n fields in
-    let message : Option (List ℕ) = Some (text session.client_id (length session.client + 1)) in
+    let message : Option (List ℕ) =
+    Some (forward_text session.client_id (length session.client + 1) fields) in
     let done : Settled = record { effect = own; acts = told; book = after.book } in
     let number : after.counts.client ≡ length session.client + 1 =
     ap (λ (c : Counts). c.client) settles.counts ∙ ap (λ n. n + 1) s.client in
@@ -113,10 +113,6 @@ takes_report limits fields report session facts read before after stands own tol
     let settled_is : report.settle limits session.book session.acts ≡ done =
     ap (λ b. report.settle limits b session.acts) s.book_is
     ∙ ap (report.settle limits before.book) s.acts_are ∙ settles.settled in
-    let P : List ℕ → Type 0 = λ to. Appends before.client after.client
-    (text to (length session.client + 1)) in
-    let Q : ℕ → Type 0 =
-    λ n. Appends before.client after.client (text after.client_id n) in
     let from : List SeenAt → SessionValue = λ more. named false fields (with_reads more session) in
     let stepped : (more : List SeenAt) → with_frame (after_sound limits fields) (with_reads more session)
     ≡ with_reads more (next_by acts
@@ -131,14 +127,8 @@ takes_report limits fields report session facts read before after stands own tol
     session.screens session.client_id None None message stands
     (ap (λ n. told ++ notes n) (sym s.frames) ∙ sym settles.acts) refl
     (stands.screens_are ∙ sym settles.screens) receiver
-    (record {
-      frames = ap (λ (c : Counts). c.frames) settles.counts;
-      orders = ap (λ (c : Counts). c.orders) settles.counts;
-      venue = omega (arith, ap (λ (c : Counts). c.venue) settles.counts);
-      client = ap (λ (c : Counts). c.client) settles.counts;
-      firms = ap (λ (c : Counts). c.firms) settles.counts;
-    }) (appends_nothing before.venue after.venue settles.venue)
-    (subst P (sym receiver) (subst Q number settles.client))
+    settles.counts (appends_nothing before.venue after.venue settles.venue)
+    (rw (receiver, ← number) settles.client)
     (steps_quiet (with_frame (after_sound limits fields)) session
     (next_by acts after.book session.screens session.client_id None None message
     session)

@@ -33,7 +33,7 @@ use Rattle.session_engine.specs.Reaches.{with_reads}
 use Rattle.session_engine.specs.Taken.{Kept, StandsAs, Takes, CountsTrips}
 use Rattle.session_engine.specs.Taken.{answer_act, counts_answered, counts_decided}
 use Rattle.session_engine.specs.Trips.{acts_tripped}
-use Rattle.session_engine.proofs.MessageFacts.{RequestFacts, new_facts, cancel_facts, replace_facts}
+use Rattle.session_engine.proofs.MessageFacts.{HeadFacts, head_facts}
 use Rattle.session_engine.proofs.QuietActs.{reads_tripped, answer_unread, reads_of-quiet}
 use Rattle.session_engine.proofs.TakenLemmas.{frame_by, counted, takes_next}
 use Rattle.session_engine.proofs.TakenLemmas.{appends_nothing}
@@ -46,7 +46,7 @@ pub record Asked : Type 0 where
   pub wording : Wording
   pub decide : LimitsValue → List ScreenValue → BookValue → Tape → Decision
   pub screens : LimitsValue → List ScreenValue → BookValue → List ScreenValue
-  pub facts : (fields : List FieldValue) → read_of fields ≡ Ok message → RequestFacts fields head
+  pub facts : (fields : List FieldValue) → read_of fields ≡ Ok message → HeadFacts true fields head
   pub by : (limits : LimitsValue) (fields : List FieldValue) (session : SessionValue)
       → after_message limits fields message session
       ≡ after_decision limits wording fields
@@ -60,7 +60,7 @@ order_asked order = record {
   wording = order_refusal;
   decide = λ limits. new_screened limits order;
   screens = λ limits screens book. screens_after screens (new_offer limits order book);
-  facts = λ fields. new_facts fields order;
+  facts = λ fields read. head_facts fields (message.New order) read refl refl;
   by = λ limits fields session. refl;
 }
 
@@ -71,7 +71,7 @@ cancel_asked cancel = record {
   wording = cancel_refusal;
   decide = λ limits screens. cancel_decided cancel;
   screens = λ limits screens book. screens;
-  facts = λ fields. cancel_facts fields cancel;
+  facts = λ fields read. head_facts fields (message.Cancel cancel) read refl refl;
   by = λ limits fields session. refl;
 }
 
@@ -82,7 +82,7 @@ replace_asked replace = record {
   wording = replace_refusal;
   decide = λ limits. replace_screened limits replace;
   screens = λ limits screens book. screens_after screens (replace_offer limits replace book);
-  facts = λ fields. replace_facts fields replace;
+  facts = λ fields read. head_facts fields (message.Replace replace) read refl refl;
   by = λ limits fields session. refl;
 }
 
@@ -139,7 +139,7 @@ pub record Answers (limits : LimitsValue) (fields : List FieldValue) (asked : As
   pub answered : IsAnswered asked.wording fields refusal before after
 
 module _ (limits : LimitsValue) (fields : List FieldValue) (asked : Asked)
-    (session : SessionValue) (facts : RequestFacts fields asked.head)
+    (session : SessionValue) (facts : HeadFacts true fields asked.head)
     (read : read_of fields ≡ Ok asked.message) where
   abbrev client_id : List ℕ
   client_id = client_after true fields session.client_id
@@ -217,23 +217,14 @@ module _ (limits : LimitsValue) (fields : List FieldValue) (asked : Asked)
         → (next : SessionValue)
         × Takes (with_frame (after_sound limits fields)) 0 session next before after
     takes_request None answers =
-        let text : ℕ → List ℕ = λ n. forward_text (codes "VENUE") n fields in
-        let message : Option (List ℕ) = Some (text (length session.venue + 1)) in
-        let acts = acts_tripped limits None session.firms told
-        ++ answer_act session.frames None ∷ [] in
+        let message : Option (List ℕ) =
+        Some (forward_text (codes "VENUE") (length session.venue + 1) fields) in
         let number : after.counts.venue ≡ length session.venue + 1 =
         ap (λ (c : Counts). c.venue) answers.counts ∙ ap (λ n. n + 1) own.stands.venue in
-        let P : ℕ → Type 0 = λ n. Appends before.venue after.venue (text n) in
-        takes_next (with_frame (after_sound limits fields)) 0 session before after acts after.book screens
-        client_id None message None own (acts_are None answers.acts) refl
-        (screens_are answers.screens) (client_is answers.client_id)
-        (record {
-          frames = ap (λ (c : Counts). c.frames) answers.counts;
-          orders = ap (λ (c : Counts). c.orders) answers.counts;
-          venue = ap (λ (c : Counts). c.venue) answers.counts;
-          client = omega (arith, ap (λ (c : Counts). c.client) answers.counts);
-          firms = ap (λ (c : Counts). c.firms) answers.counts;
-        }) (subst P number answers.answered.0)
+        takes_next (with_frame (after_sound limits fields)) 0 session before after _ after.book
+        screens client_id None message None own (acts_are None answers.acts) refl
+        (screens_are answers.screens) (client_is answers.client_id) answers.counts
+        (rw (← number) answers.answered.0)
         (appends_nothing before.client after.client answers.answered.1)
         (record {
           seen = answers.decides.seen;
@@ -242,29 +233,16 @@ module _ (limits : LimitsValue) (fields : List FieldValue) (asked : Asked)
               (decision_is None after.book answers.decides more);
         })
     takes_request (Some why) answers =
-        let text : List ℕ → ℕ → List ℕ =
-        λ receiver n. asked.wording receiver n fields why in
-        let message : Option (List ℕ) = Some (text client_id (length session.client + 1)) in
-        let acts = acts_tripped limits (Some why) session.firms told
-        ++ answer_act session.frames (Some why) ∷ [] in
+        let message : Option (List ℕ) =
+        Some (asked.wording client_id (length session.client + 1) fields why) in
         let number : after.counts.client ≡ length session.client + 1 =
         ap (λ (c : Counts). c.client) answers.counts ∙ ap (λ n. n + 1) own.stands.client in
         let receiver : client_id ≡ after.client_id = client_is answers.client_id in
-        let P : List ℕ → Type 0 = λ to. Appends before.client after.client
-        (text to (length session.client + 1)) in
-        let Q : ℕ → Type 0 =
-        λ n. Appends before.client after.client (text after.client_id n) in
-        takes_next (with_frame (after_sound limits fields)) 0 session before after acts after.book screens
-        client_id (Some why) None message own (acts_are (Some why) answers.acts) refl
-        (screens_are answers.screens) receiver
-        (record {
-          frames = ap (λ (c : Counts). c.frames) answers.counts;
-          orders = ap (λ (c : Counts). c.orders) answers.counts;
-          venue = omega (arith, ap (λ (c : Counts). c.venue) answers.counts);
-          client = ap (λ (c : Counts). c.client) answers.counts;
-          firms = ap (λ (c : Counts). c.firms) answers.counts;
-        }) (appends_nothing before.venue after.venue answers.answered.0)
-        (subst P (sym receiver) (subst Q number answers.answered.1))
+        takes_next (with_frame (after_sound limits fields)) 0 session before after _ after.book
+        screens client_id (Some why) None message own (acts_are (Some why) answers.acts) refl
+        (screens_are answers.screens) receiver answers.counts
+        (appends_nothing before.venue after.venue answers.answered.0)
+        (rw (receiver, ← number) answers.answered.1)
         (record {
           seen = answers.decides.seen;
           reads_are = reads_are (Some why) answers.decides.seen answers.decides.reads_are;

@@ -34,7 +34,7 @@ use Rattle.session_engine.specs.Taken.{GivesFront, TakesFrom, Takes, with_messag
 use Rattle.session_engine.proofs.CoverLemmas.{covers_orders}
 use Rattle.session_engine.proofs.RunLemmas.{appends_next, appends_none, concat-with, took_next}
 use Rattle.session_engine.proofs.RunLemmas.{follows_source}
-use Rattle.session_engine.specs.Stopped.{between_by, between_same, session_by}
+use Rattle.session_engine.specs.Stopped.{between_same, session_by}
 
 -- a front of a piece is a front of whatever the piece is
 front_text : (held whole held_after : Option (List ℕ)) (piece text : List ℕ) (count : ℕ)
@@ -161,45 +161,32 @@ module _ {H M K : Type 0} (meaning : K → ScreenValue) where
       given = length frames;
       to_venue = to_venue.text;
       to_client = to_client.text;
-      acts_are = sym (ap (λ (s : SessionValue). s.acts) after_by
-          ∙ took_ideal.stands.stands.acts_are);
+      acts_are = rw after_by (sym took_ideal.stands.stands.acts_are);
       venue_got = to_venue.got;
       client_got = to_client.got;
       messages = record {
         all_but_one = omega (arith, length-append frames (frame ∷ []));
-        venue_is = between_by _ _ _ _ to_venue.text
-            (ap (λ (s : SessionValue). s.venue) before_by)
-            (ap (λ (s : SessionValue). s.venue) after_by) to_venue.between;
-        client_is = between_by _ _ _ _ to_client.text
-            (ap (λ (s : SessionValue). s.client) before_by)
-            (ap (λ (s : SessionValue). s.client) after_by) to_client.between;
-        one = ⊎_elim
-            (λ (is : to_venue.text ≡ concat took_ideal.session.venue).
-            inl (is ∙ ap concat (sym (ap (λ (s : SessionValue). s.venue) after_by))))
-            (λ (is : to_client.text ≡ concat took_ideal.session.client).
-            inr (is ∙ ap concat (sym (ap (λ (s : SessionValue). s.client) after_by)))) one;
+        venue_is = rw (before_by, after_by) to_venue.between;
+        client_is = rw (before_by, after_by) to_client.between;
+        one = rw after_by one;
       };
       failed = λ is. record {
         last = omega (arith, length-append frames (frame ∷ []));
-        failed = ⊎_elim
+        failed = rw (before_by, after_by) (⊎_elim
             (λ (own : Rose now.venue.faults next.venue.faults
             × (next.counts.venue ≡ now.counts.venue + 1)). inl (
               rose_later start.venue.faults now.venue.faults next.venue.faults took.venue_later
                   own.0,
-              ap (λ (s : SessionValue). length s.venue) after_by
-                  ∙ sym took_ideal.stands.stands.venue ∙ own.1
-                  ∙ ap (λ n. n + 1) took.stands.stands.venue
-                  ∙ ap (λ (s : SessionValue). length s.venue + 1) (sym before_by),
+              sym took_ideal.stands.stands.venue ∙ own.1
+                  ∙ ap (λ n. n + 1) took.stands.stands.venue,
             ))
             (λ (own : Rose now.client.faults next.client.faults
             × (next.counts.client ≡ now.counts.client + 1)). inr (
               rose_later start.client.faults now.client.faults next.client.faults
                   took.client_later own.0,
-              ap (λ (s : SessionValue). length s.client) after_by
-                  ∙ sym took_ideal.stands.stands.client ∙ own.1
-                  ∙ ap (λ n. n + 1) took.stands.stands.client
-                  ∙ ap (λ (s : SessionValue). length s.client + 1) (sym before_by),
-            )) (fails is);
+              sym took_ideal.stands.stands.client ∙ own.1
+                  ∙ ap (λ n. n + 1) took.stands.stands.client,
+            )) (fails is));
       };
     }
 
@@ -272,10 +259,6 @@ module _ {H M K : Type 0} (meaning : K → ScreenValue) where
         → IsByInput end
         ⊎ StopsSource start.desk.limits (map meaning start.desk.screens) left left_after
         (now.desk.hands.acts ++ Ended end ∷ []) end start.venue now.venue start.client now.client
-    follows_stopped ending.Whole stops = inl tt
-    follows_stopped (ending.Cut place) stops = inl tt
-    follows_stopped (ending.Broken place) stops = inl tt
-    follows_stopped (ending.TooLong place) stops = inl tt
     follows_stopped ending.ReadFault stops =
         let limits = start.desk.limits in
         let screens = map meaning start.desk.screens in
@@ -339,23 +322,19 @@ module _ {H M K : Type 0} (meaning : K → ScreenValue) where
           stops = inr (behind fault.Memory ending.Memory stops.fetches.fetched stops.frames
               stops.fetches.few stops.fetches.split stopped);
         })
+    follows_stopped _ stops = inl tt
 
     -- where it ended by a failed write, a sink failed
     sink_failed : (end : End)
         → StopsBy (λ input. TookFrames meaning) (λ why input. StoppedFrames meaning why) start now left left_after end
         → end ≡ ending.WriteFault → Rose start.venue.faults now.venue.faults
         ⊎ Rose start.client.faults now.client.faults
-    sink_failed ending.Whole stops is = absurd cc
-    sink_failed (ending.Cut place) stops is = absurd cc
-    sink_failed (ending.Broken place) stops is = absurd cc
-    sink_failed (ending.TooLong place) stops is = absurd cc
-    sink_failed ending.ReadFault stops is = absurd cc
-    sink_failed ending.Memory stops is = absurd cc
     sink_failed ending.WriteFault stops is = which (stops.stopped.failed refl).failed
       where
         which : {A B C D : Type 0} → ((A × B) ⊎ (C × D)) → A ⊎ C
         which (inl (first, second)) = inl first
         which (inr (first, second)) = inr first
+    sink_failed _ stops is = absurd cc
 
     -- however it ended: the same sinks, after few frames
     pub ran_by : (SameSum : H → H → Type 0) (SameHalt : M → M → Type 0) (end : End)

@@ -121,14 +121,7 @@ module _ {H M K : Type 0} (meaning : K → ScreenValue) where
   took_unsound whole start reserved now frames next limits venue client noted is frame took =
       took_next meaning start reserved frames took now next limits venue client
       (unsound_takes reserved.desk.limits whole (kept_of meaning reserved) (kept_of meaning now)
-      next.fields is frame (record {
-        book = ap (λ (k : Kept). k.book) noted;
-        screens = ap (λ (k : Kept). k.screens) noted;
-        counts = ap (λ (k : Kept). k.counts) noted;
-        client_id = ap (λ (k : Kept). k.client_id) noted;
-        venue = ap (λ (k : Kept). k.venue) noted;
-        client = ap (λ (k : Kept). k.client) noted;
-      }) (ap (λ (k : Kept). k.acts) noted))
+      next.fields is frame noted)
 
   -- a sound frame that stands in these bytes was taken up, by what its fields are
   module _ (sound : FrameIn) (reserved up : Running H M K)

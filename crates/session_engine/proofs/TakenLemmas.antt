@@ -1,5 +1,5 @@
 -- What taking a frame does, whatever its kind.
-use Rattle.std.proofs.Common.{◌≡◌, ℕ, ◌+◌, ◌≤◌, List, [], ◌∷◌, length, refl, sym, ap, ◌∙◌}
+use Rattle.std.proofs.Common.{◌≡◌, ℕ, ◌+◌, ◌≤◌, List, [], ◌∷◌, ◌++◌, length, refl, sym, ap, ◌∙◌}
 use Rattle.std.proofs.Common.{subst, Bool, true, false, arith}
 use Rattle.std.specs.Prelude.{Option, Some, None, Result}
 use Rattle.std.specs.Io.KnownBytes.{Appends}
@@ -21,6 +21,7 @@ use Rattle.session_engine.specs.Session.{taken_up, with_frame}
 use Rattle.session_engine.specs.Reaches.{with_reads, Steps}
 use Rattle.session_engine.specs.Taken.{Takes, TakesFrom, Kept, StandsAs, with_message, text_in}
 use Rattle.session_engine.specs.Trips.{firms_after}
+use Rattle.session_engine.proofs.QuietActs.{reads_of-quiet}
 use Rattle.session_engine.proofs.TripLemmas.{firms_most}
 
 pub appends_nothing : (held held_after : Option (List ℕ)) → held_after ≡ held
@@ -75,24 +76,25 @@ next_by acts book screens client_id refusal to_venue to_client session = record 
   reads = session.reads;
 }
 
--- how many messages at most one is
-abbrev pub one_of : Option (List ℕ) → ℕ
-one_of None = 0
-one_of (Some text) = 1
+-- how many messages there are with at most one more
+abbrev pub number_after : Option (List ℕ) → ℕ → ℕ
+number_after None number = number
+number_after (Some text) number = number + 1
 
 -- the counts after a frame with a refusal that may count, and at most one message more in either
 -- stream
-pub record CountsGo (counts after : Counts) (refusal : Option Refusal)
-    (to_venue to_client : Option (List ℕ)) : Type 0 where
-  pub frames : after.frames ≡ counts.frames + 1
-  pub orders : after.orders ≡ counts.orders
-  pub venue : after.venue ≡ counts.venue + one_of to_venue
-  pub client : after.client ≡ counts.client + one_of to_client
-  pub firms : after.firms ≡ firms_after refusal counts.firms
+abbrev pub counts_by : Option Refusal → Option (List ℕ) → Option (List ℕ) → Counts → Counts
+counts_by refusal to_venue to_client counts = record {
+  frames = counts.frames + 1;
+  orders = counts.orders;
+  venue = number_after to_venue counts.venue;
+  client = number_after to_client counts.client;
+  firms = firms_after refusal counts.firms;
+}
 
 pub length-with : (message : Option (List ℕ)) (messages : List (List ℕ))
-    → length (with_message message messages) ≡ length messages + one_of message
-length-with None messages = omega arith
+    → length (with_message message messages) ≡ number_after message (length messages)
+length-with None messages = refl
 length-with (Some text) messages = length-append messages (text ∷ [])
 
 -- a frame was taken, by the session to which it leads
@@ -102,7 +104,7 @@ pub takes_next : (step : SessionValue → SessionValue) (most : ℕ) (session : 
     → StandsAs before session
     → acts ≡ after.acts → book ≡ after.book → screens ≡ after.screens
     → client_id ≡ after.client_id
-    → CountsGo before.counts after.counts refusal to_venue to_client
+    → after.counts ≡ counts_by refusal to_venue to_client before.counts
     → Appends before.venue after.venue (text_in to_venue)
     → Appends before.client after.client (text_in to_client)
     → Steps step session
@@ -117,13 +119,16 @@ takes_next step most session before after acts book screens client_id refusal to
           stands = record {
             acts_are = acts_are;
             book_is = book_is;
-            frames = counts.frames ∙ ap (λ n. n + 1) own.stands.frames;
-            orders = counts.orders ∙ own.stands.orders;
-            venue = counts.venue ∙ ap (λ n. n + one_of to_venue) own.stands.venue
+            frames = ap (λ (c : Counts). c.frames) counts ∙ ap (λ n. n + 1) own.stands.frames;
+            orders = ap (λ (c : Counts). c.orders) counts ∙ own.stands.orders;
+            venue = ap (λ (c : Counts). c.venue) counts
+                ∙ ap (number_after to_venue) own.stands.venue
                 ∙ sym (length-with to_venue session.venue);
-            client = counts.client ∙ ap (λ n. n + one_of to_client) own.stands.client
+            client = ap (λ (c : Counts). c.client) counts
+                ∙ ap (number_after to_client) own.stands.client
                 ∙ sym (length-with to_client session.client);
-            firms = counts.firms ∙ ap (firms_after refusal) own.stands.firms;
+            firms = ap (λ (c : Counts). c.firms) counts
+                ∙ ap (firms_after refusal) own.stands.firms;
           };
           client_is = client_is;
           screens_are = screens_are;
@@ -138,6 +143,31 @@ takes_next step most session before after acts book screens client_id refusal to
         firms_most = firms_most refusal session.firms;
       },
     )
+
+-- a frame that one act tells of, which reads nothing, and that leaves the book and the screens
+pub takes_told : (step : SessionValue → SessionValue) (most : ℕ) (session : SessionValue)
+    (before after : Kept) (act : ℕ → Act) (client_id : List ℕ)
+    (to_venue to_client : Option (List ℕ)) → StandsAs before session
+    → reads_of (act session.frames ∷ []) ≡ []
+    → after.acts ≡ before.acts ++ act before.counts.frames ∷ [] → after.book ≡ before.book
+    → after.screens ≡ before.screens → client_id ≡ after.client_id
+    → after.counts ≡ counts_by None to_venue to_client before.counts
+    → Appends before.venue after.venue (text_in to_venue)
+    → Appends before.client after.client (text_in to_client)
+    → ((more : List SeenAt) → step (with_reads more session)
+    ≡ with_reads more (next_by (session.acts ++ act session.frames ∷ []) session.book
+    session.screens client_id None to_venue to_client session))
+    → (next : SessionValue) × Takes step most session next before after
+takes_told step most session before after act client_id to_venue to_client own unread acts book
+    screens client_is counts venue_grows client_grows stepped =
+    takes_next step most session before after _ session.book session.screens client_id None
+    to_venue to_client own
+    (ap (λ l. l ++ act session.frames ∷ []) own.stands.acts_are
+    ∙ ap (λ n. before.acts ++ act n ∷ []) (sym own.stands.frames) ∙ sym acts)
+    (own.stands.book_is ∙ sym book) (own.screens_are ∙ sym screens) client_is counts venue_grows
+    client_grows
+    (steps_quiet step session _ (reads_of-quiet session.acts (act session.frames ∷ []) unread)
+    stepped)
 
 -- one order more at most
 orders_most : (order : Bool) (orders : ℕ) → orders_after order orders ≤ orders + 1

@@ -10,17 +10,16 @@ use Rattle.risk_journal.specs.declared.acts.End.TheVariants as ending
 use Rattle.risk_journal.specs.ActLists.{calls_below, calls_at}
 use Rattle.screen_kit.specs.Screens.{ScreenValue}
 use Rattle.admit_core.specs.Hands.{HandsValue, IsFresh, IsSumHand, IsHaltHand}
-use Rattle.frame_run.specs.Sinks.{SinkValue, IsLaterSink}
+use Rattle.frame_run.specs.Sinks.{SinkValue, sink_of, IsLaterSink}
 use Rattle.order_desk.specs.Values.{first_book}
 use Rattle.session_engine.specs.Follows.{EndsAs, FetchesInput, Follows}
 
--- a hand on the trees of sums that has made no call
-abbrev pub IsIdleSumHand : LimitsValue → HandValue → Type 0
-IsIdleSumHand limits hand = IsSumHand limits hand × (hand.calls ≡ [])
-
--- a hand on the halt tree that has made no call
-abbrev pub IsIdleHaltHand : HandValue → Type 0
-IsIdleHaltHand hand = IsHaltHand hand × (hand.calls ≡ [])
+-- a hand on the trees of sums and one on the halt tree, which have made no call
+pub record AreIdleHands (limits : LimitsValue) (sum halt : HandValue) : Type 0 where
+  pub sum_is : IsSumHand limits sum
+  pub no_sum_call : sum.calls ≡ []
+  pub halt_is : IsHaltHand halt
+  pub no_halt_call : halt.calls ≡ []
 
 -- no call was made yet, and the book has no order
 pub record IsBeginning {H M : Type 0} (limits : LimitsValue) (hands : HandsValue H M)
@@ -50,6 +49,17 @@ pub record Ran (limits : LimitsValue) (screens : List ScreenValue)
   pub client_is : IsLaterSink client client_after
   pub write_fault : end ≡ ending.WriteFault
       → Rose venue.faults venue_after.faults ⊎ Rose client.faults client_after.faults
+
+-- the same from a source to sinks for the venue and for the client, as clauses name them
+abbrev pub RanOver : {S V C : Type 0} → (S → Option (List ℕ)) → (V → Option (List ℕ)) → (V → ℕ)
+    → (V → Option (List ℕ)) → (C → Option (List ℕ)) → (C → ℕ) → (C → Option (List ℕ))
+    → LimitsValue → List ScreenValue → S → S → V → V → C → C → List Act → End → Type 0
+RanOver left held faults name own_held own_faults own_name limits screens source source_after venue
+    venue_after client client_after acts end =
+    Ran limits screens (left source) (left source_after) acts end
+    (sink_of held faults name venue) (sink_of held faults name venue_after)
+    (sink_of own_held own_faults own_name client)
+    (sink_of own_held own_faults own_name client_after)
 
 -- The same source, of which few bytes were fetched. It failed where the end says so, and saw its end
 -- where the end is whole.

@@ -12,16 +12,6 @@ use Rattle.session_engine.specs.Reaches.{with_reads}
 use Rattle.session_engine.specs.Running.{Running, TookFrames, StoppedFrames}
 use Rattle.session_engine.specs.Session.{SessionValue}
 
--- the same of messages that are these
-pub between_by : (before after others nexts : List (List ℕ)) (text : List ℕ) → others ≡ before
-    → nexts ≡ after → IsBetween before after text → IsBetween others nexts text
-between_by before after others nexts text same next b = record {
-  more = b.more;
-  rest = b.rest;
-  begins = b.begins ∙ ap (λ m. concat m ++ b.more) (sym same);
-  within = ap concat next ∙ b.within;
-}
-
 -- nothing is lacking
 pub between_same : (before after : List (List ℕ)) → before ≡ after → IsBetween before after (concat after)
 between_same before after same = record {
@@ -52,8 +42,6 @@ module _ {H M K : Type 0} (meaning : K → ScreenValue) where
       let screens = map meaning start.desk.screens in
       let reads = reads_of now.desk.hands.acts in
       let by = session_by start now frames took in
-      let venue_is = ap (λ (s : SessionValue). s.venue) by in
-      let client_is = ap (λ (s : SessionValue). s.client) by in
       let all : session_with limits screens reads (take (length frames) frames)
       ≡ with_reads [] took.session =
       ap (session_with limits screens reads) (take_all (length frames) frames (omega arith)) ∙ by in
@@ -61,18 +49,14 @@ module _ {H M K : Type 0} (meaning : K → ScreenValue) where
         given = length frames;
         to_venue = concat took.session.venue;
         to_client = concat took.session.client;
-        acts_are = sym (ap (λ (s : SessionValue). s.acts) by ∙ took.stands.stands.acts_are);
+        acts_are = rw by (sym took.stands.stands.acts_are);
         venue_got = took.venue_grows;
         client_got = took.client_grows;
         messages = record {
           all_but_one = omega arith;
-          venue_is = between_by took.session.venue took.session.venue _ _ _
-              (ap (λ (s : SessionValue). s.venue) all) venue_is
-              (between_same took.session.venue took.session.venue refl);
-          client_is = between_by took.session.client took.session.client _ _ _
-              (ap (λ (s : SessionValue). s.client) all) client_is
-              (between_same took.session.client took.session.client refl);
-          one = inl (ap concat (sym venue_is));
+          venue_is = rw (all, by) (between_same took.session.venue took.session.venue refl);
+          client_is = rw (all, by) (between_same took.session.client took.session.client refl);
+          one = inl (rw by refl);
         };
         failed = λ is. absurd cc;
       }

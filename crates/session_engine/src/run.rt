@@ -6,8 +6,8 @@ ghost use Rattle.risk_journal.specs.ActLists.{calls_below, calls_at};
 ghost use Rattle.admit_core.specs.Hands.{IsFresh};
 ghost use Rattle.order_desk.specs.Values.{first_book};
 ghost use Rattle.session_engine.specs.Counted.{no_counts};
-ghost use Rattle.session_engine.specs.Done.{IsIdleSumHand, IsIdleHaltHand, IsBeginning};
-ghost use Rattle.session_engine.specs.Done.{AreHandsDone, IsSourceDone, Ran};
+ghost use Rattle.session_engine.specs.Done.{AreIdleHands, IsBeginning};
+ghost use Rattle.session_engine.specs.Done.{AreHandsDone, IsSourceDone, RanOver};
 ghost use Rattle.session_engine.specs.Follows.{EndsWith};
 ghost use Rattle.session_engine.specs.Session.{armed_for, unnamed_client};
 
@@ -135,13 +135,10 @@ fn run_start<'a, H: Hand, M: Hand, K: Screen, S: Source, V: Sink, C: Sink, G: Ga
     ensures hands { AreHandsDone start.entry.limits.now H.SameOrigin H.meaning M.SameOrigin M.meaning
         start.entry.hands.sum result.hands.sum start.entry.hands.halt result.hands.halt
         result.acts.items }
-    ensures follows { Ran start.entry.limits.now
-        (armed_for start.entry.limits.now (map K.meaning screens.items)) (S.left source)
-        (S.left result.source) result.acts.items result.end
-        (sink_of V.held V.faults V.name start.entry.venue)
-        (sink_of V.held V.faults V.name result.venue)
-        (sink_of C.held C.faults C.name start.entry.client)
-        (sink_of C.held C.faults C.name result.client) }
+    ensures follows { RanOver S.left V.held V.faults V.name C.held C.faults C.name
+        start.entry.limits.now (armed_for start.entry.limits.now (map K.meaning screens.items)) source
+        result.source start.entry.venue result.venue start.entry.client result.client
+        result.acts.items result.end }
     ensures source { IsSourceDone S.left S.faults S.name S.is_ended source result.source result.end }
     ensures ends { EndsWith result.acts.items result.end }
 {
@@ -205,15 +202,12 @@ pub fn run_session<H: Hand, M: Hand, S: Source, V: Sink, C: Sink, G: Gate>(
     client: C,
     gate: &G,
 ) -> SessionDone<H, M, S, V, C>
-    requires sum { IsIdleSumHand limits.now (H.meaning hands.sum) }
-    requires halt { IsIdleHaltHand (M.meaning hands.halt) }
+    requires { AreIdleHands limits.now (H.meaning hands.sum) (M.meaning hands.halt) }
     ensures hands { AreHandsDone limits.now H.SameOrigin H.meaning M.SameOrigin M.meaning
         hands.sum result.hands.sum hands.halt result.hands.halt result.acts.items }
-    ensures follows { Ran limits.now
-        (armed_for limits.now (map (λ b. (Screen-box b).meaning b.value) screens.items))
-        (S.left source) (S.left result.source) result.acts.items result.end
-        (sink_of V.held V.faults V.name venue) (sink_of V.held V.faults V.name result.venue)
-        (sink_of C.held C.faults C.name client) (sink_of C.held C.faults C.name result.client) }
+    ensures follows { RanOver S.left V.held V.faults V.name C.held C.faults C.name limits.now
+        (armed_for limits.now (map (λ b. (Screen-box b).meaning b.value) screens.items)) source
+        result.source venue result.venue client result.client result.acts.items result.end }
     ensures source { IsSourceDone S.left S.faults S.name S.is_ended source result.source result.end }
     ensures no_room { result.acts.items ≡ [] → vec_capacity result.acts ≡ 0 }
 {

@@ -6,7 +6,7 @@ use Rattle.order_desk.proofs.HaltKept.{new_keeps}
 use Rattle.fix_orders.specs.Writing.{order_reject_fields}
 use Rattle.session_engine.proofs.Answered.{answer_time, passes, sent_taken, refused_taken}
 use Rattle.session_engine.proofs.Answered.{continues_answered}
-use Rattle.session_engine.proofs.MessageFacts.{new_facts, new_id}
+use Rattle.session_engine.proofs.MessageFacts.{id_read}
 use Rattle.session_engine.proofs.RefusalTexts.{order_refused}
 use Rattle.session_engine.proofs.RequestFrames.{order_asked, decided_trips}
 use Rattle.session_engine.proofs.session.Session.take_new.Goals as goal
@@ -29,7 +29,7 @@ pub forward-requires-clause-time : goal.forward-requires-clause-time
 forward-requires-clause-time g c = λ fields has.
     ap (λ (s : Stamp). s.time) c.tell_answer-stamp.ensures.stamp
     ∙ answer_time c.decide_new-refusal.result _ _ _
-    ∙ (new_facts fields c.args.order.now (c.requires.read.each fields has)).time
+    ∙ ((order_asked c.args.order.now).facts fields (c.requires.read.each fields has)).time
 
 -- sent, it went on to the venue
 pub returns-in-None-clause-taken : goal.returns-in-None-clause-taken
@@ -62,7 +62,7 @@ returns-in-Some-clause-taken g c =
     (λ fields has time_is.
     let own = c.requires.read.each fields has in
     order_refused _ _ fields c.tell_answer-stamp.result time_is _ c.order_reason_of.result
-    c.bytes-in-Some.result.now c.in-Some.why (new_id fields c.args.order.now own)
+    c.bytes-in-Some.result.now c.in-Some.why (id_read fields (message.New c.args.order.now) own)
     c.order_reason_of.ensures (c.bytes-in-Some.ensures ∙ c.text_of-text.ensures.text)
     (c.give_written.ensures.given.says (order_reject_fields fields c.args.order.now.id
     c.tell_answer-stamp.result c.order_reason_of.result c.bytes-in-Some.result.now)

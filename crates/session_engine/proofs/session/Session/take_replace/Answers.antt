@@ -7,7 +7,7 @@ use Rattle.order_desk.proofs.HaltKept.{replace_keeps}
 use Rattle.fix_orders.specs.Writing.{cancel_reject_fields}
 use Rattle.session_engine.proofs.Answered.{answer_time, passes, sent_taken, refused_taken}
 use Rattle.session_engine.proofs.Answered.{continues_answered}
-use Rattle.session_engine.proofs.MessageFacts.{replace_facts, replace_ids}
+use Rattle.session_engine.proofs.MessageFacts.{id_read, orig_read}
 use Rattle.session_engine.proofs.RefusalTexts.{request_refused}
 use Rattle.session_engine.proofs.RequestFrames.{replace_asked, decided_trips}
 use Rattle.session_engine.proofs.session.Session.take_replace.Goals as goal
@@ -32,7 +32,7 @@ pub forward-requires-clause-time : goal.forward-requires-clause-time
 forward-requires-clause-time g c = λ fields has.
     ap (λ (s : Stamp). s.time) c.tell_answer-stamp.ensures.stamp
     ∙ answer_time c.decide_replace-refusal.result _ _ _
-    ∙ (replace_facts fields c.args.replace.now (c.requires.read.each fields has)).time
+    ∙ ((replace_asked c.args.replace.now).facts fields (c.requires.read.each fields has)).time
 
 -- sent, it went on to the venue
 pub returns-in-None-clause-taken : goal.returns-in-None-clause-taken
@@ -63,9 +63,11 @@ returns-in-Some-clause-taken g c =
     c.give_written.ensures.given.whole c.tell_answer-stamp.result c.in-Some.why c.in-Some.is
     c.tell_answer-stamp.ensures.stamp c.give_written.ensures.given.front
     (λ fields has time_is.
+    let whole = message.Replace c.args.replace.now in
+    let own = c.requires.read.each fields has in
     request_refused _ _ fields c.tell_answer-stamp.result time_is 2 _ _
     c.request_reason_of.result c.bytes.result.now c.in-Some.why
-    (replace_ids fields c.args.replace.now (c.requires.read.each fields has))
+    (id_read fields whole own) (orig_read fields whole own)
     c.request_reason_of.ensures (c.bytes.ensures ∙ c.text_of-text.ensures.text)
     (c.give_written.ensures.given.says (cancel_reject_fields c.args.replace.now.id
     c.args.replace.now.orig c.tell_answer-stamp.result 2 c.request_reason_of.result

@@ -5,7 +5,6 @@ use Rattle.fix_orders.specs.declared.message.Message.TheVariants as message
 use Rattle.fix_orders.specs.declared.message.Stamp.{Stamp}
 use Rattle.session_engine.specs.Answers.{forward_text}
 use Rattle.session_engine.proofs.Answered.{passes, report_taken}
-use Rattle.session_engine.proofs.MessageFacts.{report_facts}
 use Rattle.session_engine.proofs.ReportFrames.{report_told}
 use Rattle.session_engine.proofs.session.Session.take_report.Goals as goal
 
@@ -16,7 +15,7 @@ forward-requires-clause-passed g c =
 pub forward-requires-clause-time : goal.forward-requires-clause-time
 forward-requires-clause-time g c = λ fields has.
     ap (λ (s : Stamp). s.time) c.tell_effect-stamp.ensures.stamp
-    ∙ (report_facts fields c.args.report.now (c.requires.read.each fields has)).time
+    ∙ ((report_told c.args.report.now).facts fields (c.requires.read.each fields has)).time
 
 pub returns-clause-taken : goal.returns-clause-taken
 returns-clause-taken g c =

@@ -6,7 +6,7 @@ use Rattle.fix_orders.specs.declared.message.Message.TheVariants as message
 use Rattle.fix_orders.specs.Reading.{read_of}
 use Rattle.session_engine.specs.Running.{kept_of}
 use Rattle.session_engine.specs.Taken.{Kept}
-use Rattle.session_engine.proofs.MessageFacts.{admin_is_no_request, other_is_no_request}
+use Rattle.session_engine.proofs.MessageFacts.{was_read}
 use Rattle.session_engine.proofs.PassedFrames.{takes_admin, takes_other}
 use Rattle.session_engine.proofs.Giving.{takes_all}
 use Rattle.session_engine.proofs.session.Session.take_sound.Goals as goal
@@ -62,30 +62,16 @@ returns-in-Ok-Admin-clause-taken g c =
     let read : read_of fields ≡ Ok message.Admin = sym (c.read_message.ensures fields
     (rw (c.bytes.ensures.bytes, c.frame.ensures.frame) has)) ∙ c.in-Ok-Admin.is
     ∙ ap (λ (m : Message). Ok m) c.in-Ok-Admin.field-0-is in
-    takes_admin c.self.inside.desk.limits fields session _ _ (admin_is_no_request fields read)
-    read own (record {
-      book = refl;
-      screens = refl;
-      counts = refl;
-      client_id = refl;
-      venue = refl;
-      client = refl;
-    }) refl) refl (λ failed. cc))
+    takes_admin c.self.inside.desk.limits fields session _ _
+    (was_read fields message.Admin read).asks_are read own refl) refl (λ failed. cc))
 
 pub returns-in-Ok-Other-clause-taken : goal.returns-in-Ok-Other-clause-taken
 returns-in-Ok-Other-clause-taken g c = takes_all g.K.Screen.meaning _ _ _ _ _ (λ fields has session own.
     let read : read_of fields ≡ Ok message.Other = sym (c.read_message.ensures fields
     (rw (c.bytes.ensures.bytes, c.frame.ensures.frame) has)) ∙ c.in-Ok-Other.is
     ∙ ap (λ (m : Message). Ok m) c.in-Ok-Other.field-0-is in
-    let noted = c.note_frame.ensures.noted in
     takes_other c.args.self.now.desk.limits fields session
     (kept_of g.K.Screen.meaning c.args.self.now) (kept_of g.K.Screen.meaning c.note_frame.new.self)
-    (other_is_no_request fields read) read own (record {
-      book = ap (λ (k : Kept). k.book) noted;
-      screens = ap (λ (k : Kept). k.screens) noted;
-      counts = ap (λ (k : Kept). k.counts) noted;
-      client_id = ap (λ (k : Kept). k.client_id) noted;
-      venue = ap (λ (k : Kept). k.venue) noted;
-      client = ap (λ (k : Kept). k.client) noted;
-    }) (ap (λ (k : Kept). k.acts) noted)) (ap (λ (k : Kept). k.venue) c.note_frame.ensures.noted)
+    (was_read fields message.Other read).asks_are read own c.note_frame.ensures.noted)
+    (ap (λ (k : Kept). k.venue) c.note_frame.ensures.noted)
     (λ failed. cc)
