@@ -1,7 +1,7 @@
 -- Where names stand among the rows of the limits: among different names a name has one place, which is
 -- that of a row.
-use Rattle.std.proofs.Common.{◌≡◌, ℕ, zero, suc, ◌+◌, ◌<◌, List, [], ◌∷◌, length, Bool, cond}
-use Rattle.std.proofs.Common.{refl, sym, ap, ◌∙◌, arith, true, false, Option, Some, None, Ok}
+use Rattle.std.proofs.Common.{◌≡◌, ℕ, zero, suc, ◌+◌, ◌<◌, List, [], ◌∷◌, length, Bool, cond, refl}
+use Rattle.std.proofs.Common.{sym, ap, ◌∙◌, arith, true, false, Option, Some, None, Ok}
 use Rattle.std.specs.Prelude.{slice_get}
 use Rattle.std.specs.Option.{option_map}
 use Rattle.std.specs.List.{IsDistinct, AllByRecursion}
@@ -91,12 +91,16 @@ account_is limits name place held at =
     place_is (account_names limits.accounts) name place
     (held_is_file_limits limits held).accounts.distinct at
 
-pub symbol_is : (limits : LimitsValue) (name : Name) (place : Option ℕ) → IsHeldByFile limits
-    → IsPlaceOf (symbol_names limits.symbols) name place
-    → place ≡ place_among name (symbol_names limits.symbols)
-symbol_is limits name place held at =
-    place_is (symbol_names limits.symbols) name place
-    (held_is_file_limits limits held).symbols.distinct at
+-- the rows of an order by the places of its names
+pub rows_are : (limits : LimitsValue) (order : NewOrder) (account symbol : Option ℕ)
+    → IsHeldByFile limits → IsPlaceOf (account_names limits.accounts) order.account account
+    → IsPlaceOf (symbol_names limits.symbols) order.symbol symbol
+    → rows_at account symbol ≡ rows_of limits order
+rows_are limits order account symbol held own traded =
+    let own_is = account_is limits order.account account held own in
+    let traded_is = place_is (symbol_names limits.symbols) order.symbol symbol
+    (held_is_file_limits limits held).symbols.distinct traded in
+    rw (own_is, traded_is) refl
 
 -- both places of known rows
 places_of_rows : (account symbol : Option ℕ) (rows : OrderRows) → rows_at account symbol ≡ Ok rows
