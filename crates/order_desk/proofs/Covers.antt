@@ -208,19 +208,13 @@ module _ (limits : LimitsValue) (rows : OrderRows) (are : AreRowsOf limits rows)
   -- the new value of a leg is what the other orders are worth in its tree
   legs_tell : All (λ leg. leg.new ≡ value_in limits leg.tree orders) legs
   legs_tell =
-      all_three (λ leg. leg.new ≡ value_in limits leg.tree orders)
-      (leg_with limits acts 0 (slice_index values 0) Firm)
-      (leg_with limits acts (account_tree rows.account) (slice_index values 1) Account)
-      (leg_with limits acts (symbol_tree limits rows.symbol) (slice_index values 2) Symbol)
-      told.firm told.account told.symbol
+      all_three (λ leg. leg.new ≡ value_in limits leg.tree orders) _ _ _ told.firm told.account
+      told.symbol
 
   legs_below : All (λ leg. leg.tree < halt_tree limits) legs
   legs_below =
-      all_three (λ leg. leg.tree < halt_tree limits)
-      (leg_with limits acts 0 (slice_index values 0) Firm)
-      (leg_with limits acts (account_tree rows.account) (slice_index values 1) Account)
-      (leg_with limits acts (symbol_tree limits rows.symbol) (slice_index values 2) Symbol)
-      (omega arith) (omega (arith, are.account)) (omega (arith, are.symbol))
+      all_three (λ leg. leg.tree < halt_tree limits) _ _ _ (omega arith)
+      (omega (arith, are.account)) (omega (arith, are.symbol))
 
   others_same : (tree : ℕ) → leg_in tree legs ≡ None
       → value_in limits tree orders ≡ value_in limits tree book.orders

@@ -82,16 +82,14 @@ new_keeps limits order screens book before =
     (known_rows limits order rows is.found))
 
 -- a cancel (F)
-cancel_keeps_by : (limits : LimitsValue) (request : Cancel) (book : BookValue) (before : Tape)
-    (answer : Result (Unit {0}) BookFault)
-    → KeepsHalt limits before.acts (cancel_by request book before answer).tape.acts
-cancel_keeps_by limits request book before (Err why) = refl
-cancel_keeps_by limits request book before (Ok nothing) = refl
-
 pub cancel_keeps : (limits : LimitsValue) (request : Cancel) (book : BookValue) (before : Tape)
     → KeepsHalt limits before.acts (cancel_decided request book before).tape.acts
-cancel_keeps limits request book before =
-    cancel_keeps_by limits request book before (proposal_of_cancel book request)
+cancel_keeps limits request book before = by (proposal_of_cancel book request)
+  where
+    by : (answer : Result (Unit {0}) BookFault)
+        → KeepsHalt limits before.acts (cancel_by request book before answer).tape.acts
+    by (Err why) = refl
+    by (Ok nothing) = refl
 
 -- a replace (G) of an order of a covered book
 pub replace_keeps : (limits : LimitsValue) (request : Replace) (screens : List ScreenValue)

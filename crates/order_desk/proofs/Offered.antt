@@ -1,6 +1,6 @@
 -- What is offered for a request, and what is decided on it, by what the book proposes.
 use Rattle.std.proofs.Common.{◌≡◌, ℕ, ◌<◌, List, length, Option, Some, None, Result, Ok, Err, refl}
-use Rattle.std.proofs.Common.{ap, subst, ◌∙◌, true, false, slice_get, All}
+use Rattle.std.proofs.Common.{ap, subst, ◌∙◌, true, false, slice_get, All, arith}
 use Rattle.std.proofs.lemmas.List.Elements.{All-get_or}
 use Rattle.std.proofs.lemmas.Option.{slice_get_within}
 use Rattle.fix_orders.specs.declared.message.NewOrder.{NewOrder}
@@ -150,10 +150,8 @@ module _ (limits : LimitsValue) (book : BookValue)
       let account : order.account ≡ rows.account = ap (λ (r : OrderRows). r.account) same in
       let symbol : order.symbol ≡ rows.symbol = ap (λ (r : OrderRows). r.symbol) same in
       record {
-        account = subst (λ n. rows.account < n) accounts
-            (subst (λ n. n < book.accounts) account own.account);
-        symbol = subst (λ n. rows.symbol < n) symbols
-            (subst (λ n. n < book.symbols) symbol own.symbol);
+        account = omega (arith, account, accounts, own.account);
+        symbol = omega (arith, symbol, symbols, own.symbol);
       }
 
   by_place : (place : Option ℕ)

@@ -21,34 +21,25 @@ use Rattle.admit_core.specs.declared.rows.OrderRows.{OrderRows}
 use Rattle.admit_core.specs.Legs.{AreRowsOf}
 use Rattle.order_desk.specs.Rows.{place_among, rows_at, rows_of}
 
-by_option : (place : ℕ) (later : Option ℕ) → option_map (λ p. p + 1) later ≡ Some place
-    → (before : ℕ) × (later ≡ Some before) × (place ≡ before + 1)
-by_option place None is = absurd cc
-by_option place (Some before) is = (before, refl, cc)
-
-within_by : (test : Bool) (own name : List ℕ) (names : List (List ℕ)) (place : ℕ)
-    → ((before : ℕ) → place_among name names ≡ Some before → before < length names)
-    → cond test (Some 0) (option_map (λ p. p + 1) (place_among name names)) ≡ Some place
-    → place < length (own ∷ names)
-within_by true own name names place earlier is =
-    let at : 0 ≡ place = cc in omega (arith, at)
-within_by false own name names place earlier is =
-    let before = by_option place (place_among name names) is in
-    omega (arith, earlier before.0 before.1, before.2)
-
 -- a place is within the names
 pub within : (names : List (List ℕ)) (name : List ℕ) (place : ℕ)
     → place_among name names ≡ Some place → place < length names
 within [] name place is = absurd cc
 within (own ∷ names) name place is =
-    within_by (bytes_eq own name) own name names place (within names name) is
+    by (bytes_eq own name) (place_among name names) (within names name) is
+  where
+    by : (here : Bool) (later : Option ℕ)
+        → ((before : ℕ) → later ≡ Some before → before < length names)
+        → cond here (Some 0) (option_map (λ p. p + 1) later) ≡ Some place
+        → place < length (own ∷ names)
+    by true later below is = let at : 0 ≡ place = cc in omega (arith, at)
+    by false None below is = absurd cc
+    by false (Some before) below is =
+        let at : before + 1 ≡ place = cc in omega (arith, at, below before refl)
 
 -- a name
 abbrev Name : Type 0
 Name = List ℕ
-
-some_same : (a b : Name) (o : Option Name) → o ≡ Some a → o ≡ Some b → a ≡ b
-some_same a b o first second = cc
 
 -- a name that differs from all isn't at a place among them
 not_there : (own name : Name) (names : List Name) (place : ℕ)

@@ -156,17 +156,15 @@ module _ (limits : LimitsValue) (rows : OrderRows) (values : Proposal) (book : B
         → replace_screened limits request screens book before ≡ sent_at_once next before
     replace_at_once within = replace_is false within
 
-cancel_by_proposal : (request : Cancel) (book : BookValue) (before : Tape)
-    (proposed : Result (Unit {0}) BookFault) → IsOk proposed
-    → cancel_by request book before proposed
-    ≡ sent_at_once (with_cancel_pending request book) before
-cancel_by_proposal request book before (Ok nothing) is = refl
-cancel_by_proposal request book before (Err fault) is = absurd cc
-
 -- a cancel that the book proposes is sent at once
 pub cancel_at_once : (request : Cancel) (book : BookValue) (before : Tape)
     → IsOk (proposal_of_cancel book request)
     → cancel_decided request book before
     ≡ sent_at_once (with_cancel_pending request book) before
-cancel_at_once request book before is =
-    cancel_by_proposal request book before (proposal_of_cancel book request) is
+cancel_at_once request book before = by (proposal_of_cancel book request)
+  where
+    by : (proposed : Result (Unit {0}) BookFault) → IsOk proposed
+        → cancel_by request book before proposed
+        ≡ sent_at_once (with_cancel_pending request book) before
+    by (Ok nothing) is = refl
+    by (Err fault) is = absurd cc
