@@ -114,33 +114,31 @@ is_idle pending.Nothing is = refl
 is_idle (pending.Cancel id) is = absurd cc
 is_idle (pending.Replace id total price) is = absurd cc
 
-requests_order : (book : BookValue) (orig : List ℕ) (own place : ℕ) (found : Option Order)
-    → place_of orig book.ids ≡ Some own → slice_get book.orders own ≡ found
-    → open_for_request orig own found ≡ Ok place → RequestsOn book orig place
-requests_order book orig own place None at is given = absurd cc
-requests_order book orig own place (Some order) at is given =
-    let open_ = passes (is_closed order) fault.Closed _ place given in
-    let idle = passes (is_pending order.pending) fault.Pending _ place open_.1 in
-    let here = chosen (is_same_id orig order.current) own place fault.Unknown idle.1 in
-    record {
-      order = order;
-      at = at ∙ ap Some here;
-      found = ap (slice_get book.orders) (sym here) ∙ is;
-      idle = is_idle order.pending idle.0;
-    }
-
-requests_place : (book : BookValue) (orig : List ℕ) (place : ℕ) (at : Option ℕ)
-    → place_of orig book.ids ≡ at → requested_at book orig at ≡ Ok place
-    → RequestsOn book orig place
-requests_place book orig place None is given = absurd cc
-requests_place book orig place (Some own) is given =
-    requests_order book orig own place (slice_get book.orders own) is refl given
-
 requests_on : (book : BookValue) (id orig : List ℕ) (place : ℕ)
     → requested book id orig ≡ Ok place → RequestsOn book orig place
 requests_on book id orig place given =
-    requests_place book orig place (place_of orig book.ids) refl
+    by_place (place_of orig book.ids) refl
     (passes (is_known book id) fault.Duplicate _ place given).1
+  where
+    by_order : (own : ℕ) (found : Option Order) → place_of orig book.ids ≡ Some own
+        → slice_get book.orders own ≡ found → open_for_request orig own found ≡ Ok place
+        → RequestsOn book orig place
+    by_order own None at is taken = absurd cc
+    by_order own (Some order) at is taken =
+        let open_ = passes (is_closed order) fault.Closed _ place taken in
+        let idle = passes (is_pending order.pending) fault.Pending _ place open_.1 in
+        let here = chosen (is_same_id orig order.current) own place fault.Unknown idle.1 in
+        record {
+          order = order;
+          at = at ∙ ap Some here;
+          found = ap (slice_get book.orders) (sym here) ∙ is;
+          idle = is_idle order.pending idle.0;
+        }
+
+    by_place : (at : Option ℕ) → place_of orig book.ids ≡ at → requested_at book orig at ≡ Ok place
+        → RequestsOn book orig place
+    by_place None is taken = absurd cc
+    by_place (Some own) is taken = by_order own (slice_get book.orders own) is refl taken
 
 -- a request is pending on an order with none
 module _ (order : Order) (idle : order.pending ≡ pending.Nothing) where
@@ -235,26 +233,23 @@ module _ (limits : LimitsValue) (book : BookValue) (before : Tape)
         (λ leg none. ltb-false leg.old leg.new none) legs
         (none_passes (λ (leg : Leg). nat_lt leg.old leg.new) legs is)) raised
 
--- a cancel (F) by what stands against it
-cancel_covers_by : (limits : LimitsValue) (request : Cancel) (book : BookValue) (before : Tape)
-    → Covers limits before.acts book → (answer : Result ℕ BookFault)
-    → requested book request.id request.orig ≡ answer
-    → IsCovered limits (cancel_by request book before (fault_alone answer))
-cancel_covers_by limits request book before covers (Err why) is = covers
-cancel_covers_by limits request book before covers (Ok place) is =
-    let on = requests_on book request.id request.orig place is in
-    let next : with_cancel_pending request book
-    ≡ next_book limits book before covers request.orig place on request.id
-    (pending.Cancel request.id) =
-    ap (cancel_at request book) on.at
-    ∙ ap (λ o. with_request request.id place (with_cancel request o) book) on.found in
-    subst (Covers limits before.acts) (sym next)
-    (cancel_covers_on limits book before covers request.orig place on request)
-
 pub cancel_covers : (limits : LimitsValue) (request : Cancel) (book : BookValue) (before : Tape)
     → Covers limits before.acts book → IsCovered limits (cancel_decided request book before)
-cancel_covers limits request book before covers =
-    cancel_covers_by limits request book before covers (requested book request.id request.orig) refl
+cancel_covers limits request book before covers = by (requested book request.id request.orig) refl
+  where
+    -- by what stands against it
+    by : (answer : Result ℕ BookFault) → requested book request.id request.orig ≡ answer
+        → IsCovered limits (cancel_by request book before (fault_alone answer))
+    by (Err why) is = covers
+    by (Ok place) is =
+        let on = requests_on book request.id request.orig place is in
+        let next : with_cancel_pending request book
+        ≡ next_book limits book before covers request.orig place on request.id
+        (pending.Cancel request.id) =
+        ap (cancel_at request book) on.at
+        ∙ ap (λ o. with_request request.id place (with_cancel request o) book) on.found in
+        subst (Covers limits before.acts) (sym next)
+        (cancel_covers_on limits book before covers request.orig place on request)
 
 -- the values of a replace (G) that were proposed
 replace_told : (limits : LimitsValue) (request : Replace) (book : BookValue) (place : ℕ)

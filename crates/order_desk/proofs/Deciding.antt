@@ -87,11 +87,7 @@ module _ (limits : LimitsValue) (screens : List ScreenValue)
 -- no verdict of the trees is a screen's refusal
 never_by : (verdict : Verdict) (code : ℕ) → refusal_by verdict ≡ Some (Screen code) → ⊥
 never_by verdict.Sent code is = cc
-never_by verdict.Firm code is = cc
-never_by verdict.Account code is = cc
-never_by verdict.Symbol code is = cc
-never_by verdict.Halt code is = cc
-never_by verdict.Quota code is = cc
+never_by refusing code is = cc
 
 module _ (book : BookValue) (before : Tape) (code : ℕ) where
   -- a decision with this code does nothing
