@@ -156,8 +156,8 @@ pub covers_tripped : (limits : LimitsValue) (value : ℕ) (acts : List Act) (boo
     → Covers limits acts book → Covers limits (with_post (halt_tree limits) value acts) book
 covers_tripped limits value acts book covers =
     covers_kept limits acts (with_post (halt_tree limits) value acts) book book.orders book.ids
-    covers covers.backs.placed (λ tree below. tripped_keeps limits value tree acts below) (λ tree. refl)
-    (tripped_admits limits value acts covers.admitted)
+    covers covers.backs.placed (λ tree below. tripped_keeps limits value tree acts below)
+    (λ tree. refl) (tripped_admits limits value acts covers.admitted)
 
 -- whatever is so where too few posts are left, where the values stand posted and where the old ones
 -- are posted back, is so of what asking comes to
