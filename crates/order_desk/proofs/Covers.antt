@@ -1,16 +1,15 @@
 -- Posts, as they back the orders of a book and are admitted.
-use Rattle.std.proofs.Common.{◌≡◌, ℕ, ◌+◌, ◌≤◌, ◌<◌, List, [], ◌∷◌, ◌++◌, length, fold}
-use Rattle.std.proofs.Common.{refl, ap, sym, ◌∙◌, arith, Bool, true, false, cond, All, IfSome}
-use Rattle.std.proofs.Common.{Option, Some, None, ◌||◌}
+use Rattle.std.proofs.Common.{◌≡◌, ℕ, ◌+◌, ◌≤◌, ◌<◌, List, [], ◌∷◌, ◌++◌, length, fold, refl, ap}
+use Rattle.std.proofs.Common.{sym, ◌∙◌, arith, Bool, true, false, cond, All, IfSome, Option, Some}
+use Rattle.std.proofs.Common.{None}
 use Rattle.std.specs.Prelude.{slice_index, slice_index_or, nat_lt}
 use Rattle.std.specs.List.{list_any}
-use Rattle.std.proofs.lemmas.Bool.{eq-eqb, true≢false}
-use Rattle.std.proofs.lemmas.Bool.Decides.{nat_tests}
+use Rattle.std.proofs.lemmas.Bool.{eqb-false, ltb-false, or_parts}
 use Rattle.std.proofs.lemmas.List.Elements.{All-nil, All-cons}
 use Rattle.admit_core.specs.declared.ask.Verdict.{Verdict}
 use Rattle.admit_core.specs.declared.ask.Verdict.TheVariants as verdict
 use Rattle.exposure_book.specs.declared.order.Order.{Order}
-use Rattle.exposure_book.specs.Books.{BookValue}
+use Rattle.exposure_book.specs.Books.{BookValue, proposal_of, with_orders}
 use Rattle.exposure_book.specs.Totals.{IsPlaced}
 use Rattle.risk_journal.specs.declared.acts.Act.{Act}
 use Rattle.risk_journal.specs.ActLists.{SeenAt, posts_in, last_post, events_of}
@@ -22,8 +21,8 @@ use Rattle.admit_core.specs.Legs.{Leg, AreRowsOf, legs_of, leg_with}
 use Rattle.admit_core.specs.Lowering.{lowering}
 use Rattle.admit_core.specs.Tapes.{IsNoCall, Tape, tape, with_post}
 use Rattle.limit_table.specs.Trees.{LimitsValue, halt_tree, account_tree, symbol_tree, limit_of}
-use Rattle.admit_core.proofs.AskedTrees.{all_three, leg_in, none_in_front, KeepsTree}
-use Rattle.admit_core.proofs.AskedTrees.{asked_keeps, asked_posts, back_keeps, back_posts}
+use Rattle.admit_core.proofs.AskedTrees.{all_three, leg_in, none_in_front, KeepsTree, asked_keeps}
+use Rattle.admit_core.proofs.AskedTrees.{asked_posts, back_keeps, back_posts}
 use Rattle.admit_core.proofs.AskedAdmits.{IsLegFor, legs_are, asked_admits}
 use Rattle.admit_core.proofs.LoweredTrees.{leg_has, legs_apart, lowering_keeps, lowering_posts}
 use Rattle.admit_core.proofs.LoweredTrees.{lowered_admits}
@@ -35,8 +34,9 @@ use Rattle.order_desk.specs.declared.refusal.Refusal.TheVariants as refusal
 use Rattle.order_desk.specs.Backing.{IsBacked, Backs, Covers}
 use Rattle.order_desk.specs.Decisions.{decided_by}
 use Rattle.order_desk.specs.Refusals.{refusal_by}
-use Rattle.order_desk.specs.Values.{value_in, first_book}
-use Rattle.order_desk.proofs.TreeValues.{value_in-none, IsOtherTree}
+use Rattle.order_desk.specs.Values.{value_in, first_book, values_of}
+use Rattle.order_desk.proofs.TreeValues.{value_in-none, IsOtherTree, firm_for, account_for}
+use Rattle.order_desk.proofs.TreeValues.{symbol_for}
 
 pub first_covers : (limits : LimitsValue) → Covers limits [] (first_book limits)
 first_covers limits = record {
@@ -68,20 +68,27 @@ pub record Tells (limits : LimitsValue) (rows : OrderRows) (values : List ℕ)
   pub others : (tree : ℕ) → IsOtherTree limits rows.account rows.symbol tree
       → value_in limits tree next ≡ value_in limits tree orders
 
+-- the values of rows of a backed book, with these orders in place of its own
+pub tells_with : (limits : LimitsValue) (acts : List Act) (book : BookValue)
+    → Backs limits acts book → (rows : OrderRows) → AreRowsOf limits rows → (next : List Order)
+    → ((tree : ℕ) → IsOtherTree limits rows.account rows.symbol tree
+    → value_in limits tree next ≡ value_in limits tree book.orders)
+    → Tells limits rows
+    (values_of (proposal_of (with_orders next book) rows.account rows.symbol)) book.orders next
+tells_with limits acts book backs rows are next others = record {
+  firm = firm_for limits acts book backs next;
+  account = account_for limits acts book backs next rows.account are.account;
+  symbol = symbol_for limits acts book backs next rows.symbol;
+  others = others;
+}
+
 -- tests that none passes
 pub none_passes : {X : Type 0} (test : X → Bool) (items : List X) → list_any test items ≡ false
     → All (λ item. test item ≡ false) items
 none_passes test [] none = All-nil (λ item. test item ≡ false)
 none_passes test (item ∷ items) none =
-    let both = neither (test item) (list_any test items) none in
+    let both = or_parts (test item) (list_any test items) none in
     All-cons (λ one. test one ≡ false) item items both.0 (none_passes test items both.1)
-  where
-    neither : (one others : Bool) → (one || others) ≡ false → (one ≡ false) × (others ≡ false)
-    neither true others is = absurd cc
-    neither false others is = (refl, is)
-
-pub not_less : (m n : ℕ) → nat_lt m n ≡ false → n ≤ m
-not_less m n is = grind (arith, nat_tests)
 
 -- a tree with no leg is another tree
 other_tree : (limits : LimitsValue) (rows : OrderRows) (acts : List Act) (values : List ℕ)
@@ -97,11 +104,9 @@ other_tree limits rows acts values tree none =
     let two = none_in_front tree account (symbol ∷ []) one.1 in
     let three = none_in_front tree symbol [] two.1 in
     record {
-      not_firm = λ e. true≢false (sym (eq-eqb 0 tree (sym e)) ∙ one.0);
-      not_account = λ e.
-          true≢false (sym (eq-eqb (account_tree rows.account) tree (sym e)) ∙ two.0);
-      not_symbol = λ e.
-          true≢false (sym (eq-eqb (symbol_tree limits rows.symbol) tree (sym e)) ∙ three.0);
+      not_firm = λ e. eqb-false 0 tree one.0 (sym e);
+      not_account = λ e. eqb-false (account_tree rows.account) tree two.0 (sym e);
+      not_symbol = λ e. eqb-false (symbol_tree limits rows.symbol) tree three.0 (sym e);
     }
 
 -- a tree that keeps its posts backs what is worth the same
@@ -114,23 +119,26 @@ kept_backed limits acts after book changed tree was kept same = record {
   exact = λ left. same ∙ was.exact (omega (arith, left, kept.posts)) ∙ sym kept.last;
 }
 
+-- ids with the places of their orders
+abbrev pub Ids : Type 0
+Ids = List (List ℕ × ℕ)
+
 -- the acts keep what is posted in each tree of sums, and the orders are worth the same there
-pub covers_kept : (limits : LimitsValue) (acts after : List Act) (book next : BookValue)
-    → Covers limits acts book → next.accounts ≡ book.accounts → next.symbols ≡ book.symbols
-    → next.nets ≡ book.nets
-    → All (IsPlaced next.accounts next.symbols) next.orders
+pub covers_kept : (limits : LimitsValue) (acts after : List Act) (book : BookValue)
+    (orders : List Order) (ids : Ids) → Covers limits acts book
+    → All (IsPlaced book.accounts book.symbols) orders
     → ((tree : ℕ) → tree < halt_tree limits → KeepsTree tree acts after)
-    → ((tree : ℕ) → value_in limits tree next.orders ≡ value_in limits tree book.orders)
-    → AdmitsLast limits after → Covers limits after next
-covers_kept limits acts after book next covers accounts symbols nets placed kept same admits = record {
+    → ((tree : ℕ) → value_in limits tree orders ≡ value_in limits tree book.orders)
+    → AdmitsLast limits after → Covers limits after (record book { orders = orders; ids = ids })
+covers_kept limits acts after book orders ids covers placed kept same admits = record {
   backs = record {
-    accounts = accounts ∙ covers.backs.accounts;
-    symbols = symbols ∙ covers.backs.symbols;
-    nets = nets ∙ covers.backs.nets;
+    accounts = covers.backs.accounts;
+    symbols = covers.backs.symbols;
+    nets = covers.backs.nets;
     placed = placed;
     trees = λ tree inside.
-        kept_backed limits acts after book next tree (covers.backs.trees tree inside)
-        (kept tree inside) (same tree);
+        kept_backed limits acts after book (record book { orders = orders; ids = ids }) tree
+        (covers.backs.trees tree inside) (kept tree inside) (same tree);
   };
   admitted = admits;
 }
@@ -139,7 +147,7 @@ covers_kept limits acts after book next covers accounts symbols nets placed kept
 pub covers_noted : (limits : LimitsValue) (acts : List Act) (book : BookValue) (act : Act)
     → IsNoCall act → Covers limits acts book → Covers limits (acts ++ act ∷ []) book
 covers_noted limits acts book act none covers =
-    covers_kept limits acts (acts ++ act ∷ []) book book covers refl refl refl covers.backs.placed
+    covers_kept limits acts (acts ++ act ∷ []) book book.orders book.ids covers covers.backs.placed
     (λ tree inside. noted_keeps tree acts act none) (λ tree. refl)
     (noted_admits limits acts act none covers.admitted)
 
@@ -147,12 +155,12 @@ covers_noted limits acts book act none covers =
 pub covers_tripped : (limits : LimitsValue) (value : ℕ) (acts : List Act) (book : BookValue)
     → Covers limits acts book → Covers limits (with_post (halt_tree limits) value acts) book
 covers_tripped limits value acts book covers =
-    covers_kept limits acts (with_post (halt_tree limits) value acts) book book covers refl refl refl
-    covers.backs.placed (λ tree below. tripped_keeps limits value tree acts below) (λ tree. refl)
-    (tripped_admits limits value acts covers.admitted)
+    covers_kept limits acts (with_post (halt_tree limits) value acts) book book.orders book.ids
+    covers covers.backs.placed (λ tree below. tripped_keeps limits value tree acts below)
+    (λ tree. refl) (tripped_admits limits value acts covers.admitted)
 
--- whatever is so where too few posts are left, where the values stand posted and where the old ones are
--- posted back, is so of what asking comes to
+-- whatever is so where too few posts are left, where the values stand posted and where the old ones
+-- are posted back, is so of what asking comes to
 module _ (limits : LimitsValue) (legs : List Leg) (before : Tape) (P : Asked → Type 0)
     (quota : P (record { verdict = verdict.Quota; tape = before }))
     (sent : P (record { verdict = verdict.Sent; tape = posted_and_read limits legs before }))
@@ -185,11 +193,12 @@ module _ (limits : LimitsValue) (legs : List Leg) (before : Tape) (P : Asked →
 
 -- orders become others, and the three trees of these rows are asked or lowered
 module _ (limits : LimitsValue) (rows : OrderRows) (are : AreRowsOf limits rows) (values : List ℕ)
-    (acts : List Act) (book next : BookValue) (covers : Covers limits acts book)
-    (accounts : next.accounts ≡ book.accounts) (symbols : next.symbols ≡ book.symbols)
-    (nets : next.nets ≡ book.nets)
-    (placed : All (IsPlaced next.accounts next.symbols) next.orders)
-    (told : Tells limits rows values book.orders next.orders) where
+    (acts : List Act) (book : BookValue) (orders : List Order) (ids : Ids)
+    (covers : Covers limits acts book) (placed : All (IsPlaced book.accounts book.symbols) orders)
+    (told : Tells limits rows values book.orders orders) where
+  abbrev next : BookValue
+  next = record book { orders = orders; ids = ids }
+
   abbrev legs : List Leg
   legs = legs_of limits rows acts values
 
@@ -197,33 +206,27 @@ module _ (limits : LimitsValue) (rows : OrderRows) (are : AreRowsOf limits rows)
   legs_for = legs_are limits rows acts values
 
   -- the new value of a leg is what the other orders are worth in its tree
-  legs_tell : All (λ leg. leg.new ≡ value_in limits leg.tree next.orders) legs
+  legs_tell : All (λ leg. leg.new ≡ value_in limits leg.tree orders) legs
   legs_tell =
-      all_three (λ leg. leg.new ≡ value_in limits leg.tree next.orders)
-      (leg_with limits acts 0 (slice_index values 0) Firm)
-      (leg_with limits acts (account_tree rows.account) (slice_index values 1) Account)
-      (leg_with limits acts (symbol_tree limits rows.symbol) (slice_index values 2) Symbol)
-      told.firm told.account told.symbol
+      all_three (λ leg. leg.new ≡ value_in limits leg.tree orders) _ _ _ told.firm told.account
+      told.symbol
 
   legs_below : All (λ leg. leg.tree < halt_tree limits) legs
   legs_below =
-      all_three (λ leg. leg.tree < halt_tree limits)
-      (leg_with limits acts 0 (slice_index values 0) Firm)
-      (leg_with limits acts (account_tree rows.account) (slice_index values 1) Account)
-      (leg_with limits acts (symbol_tree limits rows.symbol) (slice_index values 2) Symbol)
-      (omega arith) (omega (arith, are.account)) (omega (arith, are.symbol))
+      all_three (λ leg. leg.tree < halt_tree limits) _ _ _ (omega arith)
+      (omega (arith, are.account)) (omega (arith, are.symbol))
 
   others_same : (tree : ℕ) → leg_in tree legs ≡ None
-      → value_in limits tree next.orders ≡ value_in limits tree book.orders
+      → value_in limits tree orders ≡ value_in limits tree book.orders
   others_same tree none = told.others tree (other_tree limits rows acts values tree none)
 
   -- in the tree of a leg
   own_value : (tree : ℕ) (own : Leg) → leg_in tree legs ≡ Some own
-      → own.new ≡ value_in limits tree next.orders
+      → own.new ≡ value_in limits tree orders
   own_value tree own found =
-      let has = leg_has (λ leg. leg.new ≡ value_in limits leg.tree next.orders) tree own legs found
+      let has = leg_has (λ leg. leg.new ≡ value_in limits leg.tree orders) tree own legs found
       legs_tell in
-      has.1 ∙ ap (λ t. value_in limits t next.orders) has.0
+      has.1 ∙ ap (λ t. value_in limits t orders) has.0
 
   own_old : (tree : ℕ) (own : Leg) → leg_in tree legs ≡ Some own → own.old ≡ last_post tree acts
   own_old tree own found =
@@ -250,9 +253,9 @@ module _ (limits : LimitsValue) (rows : OrderRows) (are : AreRowsOf limits rows)
       → IsBacked limits after next tree)
       → Backs limits after next
   backed_by after keeps posts = record {
-    accounts = accounts ∙ covers.backs.accounts;
-    symbols = symbols ∙ covers.backs.symbols;
-    nets = nets ∙ covers.backs.nets;
+    accounts = covers.backs.accounts;
+    symbols = covers.backs.symbols;
+    nets = covers.backs.nets;
     placed = placed;
     trees = λ tree inside.
         by_leg after next keeps others_same posts tree inside (leg_in tree legs) refl;
@@ -260,7 +263,7 @@ module _ (limits : LimitsValue) (rows : OrderRows) (are : AreRowsOf limits rows)
 
   -- Nothing is posted: the values are at most what was last posted, and no less than before.
   pub covers_at_once : All (λ leg. leg.new ≤ leg.old) legs
-      → ((tree : ℕ) → value_in limits tree book.orders ≤ value_in limits tree next.orders)
+      → ((tree : ℕ) → value_in limits tree book.orders ≤ value_in limits tree orders)
       → Covers limits acts next
   covers_at_once less raised = record {
     backs = backed_by acts (λ tree none. record { posts = refl; last = refl })
@@ -299,7 +302,7 @@ module _ (limits : LimitsValue) (rows : OrderRows) (are : AreRowsOf limits rows)
 
   -- values that are no more than they were
   pub lower_legs : ((tree : ℕ)
-      → value_in limits tree next.orders ≤ value_in limits tree book.orders)
+      → value_in limits tree orders ≤ value_in limits tree book.orders)
       → All (λ leg. leg.new ≤ leg.old) legs
   lower_legs lowered = λ k d inside.
       let value = legs_tell k d inside in
@@ -311,7 +314,7 @@ module _ (limits : LimitsValue) (rows : OrderRows) (are : AreRowsOf limits rows)
   -- the trees are asked, and the book becomes the other one where they refuse nothing
   module _ (reads : List SeenAt)
       (raised : (tree : ℕ)
-      → value_in limits tree book.orders ≤ value_in limits tree next.orders) where
+      → value_in limits tree book.orders ≤ value_in limits tree orders) where
     abbrev before : Tape
     before = tape acts reads
 
@@ -322,7 +325,7 @@ module _ (limits : LimitsValue) (rows : OrderRows) (are : AreRowsOf limits rows)
     raised_legs : is_short limits acts legs ≡ false → All (λ leg. leg.old ≤ leg.new) legs
     raised_legs enough = λ k d inside.
         let leg = slice_index_or legs k d in
-        let two = not_less limits.quota (posts_in leg.tree acts + 2)
+        let two = ltb-false limits.quota (posts_in leg.tree acts + 2)
         (none_passes (λ (own : Leg). nat_lt limits.quota (posts_in own.tree acts + 2)) legs enough
         k d inside) in
         let value = legs_tell k d inside in

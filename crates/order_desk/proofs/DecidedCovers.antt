@@ -1,11 +1,10 @@
 -- What is decided on a request keeps the book's orders covered.
-use Rattle.std.proofs.Common.{◌≡◌, ℕ, ◌≤◌, List, [], refl, ap, sym, ◌∙◌, Bool, true}
-use Rattle.std.proofs.Common.{false, cond, not, All, Option, Some, None, Result, Ok, Err, subst}
-use Rattle.std.proofs.Common.{slice_get, ◌<◌}
-use Rattle.std.specs.Prelude.{nat_le, nat_lt, slice_set}
+use Rattle.std.proofs.Common.{◌≡◌, ℕ, ◌≤◌, List, [], refl, ap, sym, ◌∙◌, Bool, true, false, cond}
+use Rattle.std.proofs.Common.{not, All, Option, Some, None, Result, Ok, Err, subst, slice_get, ◌<◌}
 use Rattle.std.proofs.Common.{arith}
-use Rattle.std.proofs.lemmas.List.Elements.{All-set, All-push}
-use Rattle.std.proofs.lemmas.List.Elements.{All-weaker}
+use Rattle.std.specs.Prelude.{nat_le, nat_lt, slice_set}
+use Rattle.std.proofs.lemmas.Bool.{ltb-false}
+use Rattle.std.proofs.lemmas.List.Elements.{All-set, All-push, All-weaker}
 use Rattle.fix_orders.specs.declared.message.NewOrder.{NewOrder}
 use Rattle.fix_orders.specs.declared.message.Cancel.{Cancel}
 use Rattle.fix_orders.specs.declared.message.Replace.{Replace}
@@ -17,14 +16,13 @@ use Rattle.exposure_book.specs.declared.pending.Pending.{Pending}
 use Rattle.exposure_book.specs.declared.pending.Pending.TheVariants as pending
 use Rattle.exposure_book.specs.Books.{BookValue, place_of, proposal_of, order_at, order_with}
 use Rattle.exposure_book.specs.Books.{pair_of_order, with_orders}
-use Rattle.exposure_book.specs.Commits.{with_new, named, with_request, with_replace_in}
-use Rattle.exposure_book.specs.Commits.{replaced_at, with_replace_pending, with_cancel}
-use Rattle.exposure_book.specs.Commits.{cancel_at, with_cancel_pending}
+use Rattle.exposure_book.specs.Commits.{with_new, named, with_request, with_replace_in, replaced_at}
+use Rattle.exposure_book.specs.Commits.{with_replace_pending, with_cancel, cancel_at}
+use Rattle.exposure_book.specs.Commits.{with_cancel_pending}
 use Rattle.exposure_book.specs.Orders.{Lowers, is_closed}
 use Rattle.exposure_book.specs.Pendings.{is_pending, is_same_id}
 use Rattle.exposure_book.specs.Proposals.{new_order, capped, is_within_cap, is_known, requested}
-use Rattle.exposure_book.specs.Proposals.{requested_at, open_for_request}
-use Rattle.exposure_book.specs.Proposals.{fault_alone, with_replace}
+use Rattle.exposure_book.specs.Proposals.{requested_at, open_for_request, fault_alone, with_replace}
 use Rattle.exposure_book.specs.Proposals.{is_of_order, replace_of, proposal_of_cancel}
 use Rattle.exposure_book.specs.Proposals.{replace_at as proposed_at}
 use Rattle.exposure_book.specs.Totals.{IsPlaced}
@@ -35,24 +33,19 @@ use Rattle.admit_core.specs.declared.rows.OrderRows.{OrderRows}
 use Rattle.admit_core.specs.Legs.{Leg, AreRowsOf, legs_of}
 use Rattle.admit_core.specs.Tapes.{Tape, tape}
 use Rattle.limit_table.specs.Trees.{LimitsValue}
-use Rattle.order_desk.specs.Backing.{Backs, Covers}
-use Rattle.order_desk.specs.Decisions.{Decision, cancel_by, cancel_decided, is_above_last, new_next}
-use Rattle.order_desk.specs.Decisions.{decided_on, new_screened, replace_screened, taken_up}
-use Rattle.order_desk.specs.Decisions.{tree_decided}
+use Rattle.order_desk.specs.Backing.{Covers}
+use Rattle.order_desk.specs.Decisions.{Decision, cancel_by, cancel_decided, is_above_last}
+use Rattle.order_desk.specs.Decisions.{new_screened, replace_screened, taken_up, tree_decided}
 use Rattle.order_desk.specs.Rows.{upper_price}
 use Rattle.order_desk.specs.Sending.{ProposesNew}
 use Rattle.order_desk.specs.Values.{values_of, value_in}
-use Rattle.order_desk.proofs.Covers.{Tells, covers_asked, covers_at_once, covers_kept}
-use Rattle.order_desk.proofs.Covers.{none_passes, not_less}
-use Rattle.order_desk.proofs.Deciding.{judged_is}
+use Rattle.order_desk.proofs.Covers.{Tells, covers_asked, covers_at_once, covers_kept, none_passes}
+use Rattle.order_desk.proofs.Covers.{tells_with}
 use Rattle.order_desk.proofs.Places.{known_rows}
-use Rattle.order_desk.proofs.Offered.{new_offer_is, offer_of_new, offer_of_replace}
-use Rattle.order_desk.proofs.Offered.{replace_offer_is}
-use Rattle.order_desk.proofs.Offered.{order_is_placed, rows_by}
-use Rattle.order_desk.proofs.TreeValues.{value_in-account, value_in-symbol, value_in-push_le}
-use Rattle.order_desk.proofs.TreeValues.{value_in-push_other, value_in-set_ge, value_in-set_le}
-use Rattle.order_desk.proofs.TreeValues.{value_in-set_other, IsOtherTree, firm_for, account_for}
-use Rattle.order_desk.proofs.TreeValues.{symbol_for}
+use Rattle.order_desk.proofs.Offered.{new_decision_is, offer_of_new, offer_of_replace}
+use Rattle.order_desk.proofs.Offered.{order_is_placed, replace_decision_is, rows_by}
+use Rattle.order_desk.proofs.TreeValues.{value_in-push_le, value_in-push_other, value_in-set_ge}
+use Rattle.order_desk.proofs.TreeValues.{value_in-set_le, value_in-set_other}
 
 -- a decision leaves its book covered
 abbrev IsCovered : LimitsValue → Decision → Type 0
@@ -70,27 +63,6 @@ chosen : {A B : Type 0} (test : Bool) (own given : A) (fault : B)
     → cond {A = Result A B} test (Ok own) (Err fault) ≡ Ok given → own ≡ given
 chosen true own given fault is = cc
 chosen false own given fault is = absurd cc
-
--- the values of what is proposed, by the other orders
-module _ (limits : LimitsValue) (acts : List Act) (book : BookValue)
-    (backs : Backs limits acts book) where
-  proposal_tells : (rows : OrderRows) (values : Proposal) (next : List Order)
-      → AreRowsOf limits rows
-      → proposal_of (with_orders next book) rows.account rows.symbol ≡ values
-      → ((tree : ℕ) → IsOtherTree limits rows.account rows.symbol tree
-      → value_in limits tree next ≡ value_in limits tree book.orders)
-      → Tells limits rows (values_of values) book.orders next
-  proposal_tells rows values next are is others = record {
-    firm = sym (ap (λ (v : Proposal). v.firm) is)
-        ∙ firm_for limits book next backs.accounts backs.symbols backs.nets;
-    account = sym (ap (λ (v : Proposal). v.account) is)
-        ∙ account_for limits book next backs.accounts backs.symbols backs.nets rows.account
-        ∙ sym (value_in-account limits rows.account next are.account);
-    symbol = sym (ap (λ (v : Proposal). v.symbol) is)
-        ∙ symbol_for limits book next backs.accounts backs.symbols backs.nets rows.symbol
-        ∙ sym (value_in-symbol limits rows.symbol next);
-    others = others;
-  }
 
 -- an order (D)
 module _ (limits : LimitsValue) (order : NewOrder) (book : BookValue) (before : Tape)
@@ -110,29 +82,25 @@ module _ (limits : LimitsValue) (order : NewOrder) (book : BookValue) (before : 
       let proposed = proposal_of (with_orders (more rows).orders book) rows.account rows.symbol in
       let within = passes (is_known book order.id) fault.Duplicate (capped proposed) values
       is.proposed in
-      covers_asked limits rows are (values_of values) before.acts book (more rows) covers refl refl refl
+      covers_asked limits rows are (values_of values) before.acts book (more rows).orders
+      (more rows).ids covers
       (All-push (IsPlaced book.accounts book.symbols) book.orders (one rows) covers.backs.placed
       (record {
         account = subst (λ n. rows.account < n) (sym covers.backs.accounts) are.account;
         symbol = subst (λ n. rows.symbol < n) (sym covers.backs.symbols) are.symbol;
       }))
-      (proposal_tells limits before.acts book covers.backs rows values (more rows).orders are
+      (subst (λ (v : Proposal). Tells limits rows (values_of v) book.orders (more rows).orders)
       (chosen (is_within_cap proposed) proposed values fault.Cap within.1)
-      (λ tree other. value_in-push_other limits tree book.orders (one rows) other))
+      (tells_with limits before.acts book covers.backs rows are (more rows).orders
+      (λ tree other. value_in-push_other limits tree book.orders (one rows) other)))
       before.reads (λ tree. value_in-push_le limits tree book.orders (one rows) refl)
 
 pub new_covers : (limits : LimitsValue) (order : NewOrder) (screens : List ScreenValue)
     (book : BookValue) (before : Tape) → Covers limits before.acts book
     → IsCovered limits (new_screened limits order screens book before)
 new_covers limits order screens book before covers =
-    new_offer_is limits order book
-    (λ offered. IsCovered limits
-    (decided_on limits screens (new_next order book) book before offered)) (λ why. covers)
-    (λ rows values is.
-    judged_is limits screens book before (IsCovered limits) (λ why. covers)
-    (offer_of_new limits order rows values)
-    (with_new order rows.account rows.symbol (upper_price limits rows) book)
-    (new_taken limits order book before covers rows values is))
+    new_decision_is limits order book screens before (IsCovered limits) (λ why. covers)
+    (new_taken limits order book before covers)
 
 -- a request that nothing stands against: the order that it names, at its place, with none pending
 record RequestsOn (book : BookValue) (orig : List ℕ) (place : ℕ) : Type 0 where
@@ -146,33 +114,31 @@ is_idle pending.Nothing is = refl
 is_idle (pending.Cancel id) is = absurd cc
 is_idle (pending.Replace id total price) is = absurd cc
 
-requests_order : (book : BookValue) (orig : List ℕ) (own place : ℕ) (found : Option Order)
-    → place_of orig book.ids ≡ Some own → slice_get book.orders own ≡ found
-    → open_for_request orig own found ≡ Ok place → RequestsOn book orig place
-requests_order book orig own place None at is given = absurd cc
-requests_order book orig own place (Some order) at is given =
-    let open_ = passes (is_closed order) fault.Closed _ place given in
-    let idle = passes (is_pending order.pending) fault.Pending _ place open_.1 in
-    let here = chosen (is_same_id orig order.current) own place fault.Unknown idle.1 in
-    record {
-      order = order;
-      at = at ∙ ap Some here;
-      found = ap (slice_get book.orders) (sym here) ∙ is;
-      idle = is_idle order.pending idle.0;
-    }
-
-requests_place : (book : BookValue) (orig : List ℕ) (place : ℕ) (at : Option ℕ)
-    → place_of orig book.ids ≡ at → requested_at book orig at ≡ Ok place
-    → RequestsOn book orig place
-requests_place book orig place None is given = absurd cc
-requests_place book orig place (Some own) is given =
-    requests_order book orig own place (slice_get book.orders own) is refl given
-
 requests_on : (book : BookValue) (id orig : List ℕ) (place : ℕ)
     → requested book id orig ≡ Ok place → RequestsOn book orig place
 requests_on book id orig place given =
-    requests_place book orig place (place_of orig book.ids) refl
+    by_place (place_of orig book.ids) refl
     (passes (is_known book id) fault.Duplicate _ place given).1
+  where
+    by_order : (own : ℕ) (found : Option Order) → place_of orig book.ids ≡ Some own
+        → slice_get book.orders own ≡ found → open_for_request orig own found ≡ Ok place
+        → RequestsOn book orig place
+    by_order own None at is taken = absurd cc
+    by_order own (Some order) at is taken =
+        let open_ = passes (is_closed order) fault.Closed _ place taken in
+        let idle = passes (is_pending order.pending) fault.Pending _ place open_.1 in
+        let here = chosen (is_same_id orig order.current) own place fault.Unknown idle.1 in
+        record {
+          order = order;
+          at = at ∙ ap Some here;
+          found = ap (slice_get book.orders) (sym here) ∙ is;
+          idle = is_idle order.pending idle.0;
+        }
+
+    by_place : (at : Option ℕ) → place_of orig book.ids ≡ at → requested_at book orig at ≡ Ok place
+        → RequestsOn book orig place
+    by_place None is taken = absurd cc
+    by_place (Some own) is taken = by_order own (slice_get book.orders own) is refl taken
 
 -- a request is pending on an order with none
 module _ (order : Order) (idle : order.pending ≡ pending.Nothing) where
@@ -209,7 +175,8 @@ module _ (limits : LimitsValue) (book : BookValue) (before : Tape)
       → Covers limits before.acts (next_book request.id (pending.Cancel request.id))
   cancel_covers_on request =
       covers_kept limits before.acts before.acts book
-      (next_book request.id (pending.Cancel request.id)) covers refl refl refl
+      (next_book request.id (pending.Cancel request.id)).orders
+      (next_book request.id (pending.Cancel request.id)).ids covers
       (next_placed (pending.Cancel request.id)) (λ tree inside. record { posts = refl; last = refl })
       (λ tree.
       let less = value_in-set_le limits tree book.orders place on.order
@@ -246,46 +213,43 @@ module _ (limits : LimitsValue) (book : BookValue) (before : Tape)
 
     tells : Tells limits own_rows (values_of values) book.orders replaced.orders
     tells =
-        proposal_tells limits before.acts book covers.backs own_rows values replaced.orders are_rows
-        told
+        subst (λ (v : Proposal). Tells limits own_rows (values_of v) book.orders replaced.orders)
+        told (tells_with limits before.acts book covers.backs own_rows are_rows replaced.orders
         (λ tree other. value_in-set_other limits tree book.orders place on.order (next_order asks)
-        on.found refl refl refl other)
+        on.found refl refl refl other))
 
     replace_taken : (above : Bool)
         → is_above_last (legs_of limits own_rows before.acts (values_of values)) ≡ above
         → IsCovered limits (taken_up above limits (offer_of_replace limits request own_rows values)
         book replaced before)
     replace_taken true is =
-        covers_asked limits own_rows are_rows (values_of values) before.acts book replaced covers refl
-        refl refl (next_placed asks) tells before.reads raised
+        covers_asked limits own_rows are_rows (values_of values) before.acts book replaced.orders
+        replaced.ids covers (next_placed asks) tells before.reads raised
     replace_taken false is =
         let legs = legs_of limits own_rows before.acts (values_of values) in
-        covers_at_once limits own_rows are_rows (values_of values) before.acts book replaced covers refl
-        refl refl (next_placed asks) tells
+        covers_at_once limits own_rows are_rows (values_of values) before.acts book replaced.orders
+        replaced.ids covers (next_placed asks) tells
         (All-weaker (λ leg. nat_lt leg.old leg.new ≡ false) (λ leg. leg.new ≤ leg.old)
-        (λ leg none. not_less leg.old leg.new none) legs
+        (λ leg none. ltb-false leg.old leg.new none) legs
         (none_passes (λ (leg : Leg). nat_lt leg.old leg.new) legs is)) raised
-
--- a cancel (F) by what stands against it
-cancel_covers_by : (limits : LimitsValue) (request : Cancel) (book : BookValue) (before : Tape)
-    → Covers limits before.acts book → (answer : Result ℕ BookFault)
-    → requested book request.id request.orig ≡ answer
-    → IsCovered limits (cancel_by request book before (fault_alone answer))
-cancel_covers_by limits request book before covers (Err why) is = covers
-cancel_covers_by limits request book before covers (Ok place) is =
-    let on = requests_on book request.id request.orig place is in
-    let next : with_cancel_pending request book
-    ≡ next_book limits book before covers request.orig place on request.id
-    (pending.Cancel request.id) =
-    ap (cancel_at request book) on.at
-    ∙ ap (λ o. with_request request.id place (with_cancel request o) book) on.found in
-    subst (Covers limits before.acts) (sym next)
-    (cancel_covers_on limits book before covers request.orig place on request)
 
 pub cancel_covers : (limits : LimitsValue) (request : Cancel) (book : BookValue) (before : Tape)
     → Covers limits before.acts book → IsCovered limits (cancel_decided request book before)
-cancel_covers limits request book before covers =
-    cancel_covers_by limits request book before covers (requested book request.id request.orig) refl
+cancel_covers limits request book before covers = by (requested book request.id request.orig) refl
+  where
+    -- by what stands against it
+    by : (answer : Result ℕ BookFault) → requested book request.id request.orig ≡ answer
+        → IsCovered limits (cancel_by request book before (fault_alone answer))
+    by (Err why) is = covers
+    by (Ok place) is =
+        let on = requests_on book request.id request.orig place is in
+        let next : with_cancel_pending request book
+        ≡ next_book limits book before covers request.orig place on request.id
+        (pending.Cancel request.id) =
+        ap (cancel_at request book) on.at
+        ∙ ap (λ o. with_request request.id place (with_cancel request o) book) on.found in
+        subst (Covers limits before.acts) (sym next)
+        (cancel_covers_on limits book before covers request.orig place on request)
 
 -- the values of a replace (G) that were proposed
 replace_told : (limits : LimitsValue) (request : Replace) (book : BookValue) (place : ℕ)
@@ -337,15 +301,9 @@ pub replace_covers : (limits : LimitsValue) (request : Replace) (screens : List 
     (book : BookValue) (before : Tape) → Covers limits before.acts book
     → IsCovered limits (replace_screened limits request screens book before)
 replace_covers limits request screens book before covers =
-    let next = with_replace_pending request limits book in
-    replace_offer_is limits request book
-    (λ offered. IsCovered limits (decided_on limits screens (λ offer. next) book before offered))
-    (λ why. covers)
-    (λ rows values is.
-    judged_is limits screens book before (IsCovered limits) (λ why. covers)
-    (offer_of_replace limits request rows values) next
-    (replace_by limits request rows values book before covers is.found
-    (requested book request.id request.orig) refl is.proposed))
+    replace_decision_is limits request book screens before (IsCovered limits) (λ why. covers)
+    (λ rows values is. replace_by limits request rows values book before covers is.found
+    (requested book request.id request.orig) refl is.proposed)
 
 -- a cancel that the book proposed is committed
 pub sent_cancel_covers : (limits : LimitsValue) (request : Cancel) (acts : List Act)

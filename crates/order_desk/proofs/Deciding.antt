@@ -35,26 +35,11 @@ module _ (limits : LimitsValue) (screens : List ScreenValue) (book : BookValue) 
       by_screens (tree_decided limits offer book next before) holds
       (refusal_by_code (first_code offer.seen screens))
 
--- a choice by the book and the tape
-abbrev Choice : Type 0
-Choice = BookValue → Tape → Decision
-
--- what is kept, whatever is read, is kept by what was decided
-pub decides_covers : (decide : Choice) (limits : LimitsValue) (acts acts_after : List Act)
-    (book after : BookValue) (answer : Option Refusal)
-    → ((before : Tape) → Covers limits before.acts book
-    → Covers limits (decide book before).tape.acts (decide book before).book)
-    → Decides decide acts acts_after book after answer → Covers limits acts book
-    → Covers limits acts_after after
-decides_covers decide limits acts acts_after book after answer keeps decides covers =
-    subst (λ (decision : Decision). Covers limits decision.tape.acts decision.book)
-    (decides.decided []) (keeps (tape acts (decides.seen ++ [])) covers)
-
 -- a request, by what is offered for it and the book if it is sent
 module _ (limits : LimitsValue) (screens : List ScreenValue)
     (offered : BookValue → Result Offer Refusal) (next : BookValue → Offer → BookValue)
     (acts : List Act) (book : BookValue) where
-  abbrev pub by_offer : Choice
+  abbrev pub by_offer : BookValue → Tape → Decision
   by_offer own before = decided_on limits screens (next own) own before (offered own)
 
   pub unoffered_decides : (why : Refusal) → Err why ≡ offered book
@@ -95,17 +80,14 @@ module _ (limits : LimitsValue) (screens : List ScreenValue)
       acts_after book (committed answer book (next book offer)) answer
       → committed answer book (next book offer) ≡ after → Covers limits acts_after after
   offered_covers offer acts_after after answer keeps covers is decides kept =
-      decides_covers by_offer limits acts acts_after book after answer keeps
-      (offered_decides offer acts_after after answer is decides kept) covers
+      let own = offered_decides offer acts_after after answer is decides kept in
+      subst (λ (decision : Decision). Covers limits decision.tape.acts decision.book)
+      (own.decided []) (keeps (tape acts (own.seen ++ [])) covers)
 
 -- no verdict of the trees is a screen's refusal
 never_by : (verdict : Verdict) (code : ℕ) → refusal_by verdict ≡ Some (Screen code) → ⊥
 never_by verdict.Sent code is = cc
-never_by verdict.Firm code is = cc
-never_by verdict.Account code is = cc
-never_by verdict.Symbol code is = cc
-never_by verdict.Halt code is = cc
-never_by verdict.Quota code is = cc
+never_by refusing code is = cc
 
 module _ (book : BookValue) (before : Tape) (code : ℕ) where
   -- a decision with this code does nothing

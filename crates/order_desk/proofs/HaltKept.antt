@@ -1,7 +1,6 @@
 -- What is decided on requests and what reports come to posts nothing in the halt tree.
-use Rattle.std.proofs.Common.{◌≡◌, ℕ, List, refl, arith, ◌||◌}
-use Rattle.std.proofs.Common.{Bool, true, false, Some, None, Result, Ok, Err}
-use Rattle.std.proofs.Common.{slice_get}
+use Rattle.std.proofs.Common.{◌≡◌, ℕ, List, refl, arith, Bool, true, false, Some, None, Result, Ok}
+use Rattle.std.proofs.Common.{Err, slice_get}
 use Rattle.std.proofs.lemmas.Bool.{ne_eqb}
 use Rattle.fix_orders.specs.declared.message.Cancel.{Cancel}
 use Rattle.fix_orders.specs.declared.message.CancelReject.{CancelReject}
@@ -12,7 +11,7 @@ use Rattle.limit_table.specs.Trees.{LimitsValue, halt_tree, account_tree, symbol
 use Rattle.exposure_book.specs.declared.answer.BookFault.{BookFault}
 use Rattle.exposure_book.specs.declared.order.Order.{Order}
 use Rattle.exposure_book.specs.Books.{BookValue}
-use Rattle.exposure_book.specs.Commits.{with_new, with_replace_pending}
+use Rattle.exposure_book.specs.Commits.{with_replace_pending}
 use Rattle.exposure_book.specs.Orders.{Lowers}
 use Rattle.exposure_book.specs.Proposals.{proposal_of_cancel}
 use Rattle.exposure_book.specs.Reports.{outcome_with}
@@ -27,17 +26,15 @@ use Rattle.admit_core.proofs.AskedTrees.{leg_in, asked_keeps, back_keeps}
 use Rattle.admit_core.proofs.LoweredTrees.{lowering_keeps}
 use Rattle.order_desk.specs.declared.offer.Offer.{Offer}
 use Rattle.order_desk.specs.Backing.{Covers}
-use Rattle.order_desk.specs.Decisions.{cancel_by, cancel_decided, decided_on, is_above_last, judged}
-use Rattle.order_desk.specs.Decisions.{new_next, new_screened, offer_legs, replace_screened, taken_up}
+use Rattle.order_desk.specs.Decisions.{cancel_by, cancel_decided, is_above_last, new_next}
+use Rattle.order_desk.specs.Decisions.{new_screened, offer_legs, replace_screened, taken_up}
 use Rattle.order_desk.specs.Halting.{KeepsHalt}
-use Rattle.order_desk.specs.Rows.{upper_price}
 use Rattle.order_desk.specs.Reported.{settled, report_settled, reject_settled}
 use Rattle.order_desk.specs.Values.{values_of, values_told, rows_told}
 use Rattle.order_desk.proofs.Covers.{asking_is}
-use Rattle.order_desk.proofs.Deciding.{judged_is}
 use Rattle.order_desk.proofs.Places.{known_rows}
-use Rattle.order_desk.proofs.Offered.{new_offer_is, offer_of_new, offer_of_replace}
-use Rattle.order_desk.proofs.Offered.{replace_offer_is, replaced_rows}
+use Rattle.order_desk.proofs.Offered.{new_decision_is, offer_of_new, offer_of_replace}
+use Rattle.order_desk.proofs.Offered.{replace_decision_is, replaced_rows}
 use Rattle.order_desk.proofs.ReportedCovers.{terms, are_rows}
 
 -- no leg of rows of the limits is of the halt tree
@@ -64,7 +61,7 @@ rows_keep limits rows values before are =
     (asked_keeps limits legs before (halt_tree limits) none).posts
     (λ answer why is. (back_keeps limits legs before (halt_tree limits) none).posts)
 
--- what is taken up, whether or not the trees are asked
+-- what the trees decide on an offer of rows of the limits, whether or not they are asked
 taken_keeps : (asks : Bool) (limits : LimitsValue) (offer : Offer) (book next : BookValue)
     (before : Tape) → AreRowsOf limits offer.rows
     → KeepsHalt limits before.acts (taken_up asks limits offer book next before).tape.acts
@@ -72,54 +69,40 @@ taken_keeps false limits offer book next before are = refl
 taken_keeps true limits offer book next before are =
     rows_keep limits offer.rows (values_of offer.values) before are
 
--- what is decided on an offer of rows of the limits
-judged_keeps : (limits : LimitsValue) (screens : List ScreenValue) (offer : Offer)
-    (book next : BookValue) (before : Tape) → AreRowsOf limits offer.rows
-    → KeepsHalt limits before.acts (judged limits screens offer book next before).tape.acts
-judged_keeps limits screens offer book next before are =
-    judged_is limits screens book before
-    (λ decision. KeepsHalt limits before.acts decision.tape.acts) (λ why. refl) offer next
-    (taken_keeps (offer.always || is_above_last (offer_legs limits offer before.acts)) limits offer
-    book next before are)
-
 -- an order (D)
 pub new_keeps : (limits : LimitsValue) (order : NewOrder) (screens : List ScreenValue)
     (book : BookValue) (before : Tape)
     → KeepsHalt limits before.acts (new_screened limits order screens book before).tape.acts
 new_keeps limits order screens book before =
-    new_offer_is limits order book
-    (λ offered. KeepsHalt limits before.acts
-    (decided_on limits screens (new_next order book) book before offered).tape.acts) (λ why. refl)
+    new_decision_is limits order book screens before
+    (λ decision. KeepsHalt limits before.acts decision.tape.acts) (λ why. refl)
     (λ rows values is.
-    judged_keeps limits screens (offer_of_new limits order rows values) book
-    (with_new order rows.account rows.symbol (upper_price limits rows) book) before
+    let offer = offer_of_new limits order rows values in
+    taken_keeps true limits offer book (new_next order book offer) before
     (known_rows limits order rows is.found))
 
 -- a cancel (F)
-cancel_keeps_by : (limits : LimitsValue) (request : Cancel) (book : BookValue) (before : Tape)
-    (answer : Result (Unit {0}) BookFault)
-    → KeepsHalt limits before.acts (cancel_by request book before answer).tape.acts
-cancel_keeps_by limits request book before (Err why) = refl
-cancel_keeps_by limits request book before (Ok nothing) = refl
-
 pub cancel_keeps : (limits : LimitsValue) (request : Cancel) (book : BookValue) (before : Tape)
     → KeepsHalt limits before.acts (cancel_decided request book before).tape.acts
-cancel_keeps limits request book before =
-    cancel_keeps_by limits request book before (proposal_of_cancel book request)
+cancel_keeps limits request book before = by (proposal_of_cancel book request)
+  where
+    by : (answer : Result (Unit {0}) BookFault)
+        → KeepsHalt limits before.acts (cancel_by request book before answer).tape.acts
+    by (Err why) = refl
+    by (Ok nothing) = refl
 
 -- a replace (G) of an order of a covered book
 pub replace_keeps : (limits : LimitsValue) (request : Replace) (screens : List ScreenValue)
     (book : BookValue) (before : Tape) → Covers limits before.acts book
     → KeepsHalt limits before.acts (replace_screened limits request screens book before).tape.acts
 replace_keeps limits request screens book before covers =
-    let next = with_replace_pending request limits book in
-    replace_offer_is limits request book
-    (λ offered. KeepsHalt limits before.acts
-    (decided_on limits screens (λ offer. next) book before offered).tape.acts) (λ why. refl)
+    replace_decision_is limits request book screens before
+    (λ decision. KeepsHalt limits before.acts decision.tape.acts) (λ why. refl)
     (λ rows values is.
-    judged_keeps limits screens (offer_of_replace limits request rows values) book next before
-    (replaced_rows limits book covers.backs.accounts covers.backs.symbols covers.backs.placed rows
-    request.orig is.found))
+    let offer = offer_of_replace limits request rows values in
+    taken_keeps (is_above_last (offer_legs limits offer before.acts)) limits offer book
+    (with_replace_pending request limits book) before (replaced_rows limits book
+    covers.backs.accounts covers.backs.symbols covers.backs.placed rows request.orig is.found))
 
 -- a report or a cancel reject on a covered book
 module _ (limits : LimitsValue) (acts : List Act) (book : BookValue)

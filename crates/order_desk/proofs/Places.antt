@@ -1,7 +1,7 @@
 -- Where names stand among the rows of the limits: among different names a name has one place, which is
 -- that of a row.
-use Rattle.std.proofs.Common.{◌≡◌, ℕ, zero, suc, ◌+◌, ◌<◌, List, [], ◌∷◌, length, Bool, cond}
-use Rattle.std.proofs.Common.{refl, sym, ap, ◌∙◌, arith, true, false, Option, Some, None, Ok}
+use Rattle.std.proofs.Common.{◌≡◌, ℕ, zero, suc, ◌+◌, ◌<◌, List, [], ◌∷◌, length, Bool, cond, refl}
+use Rattle.std.proofs.Common.{sym, ap, ◌∙◌, arith, true, false, Option, Some, None, Ok}
 use Rattle.std.specs.Prelude.{slice_get}
 use Rattle.std.specs.Option.{option_map}
 use Rattle.std.specs.List.{IsDistinct, AllByRecursion}
@@ -21,34 +21,25 @@ use Rattle.admit_core.specs.declared.rows.OrderRows.{OrderRows}
 use Rattle.admit_core.specs.Legs.{AreRowsOf}
 use Rattle.order_desk.specs.Rows.{place_among, rows_at, rows_of}
 
-by_option : (place : ℕ) (later : Option ℕ) → option_map (λ p. p + 1) later ≡ Some place
-    → (before : ℕ) × (later ≡ Some before) × (place ≡ before + 1)
-by_option place None is = absurd cc
-by_option place (Some before) is = (before, refl, cc)
-
-within_by : (test : Bool) (own name : List ℕ) (names : List (List ℕ)) (place : ℕ)
-    → ((before : ℕ) → place_among name names ≡ Some before → before < length names)
-    → cond test (Some 0) (option_map (λ p. p + 1) (place_among name names)) ≡ Some place
-    → place < length (own ∷ names)
-within_by true own name names place earlier is =
-    let at : 0 ≡ place = cc in omega (arith, at)
-within_by false own name names place earlier is =
-    let before = by_option place (place_among name names) is in
-    omega (arith, earlier before.0 before.1, before.2)
-
 -- a place is within the names
 pub within : (names : List (List ℕ)) (name : List ℕ) (place : ℕ)
     → place_among name names ≡ Some place → place < length names
 within [] name place is = absurd cc
 within (own ∷ names) name place is =
-    within_by (bytes_eq own name) own name names place (within names name) is
+    by (bytes_eq own name) (place_among name names) (within names name) is
+  where
+    by : (here : Bool) (later : Option ℕ)
+        → ((before : ℕ) → later ≡ Some before → before < length names)
+        → cond here (Some 0) (option_map (λ p. p + 1) later) ≡ Some place
+        → place < length (own ∷ names)
+    by true later below is = let at : 0 ≡ place = cc in omega (arith, at)
+    by false None below is = absurd cc
+    by false (Some before) below is =
+        let at : before + 1 ≡ place = cc in omega (arith, at, below before refl)
 
 -- a name
 abbrev Name : Type 0
 Name = List ℕ
-
-some_same : (a b : Name) (o : Option Name) → o ≡ Some a → o ≡ Some b → a ≡ b
-some_same a b o first second = cc
 
 -- a name that differs from all isn't at a place among them
 not_there : (own name : Name) (names : List Name) (place : ℕ)
@@ -91,12 +82,16 @@ account_is limits name place held at =
     place_is (account_names limits.accounts) name place
     (held_is_file_limits limits held).accounts.distinct at
 
-pub symbol_is : (limits : LimitsValue) (name : Name) (place : Option ℕ) → IsHeldByFile limits
-    → IsPlaceOf (symbol_names limits.symbols) name place
-    → place ≡ place_among name (symbol_names limits.symbols)
-symbol_is limits name place held at =
-    place_is (symbol_names limits.symbols) name place
-    (held_is_file_limits limits held).symbols.distinct at
+-- the rows of an order by the places of its names
+pub rows_are : (limits : LimitsValue) (order : NewOrder) (account symbol : Option ℕ)
+    → IsHeldByFile limits → IsPlaceOf (account_names limits.accounts) order.account account
+    → IsPlaceOf (symbol_names limits.symbols) order.symbol symbol
+    → rows_at account symbol ≡ rows_of limits order
+rows_are limits order account symbol held own traded =
+    let own_is = account_is limits order.account account held own in
+    let traded_is = place_is (symbol_names limits.symbols) order.symbol symbol
+    (held_is_file_limits limits held).symbols.distinct traded in
+    rw (own_is, traded_is) refl
 
 -- both places of known rows
 places_of_rows : (account symbol : Option ℕ) (rows : OrderRows) → rows_at account symbol ≡ Ok rows

@@ -1,6 +1,5 @@
 -- What a report comes to keeps the book's orders covered.
-use Rattle.std.proofs.Common.{◌≡◌, ℕ, ◌≤◌, ◌<◌, List, All, refl, sym, subst, ap, ◌∙◌}
-use Rattle.std.proofs.Common.{Some, slice_get}
+use Rattle.std.proofs.Common.{◌≡◌, ℕ, ◌≤◌, ◌<◌, List, All, sym, subst, ap, ◌∙◌, Some, slice_get}
 use Rattle.std.specs.Prelude.{slice_set}
 use Rattle.std.proofs.lemmas.List.Elements.{All-set}
 use Rattle.fix_orders.specs.declared.message.CancelReject.{CancelReject}
@@ -18,13 +17,12 @@ use Rattle.limit_table.specs.Trees.{LimitsValue}
 use Rattle.admit_core.specs.Legs.{AreRowsOf, legs_of}
 use Rattle.order_desk.specs.declared.effect.Effect.{Effect}
 use Rattle.order_desk.specs.Backing.{Covers}
-use Rattle.order_desk.specs.Reported.{Settled, TellsLower, settled, settled_with}
-use Rattle.order_desk.specs.Reported.{report_settled, reject_settled}
+use Rattle.order_desk.specs.Reported.{Settled, TellsLower, settled, settled_with, report_settled}
+use Rattle.order_desk.specs.Reported.{reject_settled}
 use Rattle.order_desk.specs.Values.{values_told, rows_told}
-use Rattle.order_desk.proofs.Covers.{Tells, covers_lowered, lower_legs}
+use Rattle.order_desk.proofs.Covers.{Tells, covers_lowered, lower_legs, tells_with}
 use Rattle.order_desk.proofs.Offered.{order_is_placed}
-use Rattle.order_desk.proofs.TreeValues.{value_in-account, value_in-symbol, value_in-set_le}
-use Rattle.order_desk.proofs.TreeValues.{value_in-set_other, firm_for, account_for, symbol_for}
+use Rattle.order_desk.proofs.TreeValues.{value_in-set_le, value_in-set_other}
 
 -- a settled report leaves its book covered
 abbrev IsCovered : LimitsValue → Settled → Type 0
@@ -58,19 +56,10 @@ module _ (limits : LimitsValue) (acts : List Act) (book : BookValue)
   }
 
   told : Tells limits (rows_told terms) (values_told terms) book.orders orders
-  told = record {
-    firm = firm_for limits book orders covers.backs.accounts covers.backs.symbols covers.backs.nets;
-    account =
-        account_for limits book orders covers.backs.accounts covers.backs.symbols covers.backs.nets
-        next.account
-        ∙ sym (value_in-account limits next.account orders are_rows.account);
-    symbol =
-        symbol_for limits book orders covers.backs.accounts covers.backs.symbols covers.backs.nets
-        next.symbol
-        ∙ sym (value_in-symbol limits next.symbol orders);
-    others = λ tree other. value_in-set_other limits tree book.orders place old next found
-        lowers.account lowers.symbol lowers.side other;
-  }
+  told =
+      tells_with limits acts book covers.backs (rows_told terms) are_rows orders
+      (λ tree other. value_in-set_other limits tree book.orders place old next found lowers.account
+      lowers.symbol lowers.side other)
 
   placed : All (IsPlaced book.accounts book.symbols) orders
   placed =
@@ -80,15 +69,15 @@ module _ (limits : LimitsValue) (acts : List Act) (book : BookValue)
   pub less : All (λ leg. leg.new ≤ leg.old)
       (legs_of limits (rows_told terms) acts (values_told terms))
   less =
-      lower_legs limits (rows_told terms) are_rows (values_told terms) acts book after covers refl
-      refl refl placed told
+      lower_legs limits (rows_told terms) are_rows (values_told terms) acts book orders book.ids
+      covers placed told
       (λ tree. value_in-set_le limits tree book.orders place old next found lowers)
 
   pub applied_covers : IsCovered limits
       (settled limits book acts (outcome_with book place (Some next)))
   applied_covers =
-      covers_lowered limits (rows_told terms) are_rows (values_told terms) acts book after covers
-      refl refl refl placed told less
+      covers_lowered limits (rows_told terms) are_rows (values_told terms) acts book orders book.ids
+      covers placed told less
 
 -- what a report or a cancel reject comes to on a covered book
 module _ (limits : LimitsValue) (acts : List Act) (book : BookValue)
@@ -125,16 +114,14 @@ module _ (limits : LimitsValue) (acts : List Act) (book : BookValue)
       → IsCovered limits (reject_settled limits reject book acts)
   reject_covers reject = (reject_keeps_cover reject).covered
 
--- what was settled is covered, by what the book applied
-pub settled_covers : (limits : LimitsValue) (acts acts_after : List Act) (book next : BookValue)
-    (answer : Applied) (effect : Effect) (outcome : Outcome)
-    → IsCovered limits (settled limits book acts outcome) → answer ≡ outcome.answer
-    → next ≡ record book { orders = outcome.orders }
-    → settled_with limits next acts answer
-    ≡ record { effect = effect; acts = acts_after; book = next }
-    → Covers limits acts_after next
-settled_covers limits acts acts_after book next answer effect outcome covers answer_is next_is
-    settled_is =
-    subst (IsCovered limits)
-    (sym (ap (settled_with limits (record book { orders = outcome.orders }) acts) answer_is)
-    ∙ sym (ap (λ own. settled_with limits own acts answer) next_is) ∙ settled_is) covers
+  -- what was settled is covered, by what the book applied
+  pub settled_covers : (outcome : Outcome) (acts_after : List Act) (next : BookValue)
+      (answer : Applied) (effect : Effect) → KeepsCover outcome → answer ≡ outcome.answer
+      → next ≡ record book { orders = outcome.orders }
+      → settled_with limits next acts answer
+      ≡ record { effect = effect; acts = acts_after; book = next }
+      → Covers limits acts_after next
+  settled_covers outcome acts_after next answer effect keeps answer_is next_is settled_is =
+      subst (IsCovered limits)
+      (sym (ap (settled_with limits (record book { orders = outcome.orders }) acts) answer_is)
+      ∙ sym (ap (λ own. settled_with limits own acts answer) next_is) ∙ settled_is) keeps.covered

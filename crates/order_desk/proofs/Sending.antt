@@ -1,8 +1,8 @@
 -- An order is sent exactly where the roots allow it, and what raises no value is sent at once.
-use Rattle.std.proofs.Common.{◌≡◌, ℕ, ◌≤◌, List, [], ◌∷◌, refl, sym, ap, ◌∙◌, arith}
-use Rattle.std.proofs.Common.{Bool, true, false, cond, Result, Ok, Err}
+use Rattle.std.proofs.Common.{◌≡◌, ℕ, List, [], ◌∷◌, refl, sym, ap, ◌∙◌, arith, Bool, true, false}
+use Rattle.std.proofs.Common.{cond, Result, Ok, Err}
 use Rattle.std.specs.Prelude.{None, IsOk, nat_lt, ◌↔◌}
-use Rattle.std.proofs.lemmas.Bool.Decides.{nat_tests}
+use Rattle.std.proofs.lemmas.Bool.{le-ltb, ltb-false, true≢false}
 use Rattle.fix_orders.specs.declared.message.NewOrder.{NewOrder}
 use Rattle.fix_orders.specs.declared.message.Cancel.{Cancel}
 use Rattle.fix_orders.specs.declared.message.Replace.{Replace}
@@ -24,9 +24,9 @@ use Rattle.admit_core.specs.Legs.{Leg, legs_of}
 use Rattle.admit_core.specs.Tapes.{Tape}
 use Rattle.order_desk.specs.declared.offer.Offer.{Offer}
 use Rattle.order_desk.specs.declared.refusal.Refusal.{Refusal}
-use Rattle.order_desk.specs.Decisions.{cancel_by, cancel_decided, decided_on, is_above_last, new_next}
-use Rattle.order_desk.specs.Decisions.{new_screened, offer_legs, replace_screened, screened}
-use Rattle.order_desk.specs.Decisions.{sent_at_once, taken_up, tree_decided}
+use Rattle.order_desk.specs.Decisions.{cancel_by, cancel_decided, decided_on, is_above_last}
+use Rattle.order_desk.specs.Decisions.{new_next, new_screened, offer_legs, replace_screened}
+use Rattle.order_desk.specs.Decisions.{screened, sent_at_once, taken_up, tree_decided}
 use Rattle.order_desk.specs.Offers.{new_offer, new_seen, replace_offer, replace_seen}
 use Rattle.order_desk.specs.Refusals.{refusal_by, refusal_by_code}
 use Rattle.order_desk.specs.Sending.{ProposesNew, ProposesReplace, RootsAllow, root_read}
@@ -45,21 +45,11 @@ verdict_by halted firm account symbol =
 sent_by_tests : (halted firm account symbol : Bool)
     → (refusal_by (verdict_by halted firm account symbol) ≡ None)
     ↔ ((halted ≡ false) × (firm ≡ false) × (account ≡ false) × (symbol ≡ false))
-sent_by_tests true firm account symbol =
-    (λ none. absurd cc, λ all. let never = all.0 in absurd cc)
-sent_by_tests false true account symbol =
-    (λ none. absurd cc, λ all. let never = all.1 in absurd cc)
-sent_by_tests false false true symbol =
-    (λ none. absurd cc, λ all. let never = all.2 in absurd cc)
-sent_by_tests false false false true =
-    (λ none. absurd cc, λ all. let never = all.3 in absurd cc)
+sent_by_tests true firm account symbol = (λ none. absurd cc, λ all. absurd (true≢false all.0))
+sent_by_tests false true account symbol = (λ none. absurd cc, λ all. absurd (true≢false all.1))
+sent_by_tests false false true symbol = (λ none. absurd cc, λ all. absurd (true≢false all.2))
+sent_by_tests false false false true = (λ none. absurd cc, λ all. absurd (true≢false all.3))
 sent_by_tests false false false false = (λ none. (refl, refl, refl, refl), λ all. refl)
-
-at_most : (limit root : ℕ) → nat_lt limit root ≡ false → root ≤ limit
-at_most limit root not_above = grind (arith, nat_tests)
-
-not_above : (limit root : ℕ) → root ≤ limit → nat_lt limit root ≡ false
-not_above limit root within = grind (arith, nat_tests)
 
 module _ (limits : LimitsValue) (rows : OrderRows) where
   -- the verdict by the tests of the four roots
@@ -90,17 +80,17 @@ module _ (limits : LimitsValue) (rows : OrderRows) where
         λ none.
             let each = tests.0 (sym same ∙ none) in
             record {
-              halt = let least = at_most 0 (root_read 0 reads) each.0 in omega (arith, least);
-              firm = at_most _ _ each.1;
-              account = at_most _ _ each.2;
-              symbol = at_most _ _ each.3;
+              halt = omega (arith, ltb-false 0 (root_read 0 reads) each.0);
+              firm = ltb-false _ _ each.1;
+              account = ltb-false _ _ each.2;
+              symbol = ltb-false _ _ each.3;
             },
         λ allow.
             same ∙ tests.1 (
-              not_above 0 (root_read 0 reads) (omega (arith, allow.halt)),
-              not_above _ _ allow.firm,
-              not_above _ _ allow.account,
-              not_above _ _ allow.symbol,
+              le-ltb 0 (root_read 0 reads) (omega (arith, allow.halt)),
+              le-ltb _ _ allow.firm,
+              le-ltb _ _ allow.account,
+              le-ltb _ _ allow.symbol,
             ),
       )
 
@@ -166,17 +156,15 @@ module _ (limits : LimitsValue) (rows : OrderRows) (values : Proposal) (book : B
         → replace_screened limits request screens book before ≡ sent_at_once next before
     replace_at_once within = replace_is false within
 
-cancel_by_proposal : (request : Cancel) (book : BookValue) (before : Tape)
-    (proposed : Result (Unit {0}) BookFault) → IsOk proposed
-    → cancel_by request book before proposed
-    ≡ sent_at_once (with_cancel_pending request book) before
-cancel_by_proposal request book before (Ok nothing) is = refl
-cancel_by_proposal request book before (Err fault) is = absurd cc
-
 -- a cancel that the book proposes is sent at once
 pub cancel_at_once : (request : Cancel) (book : BookValue) (before : Tape)
     → IsOk (proposal_of_cancel book request)
     → cancel_decided request book before
     ≡ sent_at_once (with_cancel_pending request book) before
-cancel_at_once request book before is =
-    cancel_by_proposal request book before (proposal_of_cancel book request) is
+cancel_at_once request book before = by (proposal_of_cancel book request)
+  where
+    by : (proposed : Result (Unit {0}) BookFault) → IsOk proposed
+        → cancel_by request book before proposed
+        ≡ sent_at_once (with_cancel_pending request book) before
+    by (Ok nothing) is = refl
+    by (Err fault) is = absurd cc

@@ -1,10 +1,8 @@
 -- What orders are worth in a tree of sums, as one is added or changed.
 use Rattle.std.proofs.Common.{◌≡◌, ℕ, ◌+◌, ◌-◌, ◌≤◌, ◌<◌, ◌==◌, List, [], ◌∷◌, ◌++◌, length, refl}
-use Rattle.std.proofs.Common.{ap, sym, ◌∙◌, arith, Bool, true, false, cond, Some, slice_get}
-use Rattle.std.proofs.Common.{zero, suc}
-use Rattle.std.specs.Prelude.{nat_le, slice_set, if◌then◌else◌}
-use Rattle.std.proofs.lemmas.Bool.{ne_eqb, eqb-true, leb-true}
-use Rattle.std.proofs.lemmas.Bool.Decides.{nat_tests}
+use Rattle.std.proofs.Common.{ap, sym, arith, Bool, true, false, cond, Some, slice_get, zero, suc}
+use Rattle.std.specs.Prelude.{nat_le, slice_set}
+use Rattle.std.proofs.lemmas.Bool.{ne_eqb, eqb-true, leb-true, le-leb, lt-leb}
 use Rattle.exposure_book.specs.declared.order.Order.{Order}
 use Rattle.exposure_book.specs.Orders.{Lowers}
 use Rattle.exposure_book.specs.Books.{BookValue, units_up, firm_sum, account_sum, symbol_sum}
@@ -12,116 +10,51 @@ use Rattle.exposure_book.specs.Books.{pair_exposure, is_net, nets_of, with_order
 use Rattle.exposure_book.specs.Pairs.{exposure_of_pair, no_sums}
 use Rattle.exposure_book.proofs.Lowered.{units_up-le, pair-set_le, pair-set_ge, pair-set_other}
 use Rattle.exposure_book.proofs.Lowered.{pair-push_le, pair-push_other}
-use Rattle.exposure_book.proofs.PairTotals.{account-le, symbol-le, all-le, account-same, symbol-same}
-use Rattle.exposure_book.proofs.PairTotals.{all-none, sum_below-none}
+use Rattle.exposure_book.proofs.PairTotals.{account-le, symbol-le, all-le, account-same}
+use Rattle.exposure_book.proofs.PairTotals.{symbol-same, all-none, sum_below-none}
 use Rattle.limit_table.specs.Trees.{LimitsValue, account_tree, symbol_tree}
+use Rattle.risk_journal.specs.declared.acts.Act.{Act}
+use Rattle.order_desk.specs.Backing.{Backs}
 use Rattle.order_desk.specs.Values.{book_for, sum_in, value_in}
 
-not_within : (m n : ℕ) → n < m → nat_le m n ≡ false
-not_within m n less = grind (arith, nat_tests)
-
-is_within : (m n : ℕ) → m ≤ n → nat_le m n ≡ true
-is_within m n less = grind (arith, nat_tests)
-
--- the exposure in a tree that isn't the firm's, by its place past that
-abbrev row_sum : ℕ → ℕ → BookValue → ℕ
-row_sum accounts row book =
-    if nat_le accounts row then symbol_sum (row - accounts) book else account_sum row book
-
 -- the value in an account's tree
-pub value_in-account : (limits : LimitsValue) (account : ℕ) (orders : List Order)
+value_in-account : (limits : LimitsValue) (account : ℕ) (orders : List Order)
     → account < length limits.accounts
     → value_in limits (account_tree account) orders
     ≡ units_up (account_sum account (book_for limits orders))
 value_in-account limits account orders inside =
-    let accounts = length limits.accounts in
-    let tree = account_tree account in
-    let book = book_for limits orders in
-    let apart : (tree == 0) ≡ false = ne_eqb tree 0 (λ e. absurd (omega (arith, e))) in
-    let row : tree - 1 ≡ account = omega arith in
-    let below = not_within accounts account inside in
-    ap (λ b. units_up (cond b (firm_sum book) (row_sum accounts (tree - 1) book))) apart
-    ∙ ap (λ n. units_up (row_sum accounts n book)) row
-    ∙ ap (λ b. units_up (cond b (symbol_sum (account - accounts) book) (account_sum account book)))
-    below
+    let apart : (account_tree account == 0) ≡ false = ne_eqb _ 0 (λ e. absurd (omega (arith, e))) in
+    let row : account_tree account - 1 ≡ account = omega arith in
+    rw (apart, row, lt-leb (length limits.accounts) account inside) refl
 
 -- the value in a symbol's tree
-pub value_in-symbol : (limits : LimitsValue) (symbol : ℕ) (orders : List Order)
+value_in-symbol : (limits : LimitsValue) (symbol : ℕ) (orders : List Order)
     → value_in limits (symbol_tree limits symbol) orders
     ≡ units_up (symbol_sum symbol (book_for limits orders))
 value_in-symbol limits symbol orders =
     let accounts = length limits.accounts in
     let tree = symbol_tree limits symbol in
-    let book = book_for limits orders in
     let apart : (tree == 0) ≡ false = ne_eqb tree 0 (λ e. absurd (omega (arith, e))) in
     let row : tree - 1 ≡ accounts + symbol = omega arith in
     let place : accounts + symbol - accounts ≡ symbol = omega arith in
-    let above = is_within accounts (accounts + symbol) (omega arith) in
-    ap (λ b. units_up (cond b (firm_sum book) (row_sum accounts (tree - 1) book))) apart
-    ∙ ap (λ n. units_up (row_sum accounts n book)) row
-    ∙ ap (λ b. units_up (cond b (symbol_sum (accounts + symbol - accounts) book)
-    (account_sum (accounts + symbol) book))) above
-    ∙ ap (λ n. units_up (symbol_sum n book)) place
+    rw (apart, row, le-leb accounts (accounts + symbol) (omega arith), place) refl
 
--- a book for these limits, with these orders in place of its own, is worth what they are
-module _ (limits : LimitsValue) (book : BookValue) (orders : List Order)
-    (accounts : book.accounts ≡ length limits.accounts)
-    (symbols : book.symbols ≡ length limits.symbols) (nets : book.nets ≡ nets_of limits) where
-  same_book : (f : BookValue → ℕ)
-      → f (record (book_for limits orders) { ids = book.ids }) ≡ f (book_for limits orders)
-      → f (with_orders orders book) ≡ f (book_for limits orders)
-  same_book f ids =
-      ap f (λ i. record {
-        accounts = accounts i;
-        symbols = symbols i;
-        nets = nets i;
-        orders = orders;
-        ids = book.ids;
-      })
-      ∙ ids
-
+-- a backed book, with these orders in place of its own, is worth what they are
+module _ (limits : LimitsValue) (acts : List Act) (book : BookValue)
+    (backs : Backs limits acts book) (orders : List Order) where
   pub firm_for : units_up (firm_sum (with_orders orders book)) ≡ value_in limits 0 orders
-  firm_for = ap units_up (same_book firm_sum refl)
+  firm_for = rw (backs.accounts, backs.symbols, backs.nets) refl
 
-  pub account_for : (account : ℕ) → units_up (account_sum account (with_orders orders book))
-      ≡ units_up (account_sum account (book_for limits orders))
-  account_for account = ap units_up (same_book (account_sum account) refl)
+  pub account_for : (account : ℕ) → account < length limits.accounts
+      → units_up (account_sum account (with_orders orders book))
+      ≡ value_in limits (account_tree account) orders
+  account_for account inside =
+      rw (value_in-account limits account orders inside, backs.symbols, backs.nets) refl
 
   pub symbol_for : (symbol : ℕ) → units_up (symbol_sum symbol (with_orders orders book))
-      ≡ units_up (symbol_sum symbol (book_for limits orders))
-  symbol_for symbol = ap units_up (same_book (symbol_sum symbol) refl)
-
--- no order is worth anything
-nothing_by : (net : Bool) → exposure_of_pair net no_sums ≡ 0
-nothing_by true = refl
-nothing_by false = refl
-
-pub value_in-none : (limits : LimitsValue) (tree : ℕ) → value_in limits tree [] ≡ 0
-value_in-none limits tree =
-    ap units_up (by_tests (tree == 0) (nat_le (length limits.accounts) (tree - 1)))
-  where
-    none : (a s : ℕ) → pair_exposure (book_for limits []) a s ≡ 0
-    none a s = nothing_by (is_net (nets_of limits) a)
-
-    by_tests : (firm above : Bool)
-        → cond firm (firm_sum (book_for limits []))
-        (cond above (symbol_sum (tree - 1 - length limits.accounts) (book_for limits []))
-        (account_sum (tree - 1) (book_for limits []))) ≡ 0
-    by_tests true above =
-        all-none (length limits.accounts) (length limits.symbols)
-        (pair_exposure (book_for limits [])) none
-    by_tests false true =
-        sum_below-none (length limits.accounts)
-        (λ a. pair_exposure (book_for limits []) a (tree - 1 - length limits.accounts))
-        (λ a below. none a (tree - 1 - length limits.accounts))
-    by_tests false false =
-        sum_below-none (length limits.symbols)
-        (λ s. pair_exposure (book_for limits []) (tree - 1) s) (λ s below. none (tree - 1) s)
-
--- a tree past the firm's, by the one before it
-past_none : (tree after : ℕ) → (tree ≡ 0 → ⊥) → tree - 1 ≡ after → tree ≡ 1 + after
-past_none zero after none is = absurd (none refl)
-past_none (suc tree) after none is = omega (arith, is)
+      ≡ value_in limits (symbol_tree limits symbol) orders
+  symbol_for symbol =
+      rw (value_in-symbol limits symbol orders, backs.accounts, backs.nets) refl
 
 -- the tree isn't one in which an order of this account and symbol counts
 pub record IsOtherTree (limits : LimitsValue) (account symbol tree : ℕ) : Type 0 where
@@ -129,68 +62,89 @@ pub record IsOtherTree (limits : LimitsValue) (account symbol tree : ℕ) : Type
   pub not_account : tree ≡ account_tree account → ⊥
   pub not_symbol : tree ≡ symbol_tree limits symbol → ⊥
 
--- what a tree is worth with one list of orders and with another
-module _ (limits : LimitsValue) (tree : ℕ) (orders after : List Order) where
-  abbrev was : BookValue
-  was = book_for limits orders
+-- a tree past the firm's, by the one before it
+past_none : (tree after : ℕ) → (tree ≡ 0 → ⊥) → tree - 1 ≡ after → tree ≡ 1 + after
+past_none zero after none is = absurd (none refl)
+past_none (suc tree) after none is = omega (arith, is)
 
-  abbrev now : BookValue
-  now = book_for limits after
+-- no order is worth anything
+nothing_by : (net : Bool) → exposure_of_pair net no_sums ≡ 0
+nothing_by true = refl
+nothing_by false = refl
 
-  sum_by_tests : (firm above : Bool) → ((a s : ℕ) → pair_exposure was a s ≤ pair_exposure now a s)
-      → cond firm (firm_sum was) (cond above
-      (symbol_sum (tree - 1 - length limits.accounts) was) (account_sum (tree - 1) was))
-      ≤ cond firm (firm_sum now) (cond above
-      (symbol_sum (tree - 1 - length limits.accounts) now) (account_sum (tree - 1) now))
-  sum_by_tests true above more =
-      all-le (length limits.accounts) (length limits.symbols) (pair_exposure now)
-      (pair_exposure was) more
-  sum_by_tests false true more =
-      symbol-le (length limits.accounts) (length limits.symbols) (pair_exposure now)
-      (pair_exposure was) (tree - 1 - length limits.accounts)
-      (λ a. more a (tree - 1 - length limits.accounts))
-  sum_by_tests false false more =
-      account-le (length limits.accounts) (length limits.symbols) (pair_exposure now)
-      (pair_exposure was) (tree - 1) (more (tree - 1))
+module _ (limits : LimitsValue) (tree : ℕ) where
+  abbrev accounts : ℕ
+  accounts = length limits.accounts
 
-  -- no pair counts for less
-  value-le : ((a s : ℕ) → pair_exposure was a s ≤ pair_exposure now a s)
-      → value_in limits tree orders ≤ value_in limits tree after
-  value-le more =
-      units_up-le (sum_in limits tree was) (sum_in limits tree now)
-      (sum_by_tests (tree == 0) (nat_le (length limits.accounts) (tree - 1)) more)
+  abbrev symbols : ℕ
+  symbols = length limits.symbols
 
-  -- in another tree, where the other pairs count for the same
-  module _ (account symbol : ℕ) (other : IsOtherTree limits account symbol tree)
-      (same : (a s : ℕ) → (a ≡ account → s ≡ symbol → ⊥)
-      → pair_exposure now a s ≡ pair_exposure was a s) where
-    other_by_tests : (firm : Bool) → (tree == 0) ≡ firm → (above : Bool)
-        → nat_le (length limits.accounts) (tree - 1) ≡ above
-        → cond firm (firm_sum now) (cond above
-        (symbol_sum (tree - 1 - length limits.accounts) now) (account_sum (tree - 1) now))
-        ≡ cond firm (firm_sum was) (cond above
-        (symbol_sum (tree - 1 - length limits.accounts) was) (account_sum (tree - 1) was))
-    other_by_tests true firm above above_is =
-        absurd (other.not_firm (eqb-true tree 0 firm))
-    other_by_tests false firm true above_is =
-        let up = leb-true (length limits.accounts) (tree - 1) above_is in
-        let apart : tree - 1 - length limits.accounts ≡ symbol → ⊥ = λ e.
-        let past : tree ≡ 1 + (length limits.accounts + symbol) =
-        past_none tree (length limits.accounts + symbol) other.not_firm (omega (arith, e, up)) in
-        other.not_symbol (omega (arith, past)) in
-        symbol-same (length limits.accounts) (length limits.symbols) (pair_exposure was)
-        (pair_exposure now) (tree - 1 - length limits.accounts)
-        (λ a below. same a (tree - 1 - length limits.accounts) (λ e f. apart f))
-    other_by_tests false firm false above_is =
-        let apart : tree - 1 ≡ account → ⊥ = λ e.
-        other.not_account (past_none tree account other.not_firm e) in
-        account-same (length limits.accounts) (length limits.symbols) (pair_exposure was)
-        (pair_exposure now) (tree - 1) (λ s below. same (tree - 1) s (λ e f. apart e))
+  -- its place past those of the accounts
+  abbrev past : ℕ
+  past = tree - 1 - accounts
 
-    value-other : value_in limits tree after ≡ value_in limits tree orders
-    value-other =
-        ap units_up (other_by_tests (tree == 0) refl
-        (nat_le (length limits.accounts) (tree - 1)) refl)
+  -- by whether it is the firm's, and whether it is past those of the accounts
+  abbrev sum_by : Bool → Bool → BookValue → ℕ
+  sum_by firm above book =
+      cond firm (firm_sum book) (cond above (symbol_sum past book) (account_sum (tree - 1) book))
+
+  abbrev none : ℕ → ℕ → ℕ
+  none = pair_exposure (book_for limits [])
+
+  no_pair : (a s : ℕ) → none a s ≡ 0
+  no_pair a s = nothing_by (is_net (nets_of limits) a)
+
+  none_by : (firm above : Bool) → sum_by firm above (book_for limits []) ≡ 0
+  none_by true above = all-none accounts symbols none no_pair
+  none_by false true = sum_below-none accounts (λ a. none a past) (λ a below. no_pair a past)
+  none_by false false = sum_below-none symbols (none (tree - 1)) (λ s below. no_pair (tree - 1) s)
+
+  pub value_in-none : value_in limits tree [] ≡ 0
+  value_in-none = ap units_up (none_by (tree == 0) (nat_le accounts (tree - 1)))
+
+  -- with one list of orders and with another
+  module _ (orders after : List Order) where
+    abbrev was : ℕ → ℕ → ℕ
+    was = pair_exposure (book_for limits orders)
+
+    abbrev now : ℕ → ℕ → ℕ
+    now = pair_exposure (book_for limits after)
+
+    le_by : (firm above : Bool) → ((a s : ℕ) → was a s ≤ now a s)
+        → sum_by firm above (book_for limits orders) ≤ sum_by firm above (book_for limits after)
+    le_by true above more = all-le accounts symbols now was more
+    le_by false true more = symbol-le accounts symbols now was past (λ a. more a past)
+    le_by false false more = account-le accounts symbols now was (tree - 1) (more (tree - 1))
+
+    -- no pair counts for less
+    value-le : ((a s : ℕ) → was a s ≤ now a s)
+        → value_in limits tree orders ≤ value_in limits tree after
+    value-le more =
+        units_up-le (sum_in limits tree (book_for limits orders))
+        (sum_in limits tree (book_for limits after))
+        (le_by (tree == 0) (nat_le accounts (tree - 1)) more)
+
+    -- in another tree, where the other pairs count for the same
+    module _ (account symbol : ℕ) (other : IsOtherTree limits account symbol tree)
+        (same : (a s : ℕ) → (a ≡ account → s ≡ symbol → ⊥) → now a s ≡ was a s) where
+      other_by : (firm : Bool) → (tree == 0) ≡ firm → (above : Bool)
+          → nat_le accounts (tree - 1) ≡ above
+          → sum_by firm above (book_for limits after) ≡ sum_by firm above (book_for limits orders)
+      other_by true firm above above_is = absurd (other.not_firm (eqb-true tree 0 firm))
+      other_by false firm true above_is =
+          let up = leb-true accounts (tree - 1) above_is in
+          let apart : past ≡ symbol → ⊥ = λ e.
+          let after_accounts : tree ≡ 1 + (accounts + symbol) =
+          past_none tree (accounts + symbol) other.not_firm (omega (arith, e, up)) in
+          other.not_symbol (omega (arith, after_accounts)) in
+          symbol-same accounts symbols was now past (λ a below. same a past (λ e f. apart f))
+      other_by false firm false above_is =
+          account-same accounts symbols was now (tree - 1)
+          (λ s below. same (tree - 1) s
+          (λ e f. other.not_account (past_none tree account other.not_firm e)))
+
+      value-other : value_in limits tree after ≡ value_in limits tree orders
+      value-other = ap units_up (other_by (tree == 0) refl (nat_le accounts (tree - 1)) refl)
 
 -- one order more, of which nothing is filled, is worth no less
 pub value_in-push_le : (limits : LimitsValue) (tree : ℕ) (orders : List Order) (order : Order)

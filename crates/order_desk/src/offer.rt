@@ -74,10 +74,7 @@ pub(crate) fn offer_new(book: &Book, limits: &Limits, order: &NewOrder) -> Resul
     ensures proposed { IfOk result (λ offer. proposal_of_new book.now.value order.now
         offer.rows.account offer.rows.symbol offer.seen.high ≡ Ok offer.values) }
 {
-    let rows = match find_rows(limits, order) {
-        Ok(rows) => rows,
-        Err(why) => return Err(why),
-    };
+    let rows = find_rows(limits, order)?;
     let seen = new_seen(limits, order, &rows);
     match book.propose_new(order, rows.account, rows.symbol, seen.high) {
         Ok(values) => Ok(Offer {

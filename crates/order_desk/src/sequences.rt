@@ -67,6 +67,20 @@ pub(crate) struct Sequence {
     pub turns: &'static [Turn],
 }
 
+/// A sequence over limits in which no other session has halted, with a line a turn.
+macro_rules! over {
+    ($limits:ident, $name:literal; $($step:expr => $answer:expr, $acts:expr, $posted:expr;)+) => {
+        Sequence {
+            name: $name,
+            limits: $limits,
+            halted: false,
+            turns: &[$(($step, $answer, $acts, $posted)),+],
+        }
+    };
+}
+
+pub(crate) use over;
+
 const SELL: u8 = b'2';
 
 /// An account and a symbol up to 12.0000, with limits that no order here passes.
@@ -96,369 +110,150 @@ symbol,XYZ,4294967295,1,999999.9999,1000000000
 
 /// The sequences. Another session has halted in the last of them alone.
 pub(crate) const SEQUENCES: [Sequence; 20] = [
-    Sequence {
-        name: "a sell, a fill below the reserve price, and one above it",
-        limits: WIDE,
-        halted: false,
-        turns: &[
-            (
-                New(b"a1", b"ACC", b"XYZ", SELL, 100, 90000),
-                Sent,
-                7,
-                All(1200),
-            ),
-            (Trade(b"a1", 40, 95000), Settled(Applied), 3, All(1100)),
-            (Trade(b"a1", 10, 120001), Settled(Over), 0, All(1100)),
-            (Trade(b"a1", 61, 90000), Settled(Over), 0, All(1100)),
-        ],
+    over! { WIDE, "a sell, a fill below the reserve price, and one above it";
+        New(b"a1", b"ACC", b"XYZ", SELL, 100, 90000) => Sent, 7, All(1200);
+        Trade(b"a1", 40, 95000) => Settled(Applied), 3, All(1100);
+        Trade(b"a1", 10, 120001) => Settled(Over), 0, All(1100);
+        Trade(b"a1", 61, 90000) => Settled(Over), 0, All(1100);
+    },
+    over! { WIDE, "a replace that the venue rejects";
+        Buy(b"a1", 100, 100000) => Sent, 7, All(1000);
+        Replace(b"b1", b"a1", 150, 100000) => Sent, 7, All(1500);
+        Reject(b"b1") => Settled(Applied), 3, All(1000);
+        Reject(b"b1") => Settled(Applied), 0, All(1000);
+        Reject(b"zz") => Settled(Stray), 0, All(1000);
+    },
+    over! { WIDE, "a replace that lowers is sent at once, and posted once it has taken place";
+        Buy(b"a1", 100, 100000) => Sent, 7, All(1000);
+        Replace(b"b1", b"a1", 80, 100000) => Sent, 0, All(1000);
+        Report(b"b1", Replaced) => Settled(Applied), 3, All(800);
+    },
+    over! { WIDE, "a replace at a lower price, and one above what was posted";
+        Buy(b"a1", 100, 100000) => Sent, 7, All(1000);
+        Replace(b"b1", b"a1", 100, 50000) => Sent, 0, All(1000);
+        Report(b"b1", Replaced) => Settled(Applied), 3, All(500);
+        Replace(b"b2", b"b1", 100, 50001) => Sent, 7, All(501);
+    },
+    over! { THOUSAND, "a refused order leaves its id, and a sent one keeps it";
+        Buy(b"a1", 200, 100000) => Refused(Firm), 10, All(0);
+        Buy(b"a1", 100, 100000) => Sent, 7, All(1000);
+        Buy(b"a1", 100, 100000) => Refused(Duplicate), 0, All(1000);
+    },
+    over! { THOUSAND, "a refused replace leaves order and id as they were";
+        Buy(b"a1", 90, 100000) => Sent, 7, All(900);
+        Replace(b"b1", b"a1", 101, 100000) => Refused(Firm), 10, All(900);
+        Replace(b"b1", b"a1", 100, 100000) => Sent, 7, All(1000);
+        Report(b"b1", Rejected) => Settled(Applied), 3, All(900);
+    },
+    over! { TWO_POSTS, "too few posts";
+        Buy(b"a1", 100, 100000) => Sent, 7, All(1000);
+        Trade(b"a1", 40, 95000) => Settled(Applied), 3, All(980);
+        Buy(b"a2", 1, 100000) => Refused(Quota), 0, All(980);
+        Trade(b"a1", 10, 90000) => Settled(NotLowered), 0, All(980);
+        Replace(b"b1", b"a1", 102, 100000) => Refused(Quota), 0, All(980);
+        Replace(b"b1", b"a1", 101, 100000) => Sent, 0, All(980);
+        Report(b"b1", Else) => Settled(Applied), 0, All(980);
+        Report(b"b1", Rejected) => Settled(NotLowered), 0, All(980);
+    },
+    over! { WIDE, "reports that change no value";
+        Buy(b"a1", 100, 95000) => Sent, 7, All(950);
+        Report(b"a1", Exec::New) => Settled(Applied), 0, All(950);
+        Trade(b"a1", 100, 95000) => Settled(Applied), 0, All(950);
+        Report(b"a1", Canceled) => Settled(Applied), 0, All(950);
+    },
+    over! { WIDE, "reports of no order";
+        Buy(b"a1", 100, 100000) => Sent, 7, All(1000);
+        Report(b"zz", Canceled) => Settled(Stray), 0, All(1000);
+        NoId(Canceled) => Settled(Stray), 0, All(1000);
+    },
+    over! { WIDE, "orders that end";
+        Buy(b"a1", 100, 100000) => Sent, 7, All(1000);
+        Buy(b"a2", 10, 100000) => Sent, 7, All(1100);
+        Buy(b"a3", 1, 100000) => Sent, 7, All(1110);
+        Trade(b"a1", 25, 100000) => Settled(Applied), 0, All(1110);
+        Report(b"a1", Canceled) => Settled(Applied), 3, All(360);
+        Report(b"a2", Expired) => Settled(Applied), 3, All(260);
+        Report(b"a3", Rejected) => Settled(Applied), 3, All(250);
+    },
+    over! { FOUR, "a value rounded up once falls in some trees alone";
+        Buy(b"a1", 1, 10001) => Sent, 7, Trees(&[2, 2, 0, 2, 0]);
+        New(b"a2", b"OTHER", b"ABC", b'1', 1, 5000) => Sent, 7, Trees(&[2, 2, 1, 2, 1]);
+        Trade(b"a1", 1, 10000) => Settled(Applied), 2, Trees(&[2, 1, 1, 1, 1]);
+    },
+    over! { FOUR, "an order counts in its own three trees";
+        Buy(b"a1", 10, 100000) => Sent, 7, Trees(&[100, 100, 0, 100, 0]);
+        New(b"a2", b"OTHER", b"ABC", SELL, 10, 100000)
+            => Sent, 7, Trees(&[300, 100, 200, 100, 200]);
+        New(b"a3", b"OTHER", b"ABC", SELL, 16, 100000)
+            => Refused(Account), 10, Trees(&[300, 100, 200, 100, 200]);
+        Buy(b"a3", 81, 100000) => Refused(Symbol), 10, Trees(&[300, 100, 200, 100, 200]);
+        ReplaceOf(b"b2", b"a2", b"OTHER", b"ABC", SELL, 26, 100000)
+            => Refused(Account), 10, Trees(&[300, 100, 200, 100, 200]);
+        Replace(b"b1", b"a1", 91, 100000) => Refused(Symbol), 10, Trees(&[300, 100, 200, 100, 200]);
+        ReplaceOf(b"b2", b"a2", b"OTHER", b"ABC", SELL, 25, 100000)
+            => Sent, 7, Trees(&[600, 100, 500, 100, 500]);
+    },
+    over! { WIDE, "an unknown account comes first, then an unknown symbol";
+        Buy(b"a1", 1, 100000) => Sent, 7, All(10);
+        New(b"a1", b"NONE", b"NONE", b'1', 1, 100000) => Refused(UnknownAccount), 0, All(10);
+        New(b"a1", b"ACC", b"NONE", b'1', 1, 100000) => Refused(UnknownSymbol), 0, All(10);
+        Buy(b"a1", 1, 100000) => Refused(Duplicate), 0, All(10);
+    },
+    over! { WIDE, "requests on no order, and on one that isn't named by its current id";
+        Replace(b"b1", b"zz", 1, 100000) => Refused(Unknown), 0, All(0);
+        Cancel(b"c1", b"zz") => Refused(Unknown), 0, All(0);
+        Buy(b"a1", 100, 100000) => Sent, 7, All(1000);
+        Replace(b"b1", b"a1", 100, 100000) => Sent, 0, All(1000);
+        Report(b"b1", Replaced) => Settled(Applied), 0, All(1000);
+        Replace(b"b2", b"a1", 90, 100000) => Refused(Unknown), 0, All(1000);
+        Cancel(b"c1", b"a1") => Refused(Unknown), 0, All(1000);
+        Cancel(b"c1", b"b1") => Sent, 0, All(1000);
+    },
+    over! { WIDE, "a request while one is pending, and on a closed order";
+        Buy(b"a1", 100, 100000) => Sent, 7, All(1000);
+        Cancel(b"c1", b"a1") => Sent, 0, All(1000);
+        Cancel(b"c1", b"a1") => Refused(Duplicate), 0, All(1000);
+        Cancel(b"c2", b"a1") => Refused(Pending), 0, All(1000);
+        Replace(b"b1", b"a1", 200, 100000) => Refused(Pending), 0, All(1000);
+        Report(b"c1", Canceled) => Settled(Applied), 3, All(0);
+        Cancel(b"c2", b"a1") => Refused(Closed), 0, All(0);
+        Replace(b"b1", b"a1", 200, 100000) => Refused(Closed), 0, All(0);
+        Replace(b"a1", b"a1", 200, 100000) => Refused(Duplicate), 0, All(0);
+    },
+    over! { WIDE, "a cancel that the venue rejects";
+        Buy(b"a1", 100, 100000) => Sent, 7, All(1000);
+        Cancel(b"c1", b"a1") => Sent, 0, All(1000);
+        Reject(b"c1") => Settled(Applied), 0, All(1000);
+        Cancel(b"c2", b"a1") => Sent, 0, All(1000);
+    },
+    over! { FOUR, "a replace of another account, symbol or side";
+        Buy(b"a1", 10, 100000) => Sent, 7, Trees(&[100, 100, 0, 100, 0]);
+        ReplaceOf(b"b1", b"a1", b"OTHER", b"XYZ", b'1', 20, 100000)
+            => Refused(Mismatch), 0, Trees(&[100, 100, 0, 100, 0]);
+        ReplaceOf(b"b1", b"a1", b"ACC", b"ABC", b'1', 20, 100000)
+            => Refused(Mismatch), 0, Trees(&[100, 100, 0, 100, 0]);
+        ReplaceOf(b"b1", b"a1", b"ACC", b"XYZ", SELL, 20, 100000)
+            => Refused(Mismatch), 0, Trees(&[100, 100, 0, 100, 0]);
+        ReplaceOf(b"b1", b"a1", b"ACC", b"XYZ", b'1', 20, 100000)
+            => Sent, 7, Trees(&[200, 200, 0, 200, 0]);
+    },
+    over! { WIDE, "a replace to what is filled";
+        Buy(b"a1", 100, 100000) => Sent, 7, All(1000);
+        Trade(b"a1", 40, 100000) => Settled(Applied), 0, All(1000);
+        Replace(b"b1", b"a1", 40, 100000) => Refused(Quantity), 0, All(1000);
+        Replace(b"b1", b"a1", 41, 100000) => Sent, 0, All(1000);
+        Report(b"b1", Replaced) => Settled(Applied), 3, All(410);
+    },
+    over! { HUGE, "more than a leaf can hold";
+        Buy(b"a1", 1000000000, 42950) => Refused(Cap), 0, All(0);
+        Buy(b"a1", 1000000000, 42949) => Sent, 7, All(4294900000);
+        Replace(b"b1", b"a1", 1000000000, 42950) => Refused(Cap), 0, All(4294900000);
     },
     Sequence {
-        name: "a replace that the venue rejects",
-        limits: WIDE,
-        halted: false,
-        turns: &[
-            (Buy(b"a1", 100, 100000), Sent, 7, All(1000)),
-            (Replace(b"b1", b"a1", 150, 100000), Sent, 7, All(1500)),
-            (Reject(b"b1"), Settled(Applied), 3, All(1000)),
-            (Reject(b"b1"), Settled(Applied), 0, All(1000)),
-            (Reject(b"zz"), Settled(Stray), 0, All(1000)),
-        ],
-    },
-    Sequence {
-        name: "a replace that lowers is sent at once, and posted once it has taken place",
-        limits: WIDE,
-        halted: false,
-        turns: &[
-            (Buy(b"a1", 100, 100000), Sent, 7, All(1000)),
-            (Replace(b"b1", b"a1", 80, 100000), Sent, 0, All(1000)),
-            (Report(b"b1", Replaced), Settled(Applied), 3, All(800)),
-        ],
-    },
-    Sequence {
-        name: "a replace at a lower price, and one above what was posted",
-        limits: WIDE,
-        halted: false,
-        turns: &[
-            (Buy(b"a1", 100, 100000), Sent, 7, All(1000)),
-            (Replace(b"b1", b"a1", 100, 50000), Sent, 0, All(1000)),
-            (Report(b"b1", Replaced), Settled(Applied), 3, All(500)),
-            (Replace(b"b2", b"b1", 100, 50001), Sent, 7, All(501)),
-        ],
-    },
-    Sequence {
-        name: "a refused order leaves its id, and a sent one keeps it",
-        limits: THOUSAND,
-        halted: false,
-        turns: &[
-            (Buy(b"a1", 200, 100000), Refused(Firm), 10, All(0)),
-            (Buy(b"a1", 100, 100000), Sent, 7, All(1000)),
-            (Buy(b"a1", 100, 100000), Refused(Duplicate), 0, All(1000)),
-        ],
-    },
-    Sequence {
-        name: "a refused replace leaves order and id as they were",
-        limits: THOUSAND,
-        halted: false,
-        turns: &[
-            (Buy(b"a1", 90, 100000), Sent, 7, All(900)),
-            (
-                Replace(b"b1", b"a1", 101, 100000),
-                Refused(Firm),
-                10,
-                All(900),
-            ),
-            (Replace(b"b1", b"a1", 100, 100000), Sent, 7, All(1000)),
-            (Report(b"b1", Rejected), Settled(Applied), 3, All(900)),
-        ],
-    },
-    Sequence {
-        name: "too few posts",
-        limits: TWO_POSTS,
-        halted: false,
-        turns: &[
-            (Buy(b"a1", 100, 100000), Sent, 7, All(1000)),
-            (Trade(b"a1", 40, 95000), Settled(Applied), 3, All(980)),
-            (Buy(b"a2", 1, 100000), Refused(Quota), 0, All(980)),
-            (Trade(b"a1", 10, 90000), Settled(NotLowered), 0, All(980)),
-            (
-                Replace(b"b1", b"a1", 102, 100000),
-                Refused(Quota),
-                0,
-                All(980),
-            ),
-            (Replace(b"b1", b"a1", 101, 100000), Sent, 0, All(980)),
-            (Report(b"b1", Else), Settled(Applied), 0, All(980)),
-            (Report(b"b1", Rejected), Settled(NotLowered), 0, All(980)),
-        ],
-    },
-    Sequence {
-        name: "reports that change no value",
-        limits: WIDE,
-        halted: false,
-        turns: &[
-            (Buy(b"a1", 100, 95000), Sent, 7, All(950)),
-            (Report(b"a1", Exec::New), Settled(Applied), 0, All(950)),
-            (Trade(b"a1", 100, 95000), Settled(Applied), 0, All(950)),
-            (Report(b"a1", Canceled), Settled(Applied), 0, All(950)),
-        ],
-    },
-    Sequence {
-        name: "reports of no order",
-        limits: WIDE,
-        halted: false,
-        turns: &[
-            (Buy(b"a1", 100, 100000), Sent, 7, All(1000)),
-            (Report(b"zz", Canceled), Settled(Stray), 0, All(1000)),
-            (NoId(Canceled), Settled(Stray), 0, All(1000)),
-        ],
-    },
-    Sequence {
-        name: "orders that end",
-        limits: WIDE,
-        halted: false,
-        turns: &[
-            (Buy(b"a1", 100, 100000), Sent, 7, All(1000)),
-            (Buy(b"a2", 10, 100000), Sent, 7, All(1100)),
-            (Buy(b"a3", 1, 100000), Sent, 7, All(1110)),
-            (Trade(b"a1", 25, 100000), Settled(Applied), 0, All(1110)),
-            (Report(b"a1", Canceled), Settled(Applied), 3, All(360)),
-            (Report(b"a2", Expired), Settled(Applied), 3, All(260)),
-            (Report(b"a3", Rejected), Settled(Applied), 3, All(250)),
-        ],
-    },
-    Sequence {
-        name: "a value rounded up once falls in some trees alone",
-        limits: FOUR,
-        halted: false,
-        turns: &[
-            (Buy(b"a1", 1, 10001), Sent, 7, Trees(&[2, 2, 0, 2, 0])),
-            (
-                New(b"a2", b"OTHER", b"ABC", b'1', 1, 5000),
-                Sent,
-                7,
-                Trees(&[2, 2, 1, 2, 1]),
-            ),
-            (
-                Trade(b"a1", 1, 10000),
-                Settled(Applied),
-                2,
-                Trees(&[2, 1, 1, 1, 1]),
-            ),
-        ],
-    },
-    Sequence {
-        name: "an order counts in its own three trees",
-        limits: FOUR,
-        halted: false,
-        turns: &[
-            (
-                Buy(b"a1", 10, 100000),
-                Sent,
-                7,
-                Trees(&[100, 100, 0, 100, 0]),
-            ),
-            (
-                New(b"a2", b"OTHER", b"ABC", SELL, 10, 100000),
-                Sent,
-                7,
-                Trees(&[300, 100, 200, 100, 200]),
-            ),
-            (
-                New(b"a3", b"OTHER", b"ABC", SELL, 16, 100000),
-                Refused(Account),
-                10,
-                Trees(&[300, 100, 200, 100, 200]),
-            ),
-            (
-                Buy(b"a3", 81, 100000),
-                Refused(Symbol),
-                10,
-                Trees(&[300, 100, 200, 100, 200]),
-            ),
-            (
-                ReplaceOf(b"b2", b"a2", b"OTHER", b"ABC", SELL, 26, 100000),
-                Refused(Account),
-                10,
-                Trees(&[300, 100, 200, 100, 200]),
-            ),
-            (
-                Replace(b"b1", b"a1", 91, 100000),
-                Refused(Symbol),
-                10,
-                Trees(&[300, 100, 200, 100, 200]),
-            ),
-            (
-                ReplaceOf(b"b2", b"a2", b"OTHER", b"ABC", SELL, 25, 100000),
-                Sent,
-                7,
-                Trees(&[600, 100, 500, 100, 500]),
-            ),
-        ],
-    },
-    Sequence {
-        name: "an unknown account comes first, then an unknown symbol",
-        limits: WIDE,
-        halted: false,
-        turns: &[
-            (Buy(b"a1", 1, 100000), Sent, 7, All(10)),
-            (
-                New(b"a1", b"NONE", b"NONE", b'1', 1, 100000),
-                Refused(UnknownAccount),
-                0,
-                All(10),
-            ),
-            (
-                New(b"a1", b"ACC", b"NONE", b'1', 1, 100000),
-                Refused(UnknownSymbol),
-                0,
-                All(10),
-            ),
-            (Buy(b"a1", 1, 100000), Refused(Duplicate), 0, All(10)),
-        ],
-    },
-    Sequence {
-        name: "requests on no order, and on one that isn't named by its current id",
-        limits: WIDE,
-        halted: false,
-        turns: &[
-            (
-                Replace(b"b1", b"zz", 1, 100000),
-                Refused(Unknown),
-                0,
-                All(0),
-            ),
-            (Cancel(b"c1", b"zz"), Refused(Unknown), 0, All(0)),
-            (Buy(b"a1", 100, 100000), Sent, 7, All(1000)),
-            (Replace(b"b1", b"a1", 100, 100000), Sent, 0, All(1000)),
-            (Report(b"b1", Replaced), Settled(Applied), 0, All(1000)),
-            (
-                Replace(b"b2", b"a1", 90, 100000),
-                Refused(Unknown),
-                0,
-                All(1000),
-            ),
-            (Cancel(b"c1", b"a1"), Refused(Unknown), 0, All(1000)),
-            (Cancel(b"c1", b"b1"), Sent, 0, All(1000)),
-        ],
-    },
-    Sequence {
-        name: "a request while one is pending, and on a closed order",
-        limits: WIDE,
-        halted: false,
-        turns: &[
-            (Buy(b"a1", 100, 100000), Sent, 7, All(1000)),
-            (Cancel(b"c1", b"a1"), Sent, 0, All(1000)),
-            (Cancel(b"c1", b"a1"), Refused(Duplicate), 0, All(1000)),
-            (Cancel(b"c2", b"a1"), Refused(Pending), 0, All(1000)),
-            (
-                Replace(b"b1", b"a1", 200, 100000),
-                Refused(Pending),
-                0,
-                All(1000),
-            ),
-            (Report(b"c1", Canceled), Settled(Applied), 3, All(0)),
-            (Cancel(b"c2", b"a1"), Refused(Closed), 0, All(0)),
-            (
-                Replace(b"b1", b"a1", 200, 100000),
-                Refused(Closed),
-                0,
-                All(0),
-            ),
-            (
-                Replace(b"a1", b"a1", 200, 100000),
-                Refused(Duplicate),
-                0,
-                All(0),
-            ),
-        ],
-    },
-    Sequence {
-        name: "a cancel that the venue rejects",
-        limits: WIDE,
-        halted: false,
-        turns: &[
-            (Buy(b"a1", 100, 100000), Sent, 7, All(1000)),
-            (Cancel(b"c1", b"a1"), Sent, 0, All(1000)),
-            (Reject(b"c1"), Settled(Applied), 0, All(1000)),
-            (Cancel(b"c2", b"a1"), Sent, 0, All(1000)),
-        ],
-    },
-    Sequence {
-        name: "a replace of another account, symbol or side",
-        limits: FOUR,
-        halted: false,
-        turns: &[
-            (
-                Buy(b"a1", 10, 100000),
-                Sent,
-                7,
-                Trees(&[100, 100, 0, 100, 0]),
-            ),
-            (
-                ReplaceOf(b"b1", b"a1", b"OTHER", b"XYZ", b'1', 20, 100000),
-                Refused(Mismatch),
-                0,
-                Trees(&[100, 100, 0, 100, 0]),
-            ),
-            (
-                ReplaceOf(b"b1", b"a1", b"ACC", b"ABC", b'1', 20, 100000),
-                Refused(Mismatch),
-                0,
-                Trees(&[100, 100, 0, 100, 0]),
-            ),
-            (
-                ReplaceOf(b"b1", b"a1", b"ACC", b"XYZ", SELL, 20, 100000),
-                Refused(Mismatch),
-                0,
-                Trees(&[100, 100, 0, 100, 0]),
-            ),
-            (
-                ReplaceOf(b"b1", b"a1", b"ACC", b"XYZ", b'1', 20, 100000),
-                Sent,
-                7,
-                Trees(&[200, 200, 0, 200, 0]),
-            ),
-        ],
-    },
-    Sequence {
-        name: "a replace to what is filled",
-        limits: WIDE,
-        halted: false,
-        turns: &[
-            (Buy(b"a1", 100, 100000), Sent, 7, All(1000)),
-            (Trade(b"a1", 40, 100000), Settled(Applied), 0, All(1000)),
-            (
-                Replace(b"b1", b"a1", 40, 100000),
-                Refused(Quantity),
-                0,
-                All(1000),
-            ),
-            (Replace(b"b1", b"a1", 41, 100000), Sent, 0, All(1000)),
-            (Report(b"b1", Replaced), Settled(Applied), 3, All(410)),
-        ],
-    },
-    Sequence {
-        name: "more than a leaf can hold",
-        limits: HUGE,
-        halted: false,
-        turns: &[
-            (Buy(b"a1", 1000000000, 42950), Refused(Cap), 0, All(0)),
-            (Buy(b"a1", 1000000000, 42949), Sent, 7, All(4294900000)),
-            (
-                Replace(b"b1", b"a1", 1000000000, 42950),
-                Refused(Cap),
-                0,
-                All(4294900000),
-            ),
-        ],
-    },
-    Sequence {
-        name: "somebody has halted",
-        limits: WIDE,
         halted: true,
-        turns: &[
-            (Buy(b"a1", 1, 100000), Refused(Halt), 10, All(0)),
-            (Buy(b"a1", 1000, 100000), Refused(Halt), 10, All(0)),
-        ],
+        ..over! { WIDE, "somebody has halted";
+            Buy(b"a1", 1, 100000) => Refused(Halt), 10, All(0);
+            Buy(b"a1", 1000, 100000) => Refused(Halt), 10, All(0);
+        }
     },
 ];

@@ -208,7 +208,7 @@ fn run<K: Screen>(
     rt: &impl Abort,
     alloc: Global,
     limits: &Limits,
-    set: Vec<K>,
+    mut screens: Vec<K>,
     sequence: &Sequence,
 ) -> Result<(), Fail> {
     let name = sequence.name;
@@ -222,13 +222,8 @@ fn run<K: Screen>(
         return Err("memory")?;
     };
     let book = Book::new(alloc, limits)?;
-    let mut screens = set;
-    arm_all(
-        &mut screens,
-        &Terms {
-            repeat: limits.repeat(),
-        },
-    )?;
+    let repeat = limits.repeat();
+    arm_all(&mut screens, &Terms { repeat })?;
     a_first_book_is_covered();
     only_its_own_rows_drop_screens();
     let mut desk = Desk::open(limits, hands, book, screens);
