@@ -162,11 +162,7 @@ settling : (legs : List Leg) (answer : Verdict) (acts : List Act) (reads others 
     → settled legs answer (tape acts others)
     ≡ record (settled legs answer (tape acts reads)) { reads = others }
 settling legs verdict.Sent acts reads others = refl
-settling legs verdict.Firm acts reads others = posting_all (λ leg. leg.old) legs acts reads others
-settling legs verdict.Account acts reads others = posting_all (λ leg. leg.old) legs acts reads others
-settling legs verdict.Symbol acts reads others = posting_all (λ leg. leg.old) legs acts reads others
-settling legs verdict.Halt acts reads others = posting_all (λ leg. leg.old) legs acts reads others
-settling legs verdict.Quota acts reads others = posting_all (λ leg. leg.old) legs acts reads others
+settling legs _ acts reads others = posting_all (λ leg. leg.old) legs acts reads others
 
 -- what is asked goes alike, or parts at a read
 abbrev pub AskAlikeOrPart : Asked → Asked → Type 0
