@@ -144,19 +144,13 @@ first_above_alike : (legs : List Leg) (reads others : List SeenAt)
     → AnswerAlike (trees_of legs) reads others → first_above legs reads ≡ first_above legs others
 first_above_alike [] reads others alike = refl
 first_above_alike (leg ∷ legs) reads others alike =
-    ap (λ (seen : SeenAt). if nat_lt leg.limit seen.value then leg.above
-    else first_above legs (drop 1 reads)) alike.0
-    ∙ ap (λ later. if nat_lt leg.limit (next_read others).value then leg.above else later)
-    (first_above_alike legs (drop 1 reads) (drop 1 others) alike.1)
+    rw (alike.0, first_above_alike legs (drop 1 reads) (drop 1 others) alike.1) refl
 
 verdict_of_alike : (limits : LimitsValue) (legs : List Leg) (reads others : List SeenAt)
     → AnswerAlike (roots_of limits legs) reads others
     → verdict_of legs reads ≡ verdict_of legs others
 verdict_of_alike limits legs reads others alike =
-    ap (λ (seen : SeenAt). if nat_lt 0 seen.value then verdict.Halt
-    else first_above legs (drop 1 reads)) alike.0
-    ∙ ap (λ later. if nat_lt 0 (next_read others).value then verdict.Halt else later)
-    (first_above_alike legs (drop 1 reads) (drop 1 others) alike.1)
+    rw (alike.0, first_above_alike legs (drop 1 reads) (drop 1 others) alike.1) refl
 
 settling : (legs : List Leg) (answer : Verdict) (acts : List Act) (reads others : List SeenAt)
     → settled legs answer (tape acts others)

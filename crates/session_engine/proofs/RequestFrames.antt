@@ -175,20 +175,11 @@ module _ (limits : LimitsValue) (fields : List FieldValue) (asked : Asked)
         (tape session.acts (decides.seen ++ more))
         ≡ record { refusal = refusal; tape = tape told more; book = book }
     decision_is refusal book decides more =
-        ap (λ (s : List ScreenValue). asked.decide limits s session.book
-        (tape session.acts (decides.seen ++ more))) own.screens_are
-        ∙ ap (λ b. asked.decide limits before.screens b
-        (tape session.acts (decides.seen ++ more))) own.stands.book_is
-        ∙ ap (λ l. asked.decide limits before.screens before.book
-        (tape l (decides.seen ++ more))) own.stands.acts_are
-        ∙ decides.decided more
+        rw (own.screens_are, own.stands.book_is, own.stands.acts_are) (decides.decided more)
 
     screens_are : after.screens ≡ asked.screens limits before.screens before.book
         → screens ≡ after.screens
-    screens_are is =
-        ap (λ (s : List ScreenValue). asked.screens limits s session.book) own.screens_are
-        ∙ ap (λ (b : BookValue). asked.screens limits before.screens b) own.stands.book_is
-        ∙ sym is
+    screens_are is = rw (own.screens_are, own.stands.book_is) (sym is)
 
     reads_are : (refusal : Option Refusal) (seen : List SeenAt)
         → reads_of told ≡ reads_of before.acts ++ seen
@@ -205,11 +196,7 @@ module _ (limits : LimitsValue) (fields : List FieldValue) (asked : Asked)
         ++ answer_act before.counts.frames refusal ∷ []
         → acts_tripped limits refusal session.firms told
         ++ answer_act session.frames refusal ∷ [] ≡ after.acts
-    acts_are refusal is =
-        ap (λ n. acts_tripped limits refusal session.firms told ++ answer_act n refusal ∷ [])
-        (sym own.stands.frames)
-        ∙ ap (λ n. acts_tripped limits refusal n told
-        ++ answer_act before.counts.frames refusal ∷ []) (sym own.stands.firms) ∙ sym is
+    acts_are refusal is = rw (← own.stands.frames, ← own.stands.firms) (sym is)
 
     -- a request that was sent or refused, and answered
     pub takes_request : (refusal : Option Refusal)

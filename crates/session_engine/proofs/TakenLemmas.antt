@@ -42,11 +42,7 @@ pub frame_by : (limits : LimitsValue) (fields : List FieldValue) (request : Bool
     → with_frame (after_sound limits fields) session
     ≡ counted session.frames
     (after_result limits request fields read (named request fields session))
-frame_by limits fields request read session asks_are read_is =
-    ap (λ r. counted session.frames
-    (after_result limits (asks fields) fields r (named (asks fields) fields session))) read_is
-    ∙ ap (λ b. counted session.frames
-    (after_result limits b fields read (named b fields session))) asks_are
+frame_by limits fields request read session asks_are read_is = rw (read_is, asks_are) refl
 
 -- a step that reads nothing
 pub steps_quiet : (step : SessionValue → SessionValue) (session next : SessionValue)
@@ -162,8 +158,7 @@ takes_told step most session before after act client_id to_venue to_client own u
     screens client_is counts venue_grows client_grows stepped =
     takes_next step most session before after _ session.book session.screens client_id None
     to_venue to_client own
-    (ap (λ l. l ++ act session.frames ∷ []) own.stands.acts_are
-    ∙ ap (λ n. before.acts ++ act n ∷ []) (sym own.stands.frames) ∙ sym acts)
+    (rw (own.stands.acts_are, ← own.stands.frames) (sym acts))
     (own.stands.book_is ∙ sym book) (own.screens_are ∙ sym screens) client_is counts venue_grows
     client_grows
     (steps_quiet step session _ (reads_of-quiet session.acts (act session.frames ∷ []) unread)

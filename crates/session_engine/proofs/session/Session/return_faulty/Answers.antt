@@ -26,19 +26,14 @@ returns-clause-taken g c =
           c.time_of.ensures c.unwrap_or-seq.ensures kind in
           let reject = session_reject_fields (stamp_of receiver (inside.counts.venue + 1) c.time_of.result)
           c.unwrap_or-seq.result c.type_text-kind.result.now c.args.fault.now in
-          let P : List ℕ → Type 0 = λ m. Appends (g.V.Sink.held inside.venue)
-          c.give_written.ensures.given.whole m in
-          let Q : List ℕ → Type 0 = λ to. P (reject_text to (inside.counts.venue + 1) fields
-          c.args.fault.now) in
           takes_returned inside.desk.limits fields c.args.fault.now session _ _ read.1 read.0 own (record {
             acts = c.tell.ensures.acts ∙ rw (c.code.ensures, c.from.ensures) refl;
             book = ap (λ (d : DeskValue _ _ _). d.book.value) c.tell.ensures.same;
             screens = ap (λ (d : DeskValue _ _ _). map g.K.Screen.meaning d.screens) c.tell.ensures.same;
             counts = refl;
             client_id = refl;
-            venue = subst Q c.venue_id.ensures
-                (subst P text (c.give_written.ensures.given.says reject
-                c.write_reject_session.ensures));
+            venue = rw (text, c.venue_id.ensures)
+                at (c.give_written.ensures.given.says reject c.write_reject_session.ensures);
             client = refl;
           });
       gives = inl (
