@@ -1,5 +1,5 @@
 -- What an end says of what stands next.
-use Rattle.std.proofs.Common.{◌≡◌, ℕ, ◌+◌, ◌≤◌, sym, ap, ◌∙◌, subst, refl, Bool, true, false, inl, inr, arith}
+use Rattle.std.proofs.Common.{◌≡◌, ℕ, ◌+◌, ◌≤◌, sym, subst, refl, Bool, true, false, inl, inr, arith}
 use Rattle.std.specs.Prelude.{◌⊎◌}
 use Rattle.fix_fields.specs.Found.{IsSettled}
 use Rattle.fix_fields.specs.FrameBuffers.{IsOpen}

@@ -1,9 +1,8 @@
 -- The frames of what has come, as the run goes on and where it stops.
-use Rattle.std.proofs.Common.{◌≡◌, ℕ, ◌+◌, ◌-◌, ◌≤◌, ◌<◌, List, [], ◌∷◌, ◌++◌, length, take, drop, sym}
-use Rattle.std.proofs.Common.{ap, ◌∙◌, subst, Bool, true, false, arith, inl, inr, append_assoc}
-use Rattle.std.proofs.Common.{length-append, length-drop}
+use Rattle.std.proofs.Common.{◌≡◌, ℕ, ◌+◌, ◌-◌, ◌≤◌, ◌<◌, List, [], ◌∷◌, ◌++◌, length, take, drop}
+use Rattle.std.proofs.Common.{sym, ap, ◌∙◌, subst, true, false, arith, inl, inr, append_assoc}
+use Rattle.std.proofs.Common.{length-append, length-drop, Option, Some, None, nat_lt, ◌⊎◌}
 use Rattle.std.proofs.lemmas.Bool.{lt-ltb, le-ltb}
-use Rattle.std.specs.Prelude.{Option, Some, None, nat_lt, ◌⊎◌}
 use Rattle.std.specs.Io.KnownBytes.{Consumes}
 use Rattle.std.proofs.lemmas.List.{append-nil, take_at, take_all, drop-append-le, drop-drop}
 use Rattle.std.proofs.lemmas.List.{take-append-le}

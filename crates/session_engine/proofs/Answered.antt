@@ -1,10 +1,9 @@
 -- A session that decided, told and gave has taken its frame.
-use Rattle.std.proofs.Common.{◌≡◌, ℕ, ◌+◌, List, [], ◌∷◌, ◌++◌, map, refl, sym, ap, ◌∙◌, subst, codes}
-use Rattle.std.proofs.Common.{arith, inl, inr}
-use Rattle.std.specs.Prelude.{Option, Some, None, true}
+use Rattle.std.proofs.Common.{◌≡◌, ℕ, ◌+◌, List, [], ◌∷◌, ◌++◌, map, refl, sym, ap, ◌∙◌, arith, inl}
+use Rattle.std.proofs.Common.{inr, Option, Some, None, true}
 use Rattle.std.specs.Io.KnownBytes.{Appends}
 use Rattle.exposure_book.specs.Books.{BookValue}
-use Rattle.gate_ports.specs.Faults.{HasCause, Rose}
+use Rattle.gate_ports.specs.Faults.{HasCause}
 use Rattle.fix_fields.specs.Fields.{FieldValue}
 use Rattle.fix_fields.specs.Places.{HasFieldsIn}
 use Rattle.screen_kit.specs.Screens.{ScreenValue}

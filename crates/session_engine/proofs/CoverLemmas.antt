@@ -38,8 +38,7 @@ use Rattle.session_engine.specs.Session.{LimitsValue, SessionValue, opening, tap
 use Rattle.session_engine.specs.Session.{decided, after_trip, after_decision, after_noting}
 use Rattle.session_engine.specs.Session.{after_effect, after_settling, after_fault, named, asks}
 use Rattle.session_engine.specs.Session.{after_message, after_result, after_content, after_frame}
-use Rattle.session_engine.specs.Session.{taken_up}
-use Rattle.session_engine.specs.Session.{after_frames, with_asked}
+use Rattle.session_engine.specs.Session.{taken_up, after_frames, with_asked}
 use Rattle.session_engine.specs.Trips.{trips_by}
 use Rattle.session_engine.proofs.TripLemmas.{covers_refused, no_trip, tripped_posts}
 

@@ -1,6 +1,5 @@
 -- The Reject of a message with a field fault.
-use Rattle.std.proofs.Common.{◌≡◌, ℕ, List, refl}
-use Rattle.std.specs.Option.{unwrap_or}
+use Rattle.std.proofs.Common.{◌≡◌, ℕ, List, refl, unwrap_or}
 use Rattle.fix_fields.specs.Fields.{FieldValue}
 use Rattle.fix_fields.specs.Messages.{message_text}
 use Rattle.fix_orders.specs.declared.envelope.Envelope.{Envelope}

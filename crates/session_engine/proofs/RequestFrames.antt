@@ -1,8 +1,6 @@
 -- A request that was decided on and answered.
 use Rattle.std.proofs.Common.{◌≡◌, ℕ, ◌+◌, List, [], ◌∷◌, ◌++◌, length, refl, sym, ap, ◌∙◌, subst}
-use Rattle.std.proofs.Common.{true, codes, arith}
-use Rattle.std.specs.Prelude.{Option, Some, None, Ok}
-use Rattle.std.specs.Option.{unwrap_or}
+use Rattle.std.proofs.Common.{true, codes, Option, Some, None, Ok, unwrap_or}
 use Rattle.std.specs.Io.KnownBytes.{Appends}
 use Rattle.std.proofs.lemmas.List.{append-nil}
 use Rattle.exposure_book.specs.Books.{BookValue}
@@ -35,8 +33,7 @@ use Rattle.session_engine.specs.Taken.{answer_act, counts_answered, counts_decid
 use Rattle.session_engine.specs.Trips.{acts_tripped}
 use Rattle.session_engine.proofs.MessageFacts.{HeadFacts, head_facts}
 use Rattle.session_engine.proofs.QuietActs.{reads_tripped, answer_unread, reads_of-quiet}
-use Rattle.session_engine.proofs.TakenLemmas.{frame_by, counted, takes_next}
-use Rattle.session_engine.proofs.TakenLemmas.{appends_nothing}
+use Rattle.session_engine.proofs.TakenLemmas.{frame_by, counted, takes_next, appends_nothing}
 
 -- A request: its message and head, the message that refuses it, what is decided on it, and the screens
 -- after they were asked about it.

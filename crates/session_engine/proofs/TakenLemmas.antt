@@ -1,7 +1,6 @@
 -- What taking a frame does, whatever its kind.
 use Rattle.std.proofs.Common.{◌≡◌, ℕ, ◌+◌, ◌≤◌, List, [], ◌∷◌, ◌++◌, length, refl, sym, ap, ◌∙◌}
-use Rattle.std.proofs.Common.{subst, Bool, true, false, arith}
-use Rattle.std.specs.Prelude.{Option, Some, None, Result}
+use Rattle.std.proofs.Common.{subst, Bool, true, false, arith, Option, Some, None, Result}
 use Rattle.std.specs.Io.KnownBytes.{Appends}
 use Rattle.std.proofs.lemmas.List.{append-nil, length-append}
 use Rattle.exposure_book.specs.Books.{BookValue}
@@ -14,10 +13,9 @@ use Rattle.screen_kit.specs.Screens.{ScreenValue}
 use Rattle.risk_journal.specs.declared.acts.Act.{Act}
 use Rattle.risk_journal.specs.ActLists.{SeenAt, reads_of}
 use Rattle.session_engine.specs.declared.counts.Counts.{Counts}
-use Rattle.session_engine.specs.Session.{LimitsValue, SessionValue}
-use Rattle.session_engine.specs.Session.{after_frame, after_sound, after_result, asks, named}
-use Rattle.session_engine.specs.Session.{asks_more, orders_after, orders_with, screens_with}
-use Rattle.session_engine.specs.Session.{taken_up, with_frame}
+use Rattle.session_engine.specs.Session.{LimitsValue, SessionValue, after_frame, after_sound}
+use Rattle.session_engine.specs.Session.{after_result, asks, named, asks_more, orders_after}
+use Rattle.session_engine.specs.Session.{orders_with, screens_with, taken_up, with_frame}
 use Rattle.session_engine.specs.Reaches.{with_reads, Steps}
 use Rattle.session_engine.specs.Taken.{Takes, TakesFrom, Kept, StandsAs, with_message, text_in}
 use Rattle.session_engine.specs.Trips.{firms_after}

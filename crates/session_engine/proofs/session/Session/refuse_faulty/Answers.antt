@@ -1,7 +1,5 @@
 -- A request with a field fault was taken.
-use Rattle.std.proofs.Common.{ℕ, List, ◌+◌, map, refl, ◌∙◌, ap, subst, inr}
-use Rattle.std.specs.Option.{unwrap_or}
-use Rattle.std.specs.Io.KnownBytes.{Appends}
+use Rattle.std.proofs.Common.{◌+◌, map, refl, ◌∙◌, ap, inr, unwrap_or}
 use Rattle.fix_orders.specs.declared.envelope.Envelope.{Envelope}
 use Rattle.fix_orders.specs.Writing.{session_reject_fields}
 use Rattle.order_desk.specs.Desks.{DeskValue}

@@ -1,9 +1,8 @@
 -- A report with a field fault was taken.
-use Rattle.std.proofs.Common.{ℕ, List, ◌+◌, map, refl, ◌∙◌, ap, subst, inl}
-use Rattle.std.specs.Io.KnownBytes.{Appends}
+use Rattle.std.proofs.Common.{◌+◌, map, refl, ◌∙◌, ap, inl}
 use Rattle.fix_orders.specs.Writing.{session_reject_fields}
 use Rattle.order_desk.specs.Desks.{DeskValue}
-use Rattle.session_engine.specs.Answers.{reject_text, stamp_of}
+use Rattle.session_engine.specs.Answers.{stamp_of}
 use Rattle.session_engine.proofs.FaultyFrames.{takes_returned}
 use Rattle.session_engine.proofs.RejectTexts.{reject_is}
 use Rattle.session_engine.proofs.session.Session.return_faulty.Goals as goal
