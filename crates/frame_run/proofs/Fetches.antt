@@ -1,9 +1,9 @@
 -- What comes when more is fetched.
-use Rattle.std.proofs.Common.{◌≡◌, ℕ, ◌+◌, ◌≤◌, List, [], ◌∷◌, ◌++◌, length, take, drop, refl, sym, ap, ◌∙◌}
-use Rattle.std.proofs.Common.{subst, arith, length-take-le, length-append, length-drop, append_assoc, false, Bool}
+use Rattle.std.proofs.Common.{◌≡◌, ℕ, ◌+◌, ◌≤◌, List, [], ◌++◌, length, take, drop, refl, sym, ap, ◌∙◌}
+use Rattle.std.proofs.Common.{subst, arith, length-append, length-drop, append_assoc, false, Bool}
 use Rattle.std.specs.Prelude.{Option, Some, None}
 use Rattle.std.specs.Io.KnownBytes.{Consumes, IsAtEnd}
-use Rattle.std.proofs.lemmas.List.{take-take, take-append-le, append-nil}
+use Rattle.std.proofs.lemmas.List.{take-take, take-append-le, append-nil, nil_from_length}
 use Rattle.std.proofs.lemmas.List.Sums.{prefix_len-le-length}
 use Rattle.fix_fields.specs.Frames.{is_line_end}
 use Rattle.fix_fields.specs.Found.{Finds}
@@ -21,9 +21,6 @@ pub front_of_room : (room w : List ℕ) (n : ℕ) → n ≤ length w → length 
 front_of_room room w n few same =
     take-take n (length room) (w ++ drop (length w) room) (omega (arith, same))
     ∙ take-append-le n w (drop (length w) room) few
-
-pub length_of_front : (w : List ℕ) (n : ℕ) → n ≤ length w → length (take n w) ≡ n
-length_of_front w n few = length-take-le n w few
 
 pub consumes_none : (left : Option (List ℕ)) → Consumes left left []
 consumes_none None = tt
@@ -138,7 +135,6 @@ pub fails_ahead : (left left_between left_after : Option (List ℕ))
     → after.held ≡ middle.held → after.base ≡ middle.base
     → FailsAhead left left_after before after
 fails_ahead left left_between left_after before middle after next m none finds may held base =
-    let F : List ℕ → Type 0 = λ l. Finds l 0 next in
     record {
       more = m.more;
       next = next;
@@ -147,16 +143,12 @@ fails_ahead left left_between left_after before middle after next m none finds m
       holds = λ bytes place h.
           holds_same (bytes ++ m.more) place middle after (m.holds bytes place h) held base;
       few = omega (arith, m.few, base, ap length held);
-      finds = subst F (sym held) finds;
+      finds = rw held finds;
       may = may;
     }
-
-empty : (piece : List ℕ) → length piece ≡ 0 → piece ≡ []
-empty [] none = refl
-empty (x ∷ piece) none = absurd (omega arith)
 
 -- what is held stays where nothing was fetched
 pub held_same : (left left_after : Option (List ℕ)) (before after : BufferValue) (count most : ℕ)
     → FetchesInto left left_after before after count most → count ≡ 0 → after.held ≡ before.held
 held_same left left_after before after count most f none =
-    f.held ∙ ap (λ l. before.held ++ l) (empty f.piece (f.counted ∙ none)) ∙ append-nil before.held
+    f.held ∙ ap (λ l. before.held ++ l) (nil_from_length f.piece (f.counted ∙ none)) ∙ append-nil before.held

@@ -1,9 +1,8 @@
 -- The frames of what has come, as the run goes on and where it stops.
-use Rattle.std.proofs.Common.{◌≡◌, ℕ, ◌+◌, ◌-◌, ◌≤◌, ◌<◌, List, [], ◌∷◌, ◌++◌, length, take, drop, sym}
-use Rattle.std.proofs.Common.{ap, ◌∙◌, subst, Bool, true, false, arith, inl, inr, append_assoc}
-use Rattle.std.proofs.Common.{length-append, length-drop}
+use Rattle.std.proofs.Common.{◌≡◌, ℕ, ◌+◌, ◌-◌, ◌≤◌, ◌<◌, List, [], ◌∷◌, ◌++◌, length, take, drop}
+use Rattle.std.proofs.Common.{sym, ap, ◌∙◌, subst, true, false, arith, inl, inr, append_assoc}
+use Rattle.std.proofs.Common.{length-append, length-drop, Option, Some, None, nat_lt, ◌⊎◌}
 use Rattle.std.proofs.lemmas.Bool.{lt-ltb, le-ltb}
-use Rattle.std.specs.Prelude.{Option, Some, None, nat_lt, ◌⊎◌}
 use Rattle.std.specs.Io.KnownBytes.{Consumes}
 use Rattle.std.proofs.lemmas.List.{append-nil, take_at, take_all, drop-append-le, drop-drop}
 use Rattle.std.proofs.lemmas.List.{take-append-le}
@@ -48,8 +47,7 @@ pub record EndsWithin (bytes : List ℕ) (f : Frame) : Type 0 where
 pub frame_ends_within : (bytes : List ℕ) (f : Frame) (next : Found) → next ≡ found.Frame f
     → Finds bytes 0 next → EndsWithin bytes f
 frame_ends_within bytes f next is finds =
-    let F : Found → Type 0 = λ n. Finds bytes 0 n in
-    let at = subst F is finds in
+    let at = rw is at finds in
     let w = frame_within bytes 0 (frame_value f at.0) f.body_from f.body_to at.1 in
     record { some = omega (arith, w.some); inside = w.inside }
 
@@ -162,8 +160,7 @@ module _ {T : Type 0} (Took : Leads T) where
     pub next_frame : (f : Frame) → ahead.next ≡ found.Frame f → NextFrame f
     next_frame f is =
         let come = comes_to in
-        let F : Found → Type 0 = λ n. Finds after.held 0 n in
-        let finds = subst F is look.finds in
+        let finds = rw is at (look.finds) in
         record {
           fields = finds.0;
           frame_is = λ more. record {
@@ -190,21 +187,18 @@ module _ {T : Type 0} (Took : Leads T) where
         → passed ≡ without_front f.end after → Streams Took start next left left_after passed
     streams_on passed f window next is held takes front =
         let come = comes_to in
-        let F : Found → Type 0 = λ n. Finds after.held 0 n in
-        let finds = subst F is look.finds in
+        let finds = rw is at (look.finds) in
         let stands = next_frame f is in
         let inside = frame_ends_within after.held f ahead.next is look.finds in
         let one : FrameValue = frame_value (moved_frame after.base f) stands.fields in
         let ends : place_after 0 (come.frames ++ one ∷ []) ≡ one.end =
         place_after-snoc 0 come.frames one in
-        let P : BufferValue → Type 0 = λ b. Streams Took start next left left_after b in
-        let H : ℕ → Type 0 = λ place. HoldsRest come.fetched place (without_front f.end after) in
         let size = length-drop f.end after.held in
-        subst P (sym front) (record {
+        rw front (record {
           fetched = come.fetched;
           frames = come.frames ++ one ∷ [];
           taken = taken_before f is;
-          holds = subst H (sym ends)
+          holds = rw ends
               (holds_pass come.fetched (place_after 0 come.frames) after f come.holds finds);
           few = omega (arith, look.few, inside.inside, size);
           split = stands.split;
@@ -216,10 +210,8 @@ module _ {T : Type 0} (Took : Leads T) where
             come.holds.after,
             inside.some,
           );
-          took = λ more.
-              let W : List ℕ → Type 0 = λ l. IsSameFrame l f (come.fetched ++ more) one in
-              takes (come.fetched ++ more) start come.frames one (subst W (sym held)
-              (stands.frame_is more)) (come.took more);
+          took = λ more. takes (come.fetched ++ more) start come.frames one
+              (rw held (stands.frame_is more)) (come.took more);
         })
 
     -- the frame was refused
@@ -236,10 +228,7 @@ module _ {T : Type 0} (Took : Leads T) where
         one = frame_value (moved_frame after.base f) stands.fields
 
         of_window : IsSameFrame window f comes_to.fetched one
-        of_window =
-            let W : List ℕ → Type 0 = λ l. IsSameFrame l f comes_to.fetched one in
-            let I : List ℕ → Type 0 = λ l. IsSameFrame after.held f l one in
-            subst W (sym held) (subst I (append-nil comes_to.fetched) (stands.frame_is []))
+        of_window = rw held (rw (append-nil comes_to.fetched) at (stands.frame_is []))
 
         took : Took comes_to.fetched start comes_to.frames now
         took = takes_all start now comes_to.fetched comes_to.frames comes_to.took
@@ -388,13 +377,10 @@ module _ {T : Type 0} (Took : Leads T) where
   pub stops_by_input : (Stopped : PortFault → Leads T) (start now : T)
       (left left_after : Option (List ℕ)) (end : End) → IsByInput end
       → StopsBy Took Stopped start now left left_after end
-  stops_by_input Stopped start now left left_after ending.Whole by = tt
-  stops_by_input Stopped start now left left_after (ending.Cut place) by = tt
-  stops_by_input Stopped start now left left_after (ending.Broken place) by = tt
-  stops_by_input Stopped start now left left_after (ending.TooLong place) by = tt
   stops_by_input Stopped start now left left_after ending.ReadFault by = absurd by
   stops_by_input Stopped start now left left_after ending.WriteFault by = absurd by
   stops_by_input Stopped start now left left_after ending.Memory by = absurd by
+  stops_by_input Stopped start now left left_after _ by = tt
 
   -- the frames of the input were taken, up to what ends the run
   takes_input : (start now : T) (bytes input : List ℕ) (frames : List FrameValue) (next : Found)
@@ -438,12 +424,11 @@ module _ {T : Type 0} (Took : Leads T) where
           ∙ ap (λ o. come.fetched ++ o) (look.within stops) ∙ append-nil come.fetched in
           let on : nat_lt input_most (length bytes) ≡ false =
           le-ltb input_most (length bytes) (omega (arith, ap length all, come.size, look.few)) in
-          let E : Bool → Type 0 = λ b. EndsBy b next end in
           takes_input start now bytes come.fetched come.frames next end
           (ap (take input_most) all
           ∙ take_all input_most come.fetched (omega (arith, come.size, look.few)))
           come.split come.finds (takes_all start now come.fetched come.frames come.took)
-          (subst E (stops ∙ sym on) end_is)
+          (rw on (rw stops at end_is))
       by_open stops (inr settled) =
           let all : bytes ≡ come.fetched ++ rest = come.taken
           ∙ ap (λ o. (come.fetched ++ o) ++ rest) (look.within stops)
@@ -471,10 +456,9 @@ module _ {T : Type 0} (Took : Leads T) where
             p.1,
             come.size,
           )) in
-          let E : Bool → Type 0 = λ b. EndsBy b next end in
           takes_input start now bytes come.fetched come.frames next end
           (ap (take input_most) (come.taken ∙ append_assoc come.fetched look.over rest)
           ∙ take_at come.fetched (look.over ++ rest) input_most (come.size ∙ p.1))
           come.split come.finds (takes_all start now come.fetched come.frames come.took)
-          (subst E (goes ∙ sym on) end_is)
+          (rw on (rw goes at end_is))
       by_goes_on (inr stops) = by_open stops (open_or_settled after.base ahead.next)

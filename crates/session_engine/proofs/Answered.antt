@@ -1,10 +1,9 @@
 -- A session that decided, told and gave has taken its frame.
-use Rattle.std.proofs.Common.{◌≡◌, ℕ, ◌+◌, List, [], ◌∷◌, ◌++◌, map, refl, sym, ap, ◌∙◌, subst, codes}
-use Rattle.std.proofs.Common.{arith, inl, inr}
-use Rattle.std.specs.Prelude.{Option, Some, None, true}
+use Rattle.std.proofs.Common.{◌≡◌, ℕ, ◌+◌, List, [], ◌∷◌, ◌++◌, map, refl, sym, ap, ◌∙◌, arith, inl}
+use Rattle.std.proofs.Common.{inr, Option, Some, None, true}
 use Rattle.std.specs.Io.KnownBytes.{Appends}
 use Rattle.exposure_book.specs.Books.{BookValue}
-use Rattle.gate_ports.specs.Faults.{HasCause, Rose}
+use Rattle.gate_ports.specs.Faults.{HasCause}
 use Rattle.fix_fields.specs.Fields.{FieldValue}
 use Rattle.fix_fields.specs.Places.{HasFieldsIn}
 use Rattle.screen_kit.specs.Screens.{ScreenValue}
@@ -51,14 +50,8 @@ module _ {H M K : Type 0} (meaning : K → ScreenValue) where
       (given told venue told.client.held)
   sent_answer wording fields (Some why) time now told venue stamp told_is is stamp_is gives =
       absurd cc
-  sent_answer wording fields None time now told venue stamp told_is is stamp_is gives = (
-    subst (λ (c : Counts). Appends told.venue.held venue
-        (forward_text (codes "VENUE") c.venue fields))
-        (sym (ap (λ (r : Running H M K). r.counts) told_is))
-        (subst (λ (s : Stamp). Appends told.venue.held venue
-        (forward_text s.target s.seq fields)) stamp_is gives),
-    refl,
-  )
+  sent_answer wording fields None time now told venue stamp told_is is stamp_is gives =
+      (rw told_is (rw (stamp_is, told_is) at gives), refl)
 
   -- and so is what refuses it
   pub refused_answer : (wording : Wording) (fields : List FieldValue) (refusal : Option Refusal)
@@ -73,15 +66,7 @@ module _ {H M K : Type 0} (meaning : K → ScreenValue) where
   refused_answer wording fields (Some other) why time now told client stamp told_is is stamp_is
       gives =
       let same : why ≡ other = cc in
-      let R : Running H M K → Type 0 = λ r. Appends told.client.held client
-      (wording r.client_id r.counts.client fields other) in (
-        refl,
-        subst R (sym told_is)
-            (subst (λ (s : Stamp). Appends told.client.held client
-            (wording s.target s.seq fields other)) stamp_is
-            (subst (λ (r : Refusal). Appends told.client.held client
-            (wording stamp.target stamp.seq fields r)) same gives)),
-      )
+      (refl, rw told_is (rw (same, stamp_is, told_is) at gives))
 
 -- a request that is sent has the next message to the venue
 number_sent : (refusal : Option Refusal) (counts : Counts) → refusal ≡ None
@@ -130,16 +115,10 @@ module _ {H M K : Type 0} (meaning : K → ScreenValue) (full failed : Type 0) (
       (given meaning told venue client)
       → IsAnswered asked.wording fields answer (kept_of meaning before)
       (given meaning told venue client)
-  answered_from venue client None fields venue_is client_is is = (
-    subst (λ v. Appends v venue (forward_text (codes "VENUE") told.counts.venue fields))
-        venue_is is.0,
-    is.1 ∙ client_is,
-  )
-  answered_from venue client (Some why) fields venue_is client_is is = (
-    is.0 ∙ venue_is,
-    subst (λ v. Appends v client (asked.wording told.client_id told.counts.client fields why))
-        client_is is.1,
-  )
+  answered_from venue client None fields venue_is client_is is =
+      (rw venue_is at (is.0), is.1 ∙ client_is)
+  answered_from venue client (Some why) fields venue_is client_is is =
+      (is.0 ∙ venue_is, rw client_is at (is.1))
 
   -- and answered
   request_taken : (venue client : Option (List ℕ))
@@ -149,15 +128,11 @@ module _ {H M K : Type 0} (meaning : K → ScreenValue) (full failed : Type 0) (
       → TakesSound before.desk.limits sound (kept_of meaning before)
       (given meaning told venue client)
   request_taken venue client answered fields has session stands =
-      let told_too = subst (TellsAnswer refusal asked.head.sender
-      (record before { desk = decided })) (sym told_is) tells in
+      let told_too = rw (← told_is) at tells in
       takes_request before.desk.limits fields asked session (facts fields has)
       (reads.each fields has) (kept_of meaning before) (given meaning told venue client) stands
       decided.hands.acts refusal (record {
-        decides = subst (λ b. Decides
-            (asked.decide before.desk.limits (map meaning before.desk.screens))
-            before.desk.hands.acts decided.hands.acts before.desk.book.value b refusal)
-            (sym (ap (λ (r : Running H M K). r.desk.book.value) told_too.others)) decides;
+        decides = rw (ap (λ (r : Running H M K). r.desk.book.value) told_too.others) decides;
         acts = told_too.acts
             ∙ ap (λ l. acts_tripped l refusal before.counts.firms decided.hands.acts
             ++ answer_act before.counts.frames refusal ∷ []) limits;
@@ -172,8 +147,7 @@ module _ {H M K : Type 0} (meaning : K → ScreenValue) (full failed : Type 0) (
   -- what holds from the session before holds from the session itself
   taken_from : (after : Running H M K) → TakesFront meaning sound full failed before after
       → TakesFront meaning sound full failed own after
-  taken_from after =
-      subst (λ (r : Running H M K). TakesFront meaning sound full failed r after) before_is
+  taken_from after takes = rw before_is at takes
 
   -- the answer went to the venue, or a front of it
   pub sent_taken : (after : SinkValue) (stamp : Stamp) → refusal ≡ None
@@ -184,7 +158,6 @@ module _ {H M K : Type 0} (meaning : K → ScreenValue) (full failed : Type 0) (
   sent_taken after stamp is stamp_is gives cause =
       let same : told.venue ≡ before.venue = ap (λ (r : Running H M K). r.venue) told_is
       ∙ ap (λ (r : Running H M K). r.venue) tells.others in
-      let R : SinkValue → Type 0 = λ s. Rose s.faults after.faults in
       taken_from (record told { venue = after }) (record {
         venue = gives.whole;
         client = told.client.held;
@@ -193,9 +166,8 @@ module _ {H M K : Type 0} (meaning : K → ScreenValue) (full failed : Type 0) (
             gives.whole stamp told_is is stamp_is (gives.says fields has));
         gives = inl (
           record {
-            front = subst (λ (s : SinkValue). GivesFront full s.held after.held gives.whole) same
-                gives.front;
-            rose = λ has. subst R same (cause.rose has);
+            front = rw same at (gives.front);
+            rose = λ has. rw same at (cause.rose has);
             next = λ has. ap (λ (r : Running H M K). r.counts.venue) told_is
                 ∙ ap (λ (c : Counts). c.venue) tells.counts
                 ∙ number_sent refusal before.counts is;
@@ -217,7 +189,6 @@ module _ {H M K : Type 0} (meaning : K → ScreenValue) (full failed : Type 0) (
   refused_taken after whole stamp why is stamp_is front says cause =
       let same : told.client ≡ before.client = ap (λ (r : Running H M K). r.client) told_is
       ∙ ap (λ (r : Running H M K). r.client) tells.others in
-      let R : SinkValue → Type 0 = λ s. Rose s.faults after.faults in
       let time = ap (λ (s : Stamp). s.time) stamp_is
       ∙ answer_time refusal asked.head.time now.client_id now.counts in
       taken_from (record told { client = after }) (record {
@@ -229,8 +200,8 @@ module _ {H M K : Type 0} (meaning : K → ScreenValue) (full failed : Type 0) (
             (says fields has (time ∙ (facts fields has).time)));
         gives = inr (
           record {
-            front = subst (λ (s : SinkValue). GivesFront full s.held after.held whole) same front;
-            rose = λ has. subst R same (cause.rose has);
+            front = rw same at front;
+            rose = λ has. rw same at (cause.rose has);
             next = λ has. ap (λ (r : Running H M K). r.counts.client) told_is
                 ∙ ap (λ (c : Counts). c.client) tells.counts
                 ∙ number_refused refusal why before.counts is;
@@ -272,9 +243,7 @@ module _ {H M K : Type 0} (meaning : K → ScreenValue) (full failed : Type 0) (
         counts = ap (λ (r : Running H M K). r.counts) others;
         client_id = ap (λ (r : Running H M K). r.client_id) others;
         venue = ap (λ (r : Running H M K). r.venue.held) others;
-        client = subst (λ v. Appends v client
-            (forward_text now.client_id now.counts.client fields))
-            (ap (λ (r : Running H M K). r.client.held) others) (passed fields has);
+        client = rw (ap (λ (r : Running H M K). r.client.held) others) at (passed fields has);
       })
 
   -- it went on to the client, or a front of it
@@ -288,22 +257,14 @@ module _ {H M K : Type 0} (meaning : K → ScreenValue) (full failed : Type 0) (
       let client_is : told.client ≡ now.client = ap (λ (r : Running H M K). r.client) told_is in
       let same : told.client ≡ before.client = client_is
       ∙ ap (λ (r : Running H M K). r.client) others in
-      let R : SinkValue → Type 0 = λ s. Rose s.faults after.faults in
-      let S : SinkValue → Type 0 = λ s. (fields : List FieldValue)
-      → HasFieldsIn sound.bytes sound.frame fields
-      → Appends s.held whole (forward_text now.client_id now.counts.client fields) in
-      let N : Running H M K → Type 0 = λ r. TakesSound before.desk.limits sound
-      (kept_of meaning before) (given meaning r r.venue.held whole) in
-      let T : Running H M K → Type 0 = λ r. TakesFront meaning sound full failed r
-      (record told { client = after }) in
-      subst T before_is (record {
+      rw (← before_is) (record {
         venue = told.venue.held;
         client = whole;
-        taken = subst N (sym told_is) (passed_taken whole (subst S client_is passed));
+        taken = rw told_is (passed_taken whole (λ fields has. rw client_is at (passed fields has)));
         gives = inr (
           record {
-            front = subst (λ (s : SinkValue). GivesFront full s.held after.held whole) same front;
-            rose = λ has. subst R same (cause.rose has);
+            front = rw same at front;
+            rose = λ has. rw same at (cause.rose has);
             next = λ has. ap (λ (r : Running H M K). r.counts.client) told_is
                 ∙ ap (λ (r : Running H M K). r.counts.client) others;
           },
@@ -323,11 +284,7 @@ pub continues_answered : {H M K : Type 0} (SameSum : H → H → Type 0) (SameHa
     → Continues SameSum SameHalt own (record told { client = client }) frame_acts
 continues_answered {H} {M} {K} SameSum SameHalt next_sum next_halt own before decided now told
     client before_is told_is later tells gives =
-    let C : Running H M K → Type 0 = λ r. Continues SameSum SameHalt r
-    (record told { client = client }) frame_acts in
-    let T : Running H M K → Type 0 = λ r. Continues SameSum SameHalt
-    (record before { desk = decided }) r 2 in
-    let told_too = subst T (sym told_is) tells in
+    let told_too = rw (← told_is) at tells in
     let all : Continues SameSum SameHalt before told frame_acts =
     continues_then SameSum SameHalt next_sum next_halt before (record before { desk = decided })
     told 10 2 frame_acts (record {
@@ -335,7 +292,7 @@ continues_answered {H} {M} {K} SameSum SameHalt next_sum next_halt own before de
       venue_is = same_sink before.venue;
       client_is = same_sink before.client;
     }) told_too (omega arith) in
-    subst C before_is (record {
+    rw (← before_is) (record {
       desk_is = all.desk_is;
       venue_is = all.venue_is;
       client_is = later_sink before.client told.client client all.client_is gives;

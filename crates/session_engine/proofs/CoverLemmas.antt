@@ -1,7 +1,8 @@
 -- After each frame what is posted backs the orders of the book, and it is admitted; and the halt tree was
 -- tripped once where as many requests as the trip number were refused as Firm, and never else.
-use Rattle.std.proofs.Common.{List, [], ◌∷◌, ◌++◌, ◌∙◌}
+use Rattle.std.proofs.Common.{◌≡◌, ℕ, List, [], ◌∷◌, ◌++◌, ◌∙◌}
 use Rattle.std.specs.Prelude.{Bool, true, false, Option, Some, None, Result, Ok, Err}
+use Rattle.exposure_book.specs.Books.{BookValue}
 use Rattle.fix_fields.specs.Fields.{FieldValue}
 use Rattle.fix_fields.specs.Frames.{FrameValue}
 use Rattle.fix_orders.specs.declared.message.FieldFault.{FieldFault}
@@ -10,7 +11,7 @@ use Rattle.fix_orders.specs.declared.message.Message.TheVariants as message
 use Rattle.fix_orders.specs.Reading.{read_of}
 use Rattle.risk_journal.specs.declared.acts.Act.{Act}
 use Rattle.risk_journal.specs.declared.acts.Act.TheVariants.{Sent, Refused, Noted}
-use Rattle.risk_journal.specs.ActLists.{SeenAt}
+use Rattle.risk_journal.specs.ActLists.{SeenAt, posts_in}
 use Rattle.screen_kit.specs.Screens.{ScreenValue}
 use Rattle.order_desk.specs.declared.effect.Effect.{Effect}
 use Rattle.order_desk.specs.declared.effect.Effect.TheVariants as effect
@@ -37,14 +38,18 @@ use Rattle.session_engine.specs.Session.{LimitsValue, SessionValue, opening, tap
 use Rattle.session_engine.specs.Session.{decided, after_trip, after_decision, after_noting}
 use Rattle.session_engine.specs.Session.{after_effect, after_settling, after_fault, named, asks}
 use Rattle.session_engine.specs.Session.{after_message, after_result, after_content, after_frame}
-use Rattle.session_engine.specs.Session.{taken_up}
-use Rattle.session_engine.specs.Session.{after_frames, with_asked}
+use Rattle.session_engine.specs.Session.{taken_up, after_frames, with_asked}
+use Rattle.session_engine.specs.Trips.{trips_by}
 use Rattle.session_engine.proofs.TripLemmas.{covers_refused, no_trip, tripped_posts}
 
 -- the orders of the book are covered, and the halt tree was tripped as often as it is to be
-record IsRight (limits : LimitsValue) (session : SessionValue) : Type 0 where
-  covers : CoversOrders limits session
-  trips : TripsOnce limits session
+record AreRight (limits : LimitsValue) (acts : List Act) (book : BookValue) (firms : ℕ)
+    : Type 0 where
+  covers : Covers limits acts book
+  trips : posts_in (halt_tree limits) acts ≡ trips_by limits.trip firms
+
+abbrev IsRight : LimitsValue → SessionValue → Type 0
+IsRight limits session = AreRight limits session.acts session.book session.firms
 
 module _ (limits : LimitsValue) where
   -- an act that is no call
@@ -58,12 +63,9 @@ module _ (limits : LimitsValue) where
   answered : (wording : Wording) (fields : List FieldValue) (answer : Option Refusal)
       (session : SessionValue) → IsRight limits session
       → IsRight limits (after_answer wording fields answer session)
-  answered wording fields None session own =
-      let next = told session (Sent session.frames) tt own in
-      record { covers = next.covers; trips = next.trips }
+  answered wording fields None session own = told session (Sent session.frames) tt own
   answered wording fields (Some why) session own =
-      let next = told session (refused_act session.frames why) tt own in
-      record { covers = next.covers; trips = next.trips }
+      told session (refused_act session.frames why) tt own
 
   right_decided : (wording : Wording) (fields : List FieldValue) (decision : Decision)
       (session : SessionValue) → Covers limits decision.tape.acts decision.book
@@ -93,21 +95,16 @@ module _ (limits : LimitsValue) where
       → Covers limits settled.acts settled.book → KeepsHalt limits session.acts settled.acts
       → IsRight limits session → IsRight limits (after_settling fields settled session)
   right_settled fields settled session covers keeps own =
-      let next = right_effect settled.effect
-      (record session { acts = settled.acts; book = settled.book })
-      (record { covers = covers; trips = keeps ∙ own.trips }) in
-      record { covers = next.covers; trips = next.trips }
+      right_effect settled.effect (record session { acts = settled.acts; book = settled.book })
+      (record { covers = covers; trips = keeps ∙ own.trips })
 
   right_fault : (request : Bool) (fields : List FieldValue) (fault : FieldFault)
       (session : SessionValue) → IsRight limits session
       → IsRight limits (after_fault request fields fault session)
   right_fault true fields fault session own =
-      let next = told session (Refused session.frames fault_code fault.tag fault.reason) tt own in
-      record { covers = next.covers; trips = next.trips }
+      told session (Refused session.frames fault_code fault.tag fault.reason) tt own
   right_fault false fields fault session own =
-      let act = Noted session.frames (note_code note.FaultyField) fault.tag fault.reason in
-      let next = told session act tt own in
-      record { covers = next.covers; trips = next.trips }
+      told session (Noted session.frames (note_code note.FaultyField) fault.tag fault.reason) tt own
 
   right_message : (fields : List FieldValue) (whole : Message) (session : SessionValue)
       → IsRight limits session → IsRight limits (after_message limits fields whole session)
@@ -116,8 +113,7 @@ module _ (limits : LimitsValue) where
       (new_screened limits order session.screens session.book (tape_of session))
       (with_asked (new_offer limits order session.book) session)
       (new_covers limits order session.screens session.book (tape_of session) own.covers)
-      (new_keeps limits order session.screens session.book (tape_of session))
-      (record { covers = own.covers; trips = own.trips })
+      (new_keeps limits order session.screens session.book (tape_of session)) own
   right_message fields (message.Cancel request) session own =
       right_decided cancel_refusal fields
       (cancel_decided request session.book (tape_of session)) session
@@ -128,8 +124,7 @@ module _ (limits : LimitsValue) where
       (replace_screened limits request session.screens session.book (tape_of session))
       (with_asked (replace_offer limits request session.book) session)
       (replace_covers limits request session.screens session.book (tape_of session) own.covers)
-      (replace_keeps limits request session.screens session.book (tape_of session) own.covers)
-      (record { covers = own.covers; trips = own.trips })
+      (replace_keeps limits request session.screens session.book (tape_of session) own.covers) own
   right_message fields (message.Report report) session own =
       right_settled fields (report_settled limits report session.book session.acts) session
       (report_covers limits session.acts session.book own.covers report)
@@ -152,16 +147,14 @@ module _ (limits : LimitsValue) where
   right_content None session own = noted note.NotSound session own
   right_content (Some fields) session own =
       right_result (asks fields) fields (read_of fields)
-      (named (asks fields) fields (taken_up limits fields session))
-      (record { covers = own.covers; trips = own.trips })
+      (named (asks fields) fields (taken_up limits fields session)) own
 
   right_frames : (frames : List FrameValue) (session : SessionValue) → IsRight limits session
       → IsRight limits (after_frames limits session frames)
   right_frames [] session own = own
   right_frames (frame ∷ frames) session own =
-      let next = right_content frame.fields session own in
       right_frames frames (after_frame limits frame.fields session)
-      (record { covers = next.covers; trips = next.trips })
+      (right_content frame.fields session own)
 
   module _ (screens : List ScreenValue) (reads : List SeenAt) (frames : List FrameValue) where
     right : IsRight limits (after_frames limits (opening limits screens reads) frames)

@@ -1,7 +1,6 @@
 -- A message with a field fault: a request is refused, and a report is sent back.
-use Rattle.std.proofs.Common.{◌≡◌, ℕ, ◌+◌, List, [], ◌∷◌, ◌++◌, length, refl, sym, ap, ◌∙◌, subst}
-use Rattle.std.proofs.Common.{true, false, codes, arith}
-use Rattle.std.specs.Prelude.{Option, Some, None, Err}
+use Rattle.std.proofs.Common.{◌≡◌, ℕ, ◌+◌, List, [], ◌∷◌, ◌++◌, length, refl, sym, ap, ◌∙◌, true}
+use Rattle.std.proofs.Common.{false, codes, Option, Some, None, Err}
 use Rattle.std.specs.Io.KnownBytes.{Appends}
 use Rattle.fix_fields.specs.Fields.{FieldValue}
 use Rattle.fix_orders.specs.declared.message.FieldFault.{FieldFault}

@@ -1,7 +1,6 @@
 -- What is known of a message that was read.
-use Rattle.std.proofs.Common.{◌≡◌, ℕ, List, [], ◌∷◌, length, refl, sym, ap, ◌∙◌, subst, arith}
-use Rattle.std.proofs.Common.{Bool, true, ◌||◌, ◌==◌}
-use Rattle.std.specs.Prelude.{Some, None, Ok, nat_lt}
+use Rattle.std.proofs.Common.{◌≡◌, ℕ, List, [], ◌∷◌, length, refl, sym, ap, ◌∙◌, subst, arith, Bool}
+use Rattle.std.proofs.Common.{true, ◌||◌, ◌==◌, Some, None, Ok, nat_lt}
 use Rattle.std.specs.List.{list_all}
 use Rattle.fix_fields.specs.Fields.{FieldValue}
 use Rattle.fix_fields.specs.Numbers.{is_printable}

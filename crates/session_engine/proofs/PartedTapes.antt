@@ -1,7 +1,6 @@
 -- Tapes with the same acts and other reads: what is asked goes alike, or parts at a read.
 use Rattle.std.proofs.Common.{◌≡◌, ◌≢◌, ◌⊎◌, inl, inr, ⊎_elim, ℕ, List, [], ◌∷◌, ◌++◌, fold, drop}
-use Rattle.std.proofs.Common.{refl, sym, ap, ◌∙◌, subst, append_assoc}
-use Rattle.std.specs.Prelude.{Bool, true, false, nat_lt, if◌then◌else◌}
+use Rattle.std.proofs.Common.{refl, sym, ap, ◌∙◌, subst, append_assoc, Bool, true, false}
 use Rattle.std.proofs.lemmas.Bool.{cases_eq}
 use Rattle.risk_journal.specs.declared.acts.Act.{Act}
 use Rattle.risk_journal.specs.ActLists.{SeenAt}
@@ -144,29 +143,19 @@ first_above_alike : (legs : List Leg) (reads others : List SeenAt)
     → AnswerAlike (trees_of legs) reads others → first_above legs reads ≡ first_above legs others
 first_above_alike [] reads others alike = refl
 first_above_alike (leg ∷ legs) reads others alike =
-    ap (λ (seen : SeenAt). if nat_lt leg.limit seen.value then leg.above
-    else first_above legs (drop 1 reads)) alike.0
-    ∙ ap (λ later. if nat_lt leg.limit (next_read others).value then leg.above else later)
-    (first_above_alike legs (drop 1 reads) (drop 1 others) alike.1)
+    rw (alike.0, first_above_alike legs (drop 1 reads) (drop 1 others) alike.1) refl
 
 verdict_of_alike : (limits : LimitsValue) (legs : List Leg) (reads others : List SeenAt)
     → AnswerAlike (roots_of limits legs) reads others
     → verdict_of legs reads ≡ verdict_of legs others
 verdict_of_alike limits legs reads others alike =
-    ap (λ (seen : SeenAt). if nat_lt 0 seen.value then verdict.Halt
-    else first_above legs (drop 1 reads)) alike.0
-    ∙ ap (λ later. if nat_lt 0 (next_read others).value then verdict.Halt else later)
-    (first_above_alike legs (drop 1 reads) (drop 1 others) alike.1)
+    rw (alike.0, first_above_alike legs (drop 1 reads) (drop 1 others) alike.1) refl
 
 settling : (legs : List Leg) (answer : Verdict) (acts : List Act) (reads others : List SeenAt)
     → settled legs answer (tape acts others)
     ≡ record (settled legs answer (tape acts reads)) { reads = others }
 settling legs verdict.Sent acts reads others = refl
-settling legs verdict.Firm acts reads others = posting_all (λ leg. leg.old) legs acts reads others
-settling legs verdict.Account acts reads others = posting_all (λ leg. leg.old) legs acts reads others
-settling legs verdict.Symbol acts reads others = posting_all (λ leg. leg.old) legs acts reads others
-settling legs verdict.Halt acts reads others = posting_all (λ leg. leg.old) legs acts reads others
-settling legs verdict.Quota acts reads others = posting_all (λ leg. leg.old) legs acts reads others
+settling legs _ acts reads others = posting_all (λ leg. leg.old) legs acts reads others
 
 -- what is asked goes alike, or parts at a read
 abbrev pub AskAlikeOrPart : Asked → Asked → Type 0

@@ -1,6 +1,5 @@
 -- What a session did that a fault ended doesn't know the places of reads either.
-use Rattle.std.proofs.Common.{◌≡◌, ℕ, ◌+◌, List, length, map, take, sym, ap, ◌∙◌, inl, inr, ⊎_elim}
-use Rattle.std.specs.Prelude.{Option}
+use Rattle.std.proofs.Common.{◌≡◌, ℕ, List, map, take, sym, ap, ◌∙◌, inl, inr, Option}
 use Rattle.std.specs.List.{concat}
 use Rattle.fix_fields.specs.Frames.{FrameValue}
 use Rattle.gate_ports.specs.Faults.{Rose}

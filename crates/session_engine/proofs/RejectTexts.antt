@@ -1,6 +1,5 @@
 -- The Reject of a message with a field fault.
-use Rattle.std.proofs.Common.{◌≡◌, ℕ, List, ap, ◌∙◌}
-use Rattle.std.specs.Option.{unwrap_or}
+use Rattle.std.proofs.Common.{◌≡◌, ℕ, List, refl, unwrap_or}
 use Rattle.fix_fields.specs.Fields.{FieldValue}
 use Rattle.fix_fields.specs.Messages.{message_text}
 use Rattle.fix_orders.specs.declared.envelope.Envelope.{Envelope}
@@ -18,10 +17,4 @@ pub reject_is : (fields : List FieldValue) (receiver : List ℕ) (number : ℕ) 
     → message_text (session_reject_fields (stamp_of receiver number time) seq kind fault)
     ≡ reject_text receiver number fields fault
 reject_is fields receiver number envelope time seq kind fault envelope_is time_is seq_is kind_is =
-    let text : List ℕ → ℕ → List ℕ → List ℕ = λ t n k.
-    message_text (session_reject_fields (stamp_of receiver number t) n k fault) in
-    ap (λ t. text t seq kind) time_is
-    ∙ ap (λ n. text (unwrap_or envelope.time no_time) n kind) seq_is
-    ∙ ap (text (unwrap_or envelope.time no_time) (unwrap_or envelope.seq 0)) kind_is
-    ∙ ap (λ (e : Envelope). text (unwrap_or e.time no_time) (unwrap_or e.seq 0)
-    (value_of 35 fields)) envelope_is
+    rw (time_is, seq_is, kind_is, envelope_is) refl

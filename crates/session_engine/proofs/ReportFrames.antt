@@ -1,7 +1,6 @@
 -- A report that was settled and passed on.
-use Rattle.std.proofs.Common.{◌≡◌, ℕ, ◌+◌, List, ◌++◌, length, refl, sym, ap, ◌∙◌, subst}
-use Rattle.std.proofs.Common.{false, arith}
-use Rattle.std.specs.Prelude.{Option, Some, None, Ok}
+use Rattle.std.proofs.Common.{◌≡◌, ℕ, ◌+◌, List, ◌++◌, length, refl, sym, ap, ◌∙◌, false, Option}
+use Rattle.std.proofs.Common.{Some, None, Ok}
 use Rattle.std.specs.Io.KnownBytes.{Appends}
 use Rattle.std.proofs.lemmas.List.{append-nil}
 use Rattle.fix_fields.specs.Fields.{FieldValue}
@@ -111,8 +110,7 @@ takes_report limits fields report session facts read before after stands own tol
     let receiver : session.client_id ≡ after.client_id =
     stands.client_is ∙ sym settles.client_id in
     let settled_is : report.settle limits session.book session.acts ≡ done =
-    ap (λ b. report.settle limits b session.acts) s.book_is
-    ∙ ap (report.settle limits before.book) s.acts_are ∙ settles.settled in
+    rw (s.book_is, s.acts_are) settles.settled in
     let from : List SeenAt → SessionValue = λ more. named false fields (with_reads more session) in
     let stepped : (more : List SeenAt) → with_frame (after_sound limits fields) (with_reads more session)
     ≡ with_reads more (next_by acts

@@ -1,8 +1,6 @@
 -- A request that was decided on and answered.
 use Rattle.std.proofs.Common.{◌≡◌, ℕ, ◌+◌, List, [], ◌∷◌, ◌++◌, length, refl, sym, ap, ◌∙◌, subst}
-use Rattle.std.proofs.Common.{true, codes, arith}
-use Rattle.std.specs.Prelude.{Option, Some, None, Ok}
-use Rattle.std.specs.Option.{unwrap_or}
+use Rattle.std.proofs.Common.{true, codes, Option, Some, None, Ok, unwrap_or}
 use Rattle.std.specs.Io.KnownBytes.{Appends}
 use Rattle.std.proofs.lemmas.List.{append-nil}
 use Rattle.exposure_book.specs.Books.{BookValue}
@@ -35,8 +33,7 @@ use Rattle.session_engine.specs.Taken.{answer_act, counts_answered, counts_decid
 use Rattle.session_engine.specs.Trips.{acts_tripped}
 use Rattle.session_engine.proofs.MessageFacts.{HeadFacts, head_facts}
 use Rattle.session_engine.proofs.QuietActs.{reads_tripped, answer_unread, reads_of-quiet}
-use Rattle.session_engine.proofs.TakenLemmas.{frame_by, counted, takes_next}
-use Rattle.session_engine.proofs.TakenLemmas.{appends_nothing}
+use Rattle.session_engine.proofs.TakenLemmas.{frame_by, counted, takes_next, appends_nothing}
 
 -- A request: its message and head, the message that refuses it, what is decided on it, and the screens
 -- after they were asked about it.
@@ -175,20 +172,11 @@ module _ (limits : LimitsValue) (fields : List FieldValue) (asked : Asked)
         (tape session.acts (decides.seen ++ more))
         ≡ record { refusal = refusal; tape = tape told more; book = book }
     decision_is refusal book decides more =
-        ap (λ (s : List ScreenValue). asked.decide limits s session.book
-        (tape session.acts (decides.seen ++ more))) own.screens_are
-        ∙ ap (λ b. asked.decide limits before.screens b
-        (tape session.acts (decides.seen ++ more))) own.stands.book_is
-        ∙ ap (λ l. asked.decide limits before.screens before.book
-        (tape l (decides.seen ++ more))) own.stands.acts_are
-        ∙ decides.decided more
+        rw (own.screens_are, own.stands.book_is, own.stands.acts_are) (decides.decided more)
 
     screens_are : after.screens ≡ asked.screens limits before.screens before.book
         → screens ≡ after.screens
-    screens_are is =
-        ap (λ (s : List ScreenValue). asked.screens limits s session.book) own.screens_are
-        ∙ ap (λ (b : BookValue). asked.screens limits before.screens b) own.stands.book_is
-        ∙ sym is
+    screens_are is = rw (own.screens_are, own.stands.book_is) (sym is)
 
     reads_are : (refusal : Option Refusal) (seen : List SeenAt)
         → reads_of told ≡ reads_of before.acts ++ seen
@@ -205,11 +193,7 @@ module _ (limits : LimitsValue) (fields : List FieldValue) (asked : Asked)
         ++ answer_act before.counts.frames refusal ∷ []
         → acts_tripped limits refusal session.firms told
         ++ answer_act session.frames refusal ∷ [] ≡ after.acts
-    acts_are refusal is =
-        ap (λ n. acts_tripped limits refusal session.firms told ++ answer_act n refusal ∷ [])
-        (sym own.stands.frames)
-        ∙ ap (λ n. acts_tripped limits refusal n told
-        ++ answer_act before.counts.frames refusal ∷ []) (sym own.stands.firms) ∙ sym is
+    acts_are refusal is = rw (← own.stands.frames, ← own.stands.firms) (sym is)
 
     -- a request that was sent or refused, and answered
     pub takes_request : (refusal : Option Refusal)

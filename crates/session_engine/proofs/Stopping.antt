@@ -280,9 +280,8 @@ module _ {H M K : Type 0} (meaning : K → ScreenValue) where
             few = stops.few;
             split = stops.split;
             may = stops.may;
-            acts_are = ap (λ a. a ++ Ended ending.ReadFault ∷ [])
-                (sym (ap (λ (s : SessionValue). s.acts) reached
-                ∙ stops.took.stands.stands.acts_are));
+            acts_are = rw reached (ap (λ a. a ++ Ended ending.ReadFault ∷ [])
+                (sym stops.took.stands.stands.acts_are));
             venue_is = ap concat (sym (ap (λ (s : SessionValue). s.venue) reached));
             client_is = ap concat (sym (ap (λ (s : SessionValue). s.client) reached));
             covered = λ count. covers_orders limits screens (reads_of acts)

@@ -1,9 +1,7 @@
 -- A frame that was noted, or taken up and taken, is one frame more.
-use Rattle.std.proofs.Common.{◌≡◌, ◌≤◌, ◌<◌, List, [], ◌∷◌, ◌++◌, length, map, refl, sym, ap, ◌∙◌}
+use Rattle.std.proofs.Common.{◌≡◌, ◌<◌, List, [], ◌∷◌, ◌++◌, length, map, refl, sym, ap, ◌∙◌}
 use Rattle.std.proofs.Common.{subst, true, false, arith}
 use Rattle.std.specs.Prelude.{ℕ, Option, Some, None, Result, Ok, Err, IfErr}
-use Rattle.std.specs.List.{concat}
-use Rattle.std.specs.Io.KnownBytes.{Appends}
 use Rattle.std.proofs.lemmas.Bool.{false≢true}
 use Rattle.fix_fields.specs.Fields.{FieldValue}
 use Rattle.fix_fields.specs.Frames.{FrameValue}
@@ -20,11 +18,11 @@ use Rattle.gate_ports.specs.declared.ports.PortFault.TheVariants as fault
 use Rattle.order_desk.specs.Desks.{HasRoom}
 use Rattle.session_engine.specs.declared.counts.Counts.{Counts}
 use Rattle.session_engine.specs.declared.note.Note.TheVariants as note
-use Rattle.session_engine.specs.Running.{Running, kept_of, HasTaken, IsReady, TookFrames}
-use Rattle.session_engine.specs.Running.{frame_acts, StoppedFrames, TakesFront}
+use Rattle.session_engine.specs.Running.{Running, Continues, kept_of, HasTaken, IsReady}
+use Rattle.session_engine.specs.Running.{frame_acts, TookFrames, StoppedFrames, TakesFront}
 use Rattle.session_engine.specs.Stopped.{stopped_whole}
 use Rattle.session_engine.specs.Session.{after_frame, orders_with, screens_with}
-use Rattle.session_engine.specs.Taken.{Kept, StandsAs, HasSmallCounts, TakesFrom, TakesSound}
+use Rattle.session_engine.specs.Taken.{Kept, TakesFrom, TakesSound}
 use Rattle.session_engine.specs.Taken.{counted, noted_act}
 use Rattle.session_engine.proofs.PassedFrames.{sound_takes, unsound_takes}
 use Rattle.session_engine.proofs.RunLemmas.{small_counts, trips_kept, took_next}
@@ -56,8 +54,7 @@ module _ {H M K : Type 0} (meaning : K → ScreenValue) where
       let acts : now.desk.hands.acts ≡ before.desk.hands.acts = ap (λ (k : Kept). k.acts) same in
       record {
         room = room;
-        counts = subst HasSmallCounts (sym counts)
-            (small_counts meaning start before frames took few);
+        counts = rw counts (small_counts meaning start before frames took few);
         trips = rw (limits, acts, counts) (trips_kept meaning start before frames took few);
       }
 
@@ -71,9 +68,7 @@ module _ {H M K : Type 0} (meaning : K → ScreenValue) where
       }) → sound.frame.sound ≡ true → IsFrameOf sound.bytes sound.frame fields → IsReady now
   ready_taken sound before now fields ready same counts is frame =
       let some = some_fields sound fields is frame in
-      let R : Running H M K → Type 0 = λ r. IsReady r in
-      let C : Counts → Type 0 = λ c. IsReady (with_screens now.desk.screens c before) in
-      subst R (sym same) (subst C (sym (counts some.0 some.1)) (record {
+      rw same (rw (counts some.0 some.1) (record {
         room = record {
           acts_fit = ready.room.acts_fit;
           order_fits = ready.room.order_fits;
@@ -88,38 +83,35 @@ module _ {H M K : Type 0} (meaning : K → ScreenValue) where
 
   -- a session that keeps what it kept, as room is taken, took the same frames
   pub took_kept : (start before now : Running H M K) (frames : List FrameValue)
-      → now.desk.limits ≡ before.desk.limits → kept_of meaning now ≡ kept_of meaning before
-      → before.venue.faults ≤ now.venue.faults → before.client.faults ≤ now.client.faults
+      {SameSum : H → H → Type 0} {SameHalt : M → M → Type 0} {acts : ℕ}
+      → Continues SameSum SameHalt before now acts → kept_of meaning now ≡ kept_of meaning before
       → TookFrames meaning start frames before → TookFrames meaning start frames now
-  took_kept start before now frames limits same venue client took =
-      let V : Kept → Type 0 = λ k. Appends start.venue.held k.venue (concat took.session.venue) in
-      let C : Kept → Type 0 = λ k. Appends start.client.held k.client
-      (concat took.session.client) in
-      record {
-        session = took.session;
-        reached = took.reached;
-        limits_are = limits ∙ took.limits_are;
-        stands = subst (λ (k : Kept). StandsAs k took.session) (sym same) took.stands;
-        counts = took.counts;
-        venue_grows = subst V (sym same) took.venue_grows;
-        client_grows = subst C (sym same) took.client_grows;
-        venue_later = omega (arith, took.venue_later, venue);
-        client_later = omega (arith, took.client_later, client);
-      }
+  took_kept start before now frames continues same took = record {
+    session = took.session;
+    reached = took.reached;
+    limits_are = continues.desk_is.limits_are ∙ took.limits_are;
+    stands = rw same took.stands;
+    counts = took.counts;
+    venue_grows = rw (ap (λ (k : Kept). k.venue) same) took.venue_grows;
+    client_grows = rw (ap (λ (k : Kept). k.client) same) took.client_grows;
+    venue_later = omega (arith, took.venue_later, continues.venue_is.faults_are);
+    client_later = omega (arith, took.client_later, continues.client_is.faults_are);
+  }
 
   -- a frame that isn't sound was noted
   pub took_unsound : (whole : FrameIn) (start reserved now : Running H M K)
       (frames : List FrameValue) (next : FrameValue)
-      → now.desk.limits ≡ reserved.desk.limits
-      → reserved.venue.faults ≤ now.venue.faults → reserved.client.faults ≤ now.client.faults
+      {SameSum : H → H → Type 0} {SameHalt : M → M → Type 0} {acts : ℕ}
+      → Continues SameSum SameHalt reserved now acts
       → kept_of meaning now ≡ record (kept_of meaning reserved) {
         acts = reserved.desk.hands.acts ++ noted_act note.NotSound reserved.counts.frames ∷ [];
         counts = counted reserved.counts;
       } → whole.frame.sound ≡ false → IsFrameOf whole.bytes whole.frame next.fields
       → TookFrames meaning start frames reserved
       → TookFrames meaning start (frames ++ next ∷ []) now
-  took_unsound whole start reserved now frames next limits venue client noted is frame took =
-      took_next meaning start reserved frames took now next limits venue client
+  took_unsound whole start reserved now frames next continues noted is frame took =
+      took_next meaning start reserved frames took now next continues.desk_is.limits_are
+      continues.venue_is.faults_are continues.client_is.faults_are
       (unsound_takes reserved.desk.limits whole (kept_of meaning reserved) (kept_of meaning now)
       next.fields is frame noted)
 
@@ -170,32 +162,34 @@ module _ {H M K : Type 0} (meaning : K → ScreenValue) where
 
     -- it was taken
     pub took_sound : (start now : Running H M K) (frames : List FrameValue)
-        → now.desk.limits ≡ up.desk.limits → up.venue.faults ≤ now.venue.faults
-        → up.client.faults ≤ now.client.faults → HasTaken meaning sound up now
+        {SameSum : H → H → Type 0} {SameHalt : M → M → Type 0} {acts : ℕ}
+        → Continues SameSum SameHalt up now acts → HasTaken meaning sound up now
         → TookFrames meaning start frames reserved
         → TookFrames meaning start (frames ++ next ∷ []) now
-    took_sound start now frames limits venue client taken took =
-        took_next meaning start reserved frames took now next (limits ∙ up_limits)
-        (omega (arith, venue, ap (λ (r : Running H M K). r.venue.faults) same))
-        (omega (arith, client, ap (λ (r : Running H M K). r.client.faults) same))
+    took_sound start now frames continues taken took =
+        took_next meaning start reserved frames took now next
+        (continues.desk_is.limits_are ∙ up_limits)
+        (rw same at (continues.venue_is.faults_are))
+        (rw same at (continues.client_is.faults_are))
         (sound_step (kept_of meaning now) taken)
 
     -- it was taken but for the end of its message
     pub stopped_sound : (start now : Running H M K) (frames : List FrameValue) (why : PortFault)
-        (given failed : Type 0) → (why ≡ fault.Failed → failed)
-        → now.desk.limits ≡ up.desk.limits → up.venue.faults ≤ now.venue.faults
-        → up.client.faults ≤ now.client.faults → TakesFront meaning sound given failed up now
+        (given failed : Type 0) {SameSum : H → H → Type 0} {SameHalt : M → M → Type 0} {acts : ℕ}
+        → (why ≡ fault.Failed → failed)
+        → Continues SameSum SameHalt up now acts → TakesFront meaning sound given failed up now
         → TookFrames meaning start frames reserved
         → StoppedFrames meaning why start (frames ++ next ∷ []) now
-    stopped_sound start now frames why given failed fails limits venue client takes took =
+    stopped_sound start now frames why given failed fails continues takes took =
         let some_counts = counts some.0 some.1 in
         stopped_next meaning start reserved up now frames next takes.venue takes.client given failed
         took (sound_step (record (kept_of meaning now) {
           venue = takes.venue;
           client = takes.client;
-        }) takes.taken) (limits ∙ up_limits) (ap (λ (r : Running H M K). r.venue) same)
+        }) takes.taken) (continues.desk_is.limits_are ∙ up_limits) (ap (λ (r : Running H M K). r.venue) same)
         (ap (λ (r : Running H M K). r.client) same) (ap (λ (c : Counts). c.venue) some_counts)
-        (ap (λ (c : Counts). c.client) some_counts) venue client why fails takes.gives
+        (ap (λ (c : Counts). c.client) some_counts) continues.venue_is.faults_are
+        continues.client_is.faults_are why fails takes.gives
 
 -- what comes of a refusal, whatever it is for
 pub stopped_result : {H M K : Type 0} (meaning : K → ScreenValue) (bytes : List ℕ) (frame : Frame)

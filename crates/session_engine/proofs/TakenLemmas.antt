@@ -1,7 +1,6 @@
 -- What taking a frame does, whatever its kind.
 use Rattle.std.proofs.Common.{◌≡◌, ℕ, ◌+◌, ◌≤◌, List, [], ◌∷◌, ◌++◌, length, refl, sym, ap, ◌∙◌}
-use Rattle.std.proofs.Common.{subst, Bool, true, false, arith}
-use Rattle.std.specs.Prelude.{Option, Some, None, Result}
+use Rattle.std.proofs.Common.{subst, Bool, true, false, arith, Option, Some, None, Result}
 use Rattle.std.specs.Io.KnownBytes.{Appends}
 use Rattle.std.proofs.lemmas.List.{append-nil, length-append}
 use Rattle.exposure_book.specs.Books.{BookValue}
@@ -14,10 +13,9 @@ use Rattle.screen_kit.specs.Screens.{ScreenValue}
 use Rattle.risk_journal.specs.declared.acts.Act.{Act}
 use Rattle.risk_journal.specs.ActLists.{SeenAt, reads_of}
 use Rattle.session_engine.specs.declared.counts.Counts.{Counts}
-use Rattle.session_engine.specs.Session.{LimitsValue, SessionValue}
-use Rattle.session_engine.specs.Session.{after_frame, after_sound, after_result, asks, named}
-use Rattle.session_engine.specs.Session.{asks_more, orders_after, orders_with, screens_with}
-use Rattle.session_engine.specs.Session.{taken_up, with_frame}
+use Rattle.session_engine.specs.Session.{LimitsValue, SessionValue, after_frame, after_sound}
+use Rattle.session_engine.specs.Session.{after_result, asks, named, asks_more, orders_after}
+use Rattle.session_engine.specs.Session.{orders_with, screens_with, taken_up, with_frame}
 use Rattle.session_engine.specs.Reaches.{with_reads, Steps}
 use Rattle.session_engine.specs.Taken.{Takes, TakesFrom, Kept, StandsAs, with_message, text_in}
 use Rattle.session_engine.specs.Trips.{firms_after}
@@ -42,11 +40,7 @@ pub frame_by : (limits : LimitsValue) (fields : List FieldValue) (request : Bool
     → with_frame (after_sound limits fields) session
     ≡ counted session.frames
     (after_result limits request fields read (named request fields session))
-frame_by limits fields request read session asks_are read_is =
-    ap (λ r. counted session.frames
-    (after_result limits (asks fields) fields r (named (asks fields) fields session))) read_is
-    ∙ ap (λ b. counted session.frames
-    (after_result limits b fields read (named b fields session))) asks_are
+frame_by limits fields request read session asks_are read_is = rw (read_is, asks_are) refl
 
 -- a step that reads nothing
 pub steps_quiet : (step : SessionValue → SessionValue) (session next : SessionValue)
@@ -162,8 +156,7 @@ takes_told step most session before after act client_id to_venue to_client own u
     screens client_is counts venue_grows client_grows stepped =
     takes_next step most session before after _ session.book session.screens client_id None
     to_venue to_client own
-    (ap (λ l. l ++ act session.frames ∷ []) own.stands.acts_are
-    ∙ ap (λ n. before.acts ++ act n ∷ []) (sym own.stands.frames) ∙ sym acts)
+    (rw (own.stands.acts_are, ← own.stands.frames) (sym acts))
     (own.stands.book_is ∙ sym book) (own.screens_are ∙ sym screens) client_is counts venue_grows
     client_grows
     (steps_quiet step session _ (reads_of-quiet session.acts (act session.frames ∷ []) unread)

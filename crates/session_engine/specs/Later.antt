@@ -1,6 +1,5 @@
 -- A session stays the same one over what it does, and a fault stays one.
-use Rattle.std.specs.Prelude.{ℕ, ◌+◌, ◌*◌, ◌≤◌}
-use Rattle.std.proofs.Common.{arith, refl, ◌∙◌}
+use Rattle.std.proofs.Common.{ℕ, ◌+◌, ◌*◌, ◌≤◌, arith, refl, ◌∙◌}
 use Rattle.gate_ports.specs.Faults.{Rose}
 use Rattle.frame_run.specs.Sinks.{SinkValue, IsLaterSink}
 use Rattle.session_engine.specs.Running.{Running, Continues, frame_acts}

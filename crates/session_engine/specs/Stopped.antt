@@ -1,6 +1,5 @@
 -- A session that took frames stops behind them.
-use Rattle.std.proofs.Common.{◌≡◌, ℕ, List, [], ◌++◌, length, map, take, refl, sym, ap, ◌∙◌}
-use Rattle.std.proofs.Common.{arith, inl}
+use Rattle.std.proofs.Common.{◌≡◌, ℕ, List, [], length, map, take, refl, sym, ap, ◌∙◌, arith, inl}
 use Rattle.std.specs.List.{concat}
 use Rattle.std.proofs.lemmas.List.{append-nil, take_all}
 use Rattle.fix_fields.specs.Frames.{FrameValue}
@@ -10,7 +9,6 @@ use Rattle.screen_kit.specs.Screens.{ScreenValue}
 use Rattle.session_engine.specs.Follows.{IsBetween, session_with}
 use Rattle.session_engine.specs.Reaches.{with_reads}
 use Rattle.session_engine.specs.Running.{Running, TookFrames, StoppedFrames}
-use Rattle.session_engine.specs.Session.{SessionValue}
 
 -- nothing is lacking
 pub between_same : (before after : List (List ℕ)) → before ≡ after → IsBetween before after (concat after)

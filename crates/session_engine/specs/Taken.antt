@@ -24,8 +24,7 @@ use Rattle.session_engine.specs.declared.counts.Counts.{Counts}
 use Rattle.session_engine.specs.declared.note.Note.{Note}
 use Rattle.session_engine.specs.declared.note.Note.TheVariants as note
 use Rattle.session_engine.specs.Answers.{forward_text, refused_act, note_code, stamp_of}
-use Rattle.session_engine.specs.Session.{LimitsValue, SessionValue, after_sound, asks}
-use Rattle.session_engine.specs.Session.{with_frame}
+use Rattle.session_engine.specs.Session.{LimitsValue, SessionValue, after_sound, asks, with_frame}
 use Rattle.session_engine.specs.Stands.{StandsFor}
 use Rattle.session_engine.specs.Reaches.{Steps}
 use Rattle.session_engine.specs.Trips.{firms_after, trips_by}

@@ -1,6 +1,6 @@
-use Rattle.std.proofs.Common.{◌≡◌, ap, ◌∙◌, ◌++◌, List, ℕ, length, take}
+use Rattle.std.proofs.Common.{◌≡◌, ap, ◌∙◌, ◌++◌, List, ℕ, length, take, length-take-le}
 use Rattle.fix_fields.specs.FrameBuffers.{BufferValue}
-use Rattle.frame_run.proofs.Fetches.{front_of_room, length_of_front}
+use Rattle.frame_run.proofs.Fetches.{front_of_room}
 use Rattle.frame_run.proofs.ahead.fetch_into.Goals as goal
 
 -- what was fetched is held behind the rest
@@ -17,6 +17,6 @@ returns-clause-bytes g c =
       held = ap (λ (v : BufferValue). v.held) c.took.ensures
           ∙ ap (λ (l : List ℕ). old.held ++ l) (front_of_room old.room room n bound.1 same);
       base = ap (λ (v : BufferValue). v.base) c.took.ensures;
-      counted = length_of_front room n bound.1;
+      counted = length-take-le n room bound.1;
       few = bound.0;
     }

@@ -1,5 +1,4 @@
-use Rattle.std.proofs.Common.{◌≡◌, ◌+◌, ◌∙◌, arith, ap, length, true, subst, sym, refl, List, ℕ}
-use Rattle.fix_fields.specs.Found.{Finds}
+use Rattle.std.proofs.Common.{◌≡◌, ◌+◌, ◌∙◌, arith, ap, length, true, refl}
 use Rattle.frame_run.specs.Ends.{input_most}
 use Rattle.frame_run.proofs.Fetches.{more_next, more_fetched, looks_within, looks_past, fails_ahead}
 use Rattle.frame_run.proofs.Fetches.{held_same}
@@ -48,10 +47,9 @@ returns-then-branch-eq0-clause-ok g c =
     let same = held_same _ _ _ _ _ _ f none in
     let grown = more_fetched _ _ _ _ _ _ _ _ m f
     (omega (arith, m.few, c.base.ensures, ap length c.bytes.ensures.held)) in
-    let F : List ℕ → Type 0 = λ l. Finds l 0 c.next-next.result in
     looks_within _ _ _ _ _ c.next-next.result grown
     (omega (arith, c.next-next.ensures.most, ap length same))
-    (subst F (sym same) c.next-next.ensures.finds)
+    (rw same c.next-next.ensures.finds)
     (λ may. c.in_ok-fetch_into.ensures.end none)
 
 pub loop-next-preserved : goal.loop-next-preserved

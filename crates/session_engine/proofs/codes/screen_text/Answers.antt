@@ -1,6 +1,5 @@
 -- A screen's code is written in digits, so the text is short and has no SOH.
-use Rattle.std.proofs.Common.{◌≡◌, ℕ, ◌++◌, ◌<◌, ◌^◌, arith, codes, decimal}
-use Rattle.std.proofs.Common.{length-append}
+use Rattle.std.proofs.Common.{◌≡◌, ℕ, ◌++◌, ◌<◌, ◌^◌, arith, codes, decimal, length-append}
 use Rattle.std.proofs.lemmas.Grind.{common_steps}
 use Rattle.fix_fields.proofs.Decimals.{decimal_is_digits, decimal_is_length, digits_are_a_value}
 use Rattle.fix_orders.specs.Put.{IsShort}

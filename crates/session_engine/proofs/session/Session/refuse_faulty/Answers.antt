@@ -1,7 +1,5 @@
 -- A request with a field fault was taken.
-use Rattle.std.proofs.Common.{ℕ, List, ◌+◌, map, refl, ◌∙◌, ap, subst, inr}
-use Rattle.std.specs.Option.{unwrap_or}
-use Rattle.std.specs.Io.KnownBytes.{Appends}
+use Rattle.std.proofs.Common.{◌+◌, map, refl, ◌∙◌, ap, inr, unwrap_or}
 use Rattle.fix_orders.specs.declared.envelope.Envelope.{Envelope}
 use Rattle.fix_orders.specs.Writing.{session_reject_fields}
 use Rattle.order_desk.specs.Desks.{DeskValue}
@@ -28,8 +26,6 @@ returns-clause-taken g c =
           c.time_of.ensures c.unwrap_or-seq.ensures kind in
           let reject = session_reject_fields (stamp_of receiver (inside.counts.client + 1) c.time_of.result)
           c.unwrap_or-seq.result c.type_text-kind.result.now c.args.fault.now in
-          let P : List ℕ → Type 0 = λ m. Appends (g.C.Sink.held inside.client)
-          c.give_written.ensures.given.whole m in
           takes_rejected inside.desk.limits fields c.args.fault.now session _ _ read.1 read.0 own (record {
             acts = c.tell.ensures.acts ∙ rw c.from.ensures refl;
             book = ap (λ (d : DeskValue _ _ _). d.book.value) c.tell.ensures.same;
@@ -38,8 +34,8 @@ returns-clause-taken g c =
             client_id = c.unwrap_or-self-inside.ensures
                 ∙ ap (λ (e : Envelope). unwrap_or e.sender inside.client_id) envelope;
             venue = refl;
-            client = subst P text (c.give_written.ensures.given.says reject
-                c.write_reject_session.ensures);
+            client = rw text
+                at (c.give_written.ensures.given.says reject c.write_reject_session.ensures);
           });
       gives = inr (
         record {

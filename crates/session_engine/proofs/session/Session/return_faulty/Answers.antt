@@ -1,9 +1,8 @@
 -- A report with a field fault was taken.
-use Rattle.std.proofs.Common.{ℕ, List, ◌+◌, map, refl, ◌∙◌, ap, subst, inl}
-use Rattle.std.specs.Io.KnownBytes.{Appends}
+use Rattle.std.proofs.Common.{◌+◌, map, refl, ◌∙◌, ap, inl}
 use Rattle.fix_orders.specs.Writing.{session_reject_fields}
 use Rattle.order_desk.specs.Desks.{DeskValue}
-use Rattle.session_engine.specs.Answers.{reject_text, stamp_of}
+use Rattle.session_engine.specs.Answers.{stamp_of}
 use Rattle.session_engine.proofs.FaultyFrames.{takes_returned}
 use Rattle.session_engine.proofs.RejectTexts.{reject_is}
 use Rattle.session_engine.proofs.session.Session.return_faulty.Goals as goal
@@ -26,19 +25,14 @@ returns-clause-taken g c =
           c.time_of.ensures c.unwrap_or-seq.ensures kind in
           let reject = session_reject_fields (stamp_of receiver (inside.counts.venue + 1) c.time_of.result)
           c.unwrap_or-seq.result c.type_text-kind.result.now c.args.fault.now in
-          let P : List ℕ → Type 0 = λ m. Appends (g.V.Sink.held inside.venue)
-          c.give_written.ensures.given.whole m in
-          let Q : List ℕ → Type 0 = λ to. P (reject_text to (inside.counts.venue + 1) fields
-          c.args.fault.now) in
           takes_returned inside.desk.limits fields c.args.fault.now session _ _ read.1 read.0 own (record {
             acts = c.tell.ensures.acts ∙ rw (c.code.ensures, c.from.ensures) refl;
             book = ap (λ (d : DeskValue _ _ _). d.book.value) c.tell.ensures.same;
             screens = ap (λ (d : DeskValue _ _ _). map g.K.Screen.meaning d.screens) c.tell.ensures.same;
             counts = refl;
             client_id = refl;
-            venue = subst Q c.venue_id.ensures
-                (subst P text (c.give_written.ensures.given.says reject
-                c.write_reject_session.ensures));
+            venue = rw (text, c.venue_id.ensures)
+                at (c.give_written.ensures.given.says reject c.write_reject_session.ensures);
             client = refl;
           });
       gives = inl (

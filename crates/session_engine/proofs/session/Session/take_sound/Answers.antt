@@ -1,6 +1,5 @@
 -- What was read of the frame leads to the next session.
-use Rattle.std.proofs.Common.{◌≡◌, refl, sym, ◌∙◌, ap}
-use Rattle.std.specs.Prelude.{Ok}
+use Rattle.std.proofs.Common.{◌≡◌, refl, sym, ◌∙◌, ap, Ok}
 use Rattle.fix_orders.specs.declared.message.Message.{Message}
 use Rattle.fix_orders.specs.declared.message.Message.TheVariants as message
 use Rattle.fix_orders.specs.Reading.{read_of}
