@@ -1,6 +1,8 @@
 -- The ways of a check, as its stages come one behind another.
-use Rattle.std.proofs.Common.{◌≡◌, ℕ, ◌+◌, ◌≤◌, List, [], ◌∷◌, length, map, refl, sym, ap, ◌∙◌, subst}
-use Rattle.std.proofs.Common.{arith, inl, inr, Bool, true, false, ◌&&◌, String, Global, string_bytes}
+use Rattle.std.proofs.Common.{◌≡◌, ℕ, ◌+◌, ◌≤◌, List, [], ◌∷◌, length, map, refl, sym, ap}
+use Rattle.std.proofs.Common.{◌∙◌, subst}
+use Rattle.std.proofs.Common.{arith, inl, inr, Bool, true, false, ◌&&◌, String, Global}
+use Rattle.std.proofs.Common.{string_bytes}
 use Rattle.std.proofs.lemmas.Bool.Decides.{nat_tests}
 use Rattle.std.proofs.lemmas.List.{length-map}
 use Rattle.std.proofs.lemmas.Option.{slice_get_within}
@@ -220,7 +222,8 @@ module _ {S : Type 0} (left name : S → Option (List ℕ)) (faults : S → ℕ)
       (answer_number answer)
   judged t0 r0 w0 t1 r1 w1 t2 r2 w2 said answer read new says stops went given same (inl memory) =
       inl memory
-  judged t0 r0 w0 t1 r1 w1 t2 r2 w2 checked.Yes answer read new says stops went given same (inr is) =
+  judged t0 r0 w0 t1 r1 w1 t2 r2 w2 checked.Yes answer read new says stops went given same
+      (inr is) =
       inr (inr (inr (record {
         limits = limits;
         limits_are = read.limits_are;

@@ -1,5 +1,5 @@
-//! That with ample memory a check answers, and doesn't say that memory was wanting; and the two texts,
-//! byte for byte. Bytes of inputs have a bar for SOH.
+//! That with ample memory a check answers, and doesn't say that memory was wanting; and the two
+//! texts, byte for byte. Bytes of inputs have a bar for SOH.
 ghost use Rattle.std.specs.Prelude.{◌≡◌, length, IfOk};
 ghost use Rattle.gate_files.specs.Words.{session_most};
 
@@ -67,8 +67,8 @@ line,0,0,1,1,1000\n\
 line,0,1,1,1,1000\n\
 line,0,2,1,1,1000\n";
 
-/// A check of a journal by a limit file and one session's input, of which some call may fail: the status,
-/// and what is told behind the journal.
+/// A check of a journal by a limit file and one session's input, where a call may fail: its status,
+/// and the text of a verdict.
 #[derive(Clone, Copy)]
 struct Row {
     name: &'static str,

@@ -43,10 +43,11 @@ give_back-requires-clause-few g c κs within =
 pub give_back-requires-clause-own : goal.give_back-requires-clause-own
 give_back-requires-clause-own g c κs within =
     let names = map string_bytes c.args.check.now.sessions.now in
-    subst (λ (t : Option Texts). AreOwn g.D.In.Source.name t names c.check-answer.result.sources.items)
+    let back = c.check-answer.result.sources.items in
+    subst (λ (t : Option Texts). AreOwn g.D.In.Source.name t names back)
     (sym c.in-Ok.ensures.texts)
     (back_own g.D.In.Source.left g.D.In.Source.name g.D.In.Source.faults names
-    c.in-Ok.sources.items c.check-answer.result.sources.items _ c.in-Ok.ensures.ok c.check-answer.ensures.back)
+    c.in-Ok.sources.items back _ c.in-Ok.ensures.ok c.check-answer.ensures.back)
 
 pub returns-clause-went : goal.returns-clause-went
 returns-clause-went g c = went_on _ _ _ c.in-Ok.ensures.went c.give_back.ensures.went
@@ -61,8 +62,8 @@ returns-clause-way g c =
     c.in-Ok.sources.items c.check-answer.result.sources.items
     (c.in-Ok.ensures.many ∙ sym (length-map c.args.check.now.sessions.now string_bytes))
     _ _ _ _ _ _ _ _ _ c.check-answer.result.answer c.answer_to.result read
-    c.in-Ok.ensures.ok c.check-answer.ensures.answer c.check-answer.ensures.read_fault c.in-Ok.ensures.went
-    c.give_back.ensures c.in-Ok.ensures.texts c.answer_to.ensures
+    c.in-Ok.ensures.ok c.check-answer.ensures.answer c.check-answer.ensures.read_fault
+    c.in-Ok.ensures.went c.give_back.ensures c.in-Ok.ensures.texts c.answer_to.ensures
 
 pub returns-in-Err-clause-way : goal.returns-in-Err-clause-way
 returns-in-Err-clause-way g c =
