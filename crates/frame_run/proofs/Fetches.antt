@@ -26,18 +26,6 @@ pub consumes_none : (left : Option (List ℕ)) → Consumes left left []
 consumes_none None = tt
 consumes_none (Some bytes) = refl
 
--- before anything is fetched
-pub more_none : (left : Option (List ℕ)) (buffer : BufferValue)
-    → buffer.base + length buffer.held ≤ input_most → HasMore left left buffer buffer
-more_none left buffer few = record {
-  more = [];
-  taken = consumes_none left;
-  holds = λ bytes place h. subst (λ l. HoldsRest l place buffer) (sym (append-nil bytes)) h;
-  later = omega arith;
-  total = omega arith;
-  few = few;
-}
-
 -- CR and LF in front are dropped
 pub more_next : (left left_after : Option (List ℕ)) (before middle after : BufferValue) (next : Found)
     → HasMore left left_after before middle → GivesNext middle after next
