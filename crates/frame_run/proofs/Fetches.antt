@@ -1,6 +1,6 @@
 -- What comes when more is fetched.
-use Rattle.std.proofs.Common.{◌≡◌, ℕ, ◌+◌, ◌≤◌, List, [], ◌++◌, length, take, drop, refl, sym, ap, ◌∙◌}
-use Rattle.std.proofs.Common.{subst, arith, length-append, length-drop, append_assoc, false, Bool}
+use Rattle.std.proofs.Common.{◌≡◌, ℕ, ◌+◌, ◌≤◌, List, [], ◌++◌, length, take, drop, refl, sym, ap}
+use Rattle.std.proofs.Common.{◌∙◌, subst, arith, length-append, length-drop, append_assoc, false, Bool}
 use Rattle.std.specs.Prelude.{Option, Some, None}
 use Rattle.std.specs.Io.KnownBytes.{Consumes, IsAtEnd}
 use Rattle.std.proofs.lemmas.List.{take-take, take-append-le, append-nil, nil_from_length}
@@ -139,4 +139,5 @@ fails_ahead left left_between left_after before middle after next m none finds m
 pub held_same : (left left_after : Option (List ℕ)) (before after : BufferValue) (count most : ℕ)
     → FetchesInto left left_after before after count most → count ≡ 0 → after.held ≡ before.held
 held_same left left_after before after count most f none =
-    f.held ∙ ap (λ l. before.held ++ l) (nil_from_length f.piece (f.counted ∙ none)) ∙ append-nil before.held
+    f.held ∙ ap (λ l. before.held ++ l) (nil_from_length f.piece (f.counted ∙ none))
+    ∙ append-nil before.held

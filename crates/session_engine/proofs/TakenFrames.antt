@@ -184,7 +184,8 @@ module _ {H M K : Type 0} (meaning : K → ScreenValue) where
         took (sound_step (record (kept_of meaning now) {
           venue = takes.venue;
           client = takes.client;
-        }) takes.taken) (continues.desk_is.limits_are ∙ up_limits) (ap (λ (r : Running H M K). r.venue) same)
+        }) takes.taken) (continues.desk_is.limits_are ∙ up_limits)
+        (ap (λ (r : Running H M K). r.venue) same)
         (ap (λ (r : Running H M K). r.client) same) (ap (λ (c : Counts). c.venue) some_counts)
         (ap (λ (c : Counts). c.client) some_counts) continues.venue_is.faults_are
         continues.client_is.faults_are why fails takes.gives
