@@ -1,6 +1,6 @@
 -- What an end says of what stands next.
-use Rattle.std.proofs.Common.{◌≡◌, ℕ, ◌+◌, ◌≤◌, sym, subst, refl, Bool, true, false, inl, inr, arith}
-use Rattle.std.specs.Prelude.{◌⊎◌}
+use Rattle.std.proofs.Common.{◌≡◌, ℕ, ◌+◌, ◌≤◌, sym, subst, refl, Bool, true, false, inl, inr}
+use Rattle.std.proofs.Common.{arith, ◌⊎◌}
 use Rattle.fix_fields.specs.Found.{IsSettled}
 use Rattle.fix_fields.specs.FrameBuffers.{IsOpen}
 use Rattle.fix_fields.specs.Windows.{moved}

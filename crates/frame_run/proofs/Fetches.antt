@@ -1,6 +1,6 @@
 -- What comes when more is fetched.
-use Rattle.std.proofs.Common.{◌≡◌, ℕ, ◌+◌, ◌≤◌, List, [], ◌++◌, length, take, drop, refl, sym, ap, ◌∙◌}
-use Rattle.std.proofs.Common.{subst, arith, length-append, length-drop, append_assoc, false, Bool}
+use Rattle.std.proofs.Common.{◌≡◌, ℕ, ◌+◌, ◌≤◌, List, [], ◌++◌, length, take, drop, refl, sym, ap}
+use Rattle.std.proofs.Common.{◌∙◌, subst, arith, length-append, length-drop, append_assoc, false, Bool}
 use Rattle.std.specs.Prelude.{Option, Some, None}
 use Rattle.std.specs.Io.KnownBytes.{Consumes, IsAtEnd}
 use Rattle.std.proofs.lemmas.List.{take-take, take-append-le, append-nil, nil_from_length}
@@ -25,18 +25,6 @@ front_of_room room w n few same =
 pub consumes_none : (left : Option (List ℕ)) → Consumes left left []
 consumes_none None = tt
 consumes_none (Some bytes) = refl
-
--- before anything is fetched
-pub more_none : (left : Option (List ℕ)) (buffer : BufferValue)
-    → buffer.base + length buffer.held ≤ input_most → HasMore left left buffer buffer
-more_none left buffer few = record {
-  more = [];
-  taken = consumes_none left;
-  holds = λ bytes place h. subst (λ l. HoldsRest l place buffer) (sym (append-nil bytes)) h;
-  later = omega arith;
-  total = omega arith;
-  few = few;
-}
 
 -- CR and LF in front are dropped
 pub more_next : (left left_after : Option (List ℕ)) (before middle after : BufferValue) (next : Found)
@@ -151,4 +139,5 @@ fails_ahead left left_between left_after before middle after next m none finds m
 pub held_same : (left left_after : Option (List ℕ)) (before after : BufferValue) (count most : ℕ)
     → FetchesInto left left_after before after count most → count ≡ 0 → after.held ≡ before.held
 held_same left left_after before after count most f none =
-    f.held ∙ ap (λ l. before.held ++ l) (nil_from_length f.piece (f.counted ∙ none)) ∙ append-nil before.held
+    f.held ∙ ap (λ l. before.held ++ l) (nil_from_length f.piece (f.counted ∙ none))
+    ∙ append-nil before.held

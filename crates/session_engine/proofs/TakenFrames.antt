@@ -1,7 +1,6 @@
 -- A frame that was noted, or taken up and taken, is one frame more.
-use Rattle.std.proofs.Common.{◌≡◌, ◌<◌, List, [], ◌∷◌, ◌++◌, length, map, refl, sym, ap, ◌∙◌}
-use Rattle.std.proofs.Common.{subst, true, false, arith}
-use Rattle.std.specs.Prelude.{ℕ, Option, Some, None, Result, Ok, Err, IfErr}
+use Rattle.std.proofs.Common.{◌≡◌, ◌<◌, List, [], ◌∷◌, ◌++◌, length, map, refl, sym, ap, ◌∙◌, subst}
+use Rattle.std.proofs.Common.{true, false, arith, ℕ, Option, Some, None, Result, Ok, Err, IfErr}
 use Rattle.std.proofs.lemmas.Bool.{false≢true}
 use Rattle.fix_fields.specs.Fields.{FieldValue}
 use Rattle.fix_fields.specs.Frames.{FrameValue}
@@ -22,8 +21,7 @@ use Rattle.session_engine.specs.Running.{Running, Continues, kept_of, HasTaken, 
 use Rattle.session_engine.specs.Running.{frame_acts, TookFrames, StoppedFrames, TakesFront}
 use Rattle.session_engine.specs.Stopped.{stopped_whole}
 use Rattle.session_engine.specs.Session.{after_frame, orders_with, screens_with}
-use Rattle.session_engine.specs.Taken.{Kept, TakesFrom, TakesSound}
-use Rattle.session_engine.specs.Taken.{counted, noted_act}
+use Rattle.session_engine.specs.Taken.{Kept, TakesFrom, TakesSound, counted, noted_act}
 use Rattle.session_engine.proofs.PassedFrames.{sound_takes, unsound_takes}
 use Rattle.session_engine.proofs.RunLemmas.{small_counts, trips_kept, took_next}
 use Rattle.session_engine.proofs.Stopping.{stopped_next}
@@ -186,7 +184,8 @@ module _ {H M K : Type 0} (meaning : K → ScreenValue) where
         took (sound_step (record (kept_of meaning now) {
           venue = takes.venue;
           client = takes.client;
-        }) takes.taken) (continues.desk_is.limits_are ∙ up_limits) (ap (λ (r : Running H M K). r.venue) same)
+        }) takes.taken) (continues.desk_is.limits_are ∙ up_limits)
+        (ap (λ (r : Running H M K). r.venue) same)
         (ap (λ (r : Running H M K). r.client) same) (ap (λ (c : Counts). c.venue) some_counts)
         (ap (λ (c : Counts). c.client) some_counts) continues.venue_is.faults_are
         continues.client_is.faults_are why fails takes.gives

@@ -18,13 +18,9 @@ use Rattle.session_engine.specs.Trips.{is_reached, trips_by}
 -- before the first frame the halt tree isn't tripped
 pub no_trip : (trip : Option ℕ) → ◌≡◌ {A = ℕ} 0 (trips_by trip 0)
 no_trip None = refl
-no_trip (Some number) = by_test (nat_le number 0) refl
-  where
-    by_test : (low : Bool) → nat_le number 0 ≡ low
-        → ◌≡◌ {A = ℕ} 0 (cond (low && nat_lt 0 number) 1 0)
-    by_test true is =
-        let none : nat_lt 0 number ≡ false = grind (arith, nat_tests) in rw none refl
-    by_test false is = refl
+no_trip (Some number) =
+    let none : (nat_le number 0 && nat_lt 0 number) ≡ false = grind (arith, nat_tests) in
+    rw none refl
 
 -- below the trip number, at it, and elsewhere
 below_number : (number firms : ℕ) → (firms + 1 == number) ≡ true
@@ -40,14 +36,9 @@ at_number number firms is =
 
 off_number : (number firms : ℕ) → (firms + 1 == number) ≡ false
     → is_reached (Some number) (firms + 1) ≡ is_reached (Some number) firms
-off_number number firms other = ap (λ b. b && nat_lt 0 number) (by_test (nat_le number firms) refl)
-  where
-    by_test : (reached : Bool) → nat_le number firms ≡ reached
-        → nat_le number (firms + 1) ≡ nat_le number firms
-    by_test true is =
-        let next : nat_le number (firms + 1) ≡ true = grind (arith, nat_tests) in next ∙ sym is
-    by_test false is =
-        let next : nat_le number (firms + 1) ≡ false = grind (arith, nat_tests) in next ∙ sym is
+off_number number firms other =
+    let same : nat_le number (firms + 1) ≡ nat_le number firms = grind (arith, nat_tests) in
+    rw same refl
 
 -- where a refusal trips the halt tree, it wasn't tripped before
 pub untripped : (trip : Option ℕ) (firms posts : ℕ) → is_trip_number trip (firms + 1) ≡ true
@@ -96,8 +87,4 @@ module _ (limits : LimitsValue) (firms : ℕ) (acts : List Act) where
 
 -- at most one refusal more
 pub firms_most : (refusal : Option Refusal) (firms : ℕ) → firms_after refusal firms ≤ firms + 1
-firms_most refusal firms = by_test (is_firm refusal)
-  where
-    by_test : (firm : Bool) → cond firm (firms + 1) firms ≤ firms + 1
-    by_test true = omega arith
-    by_test false = omega arith
+firms_most refusal firms = grind (arith, nat_tests)
