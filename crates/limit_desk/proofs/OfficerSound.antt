@@ -1,6 +1,6 @@
 -- Rows that are read can be posted.
 use Rattle.std.proofs.Common.{◌≡◌, ℕ, ◌+◌, ◌<◌, ◌≤◌, List, [], ◌∷◌, length, refl, sym, ap, subst}
-use Rattle.std.proofs.Common.{arith, Result, Ok, Err, Option, Some, None, Bool, true, false, cond}
+use Rattle.std.proofs.Common.{Vec, Global, arith, Result, Ok, Err, Option, Some, None, Bool, true, false, cond}
 use Rattle.std.specs.Prelude.{All, IfOk, ◌-◌, not, ◌==◌, ◌&&◌, nat_le, nat_lt, codes, option_map}
 use Rattle.std.specs.List.{position}
 use Rattle.std.specs.Str.Parse.{digits_value}
@@ -17,7 +17,7 @@ use Rattle.limit_desk.specs.declared.officer.OfficerKind.{OfficerKind}
 use Rattle.limit_desk.specs.declared.officer.OfficerKind.TheVariants as kind
 use Rattle.limit_desk.specs.declared.officer.OfficerRow.{OfficerRow}
 use Rattle.limit_desk.specs.declared.officer.OfficerTree.TheVariants as tree
-use Rattle.limit_desk.specs.Officers.{◌>>=◌, IsOfficerFile, account_named, kind_named, limit_in, named_row}
+use Rattle.limit_desk.specs.Officers.{◌>>=◌, IsRead, account_named, kind_named, limit_in, named_row}
 use Rattle.limit_desk.specs.Officers.{row_at, row_by, row_named, row_of, rows_from, rows_most}
 use Rattle.limit_desk.specs.Officers.{symbol_named, value_in}
 use Rattle.limit_desk.specs.Posting.{AreOfficerRows, CanPost}
@@ -27,7 +27,11 @@ use Rattle.limit_desk.proofs.OfficerRows.{Row, at_few, bind_ok}
 abbrev CanPostRow : ℕ → OfficerRow → Type 0
 CanPostRow count row = CanPost count row.tree row.value
 
-ok_same : {A : Type 0} (x y : A) → Ok {E = LimitFault} x ≡ Ok y → x ≡ y
+-- a value that is read
+abbrev read : {A : Type 0} → A → Result A LimitFault
+read x = Ok x
+
+ok_same : {A : Type 0} (x y : A) → read x ≡ read y → x ≡ y
 ok_same x y h = cc h
 
 -- what isn't refused is there
@@ -146,7 +150,7 @@ rows_sound : (limits : LimitsValue) (number : ℕ) (rows : List Row) (set : List
 rows_sound limits number [] set h first =
     let none : [] ≡ set = ok_same [] set h in
     subst (λ s. All (CanPostRow (halt_tree limits)) s × (number + length s ≤ rows_most + 1)) none
-    (All-nil _, omega (arith, first))
+    (All-nil (CanPostRow (halt_tree limits)), omega (arith, first))
 rows_sound limits number (fields ∷ rows) set h first =
     let one = bind_ok (row_at limits number fields) _ set h in
     let two = bind_ok (rows_from limits (number + 1) rows) _ set one.2 in
@@ -154,20 +158,21 @@ rows_sound limits number (fields ∷ rows) set h first =
     let later = rows_sound limits (number + 1) rows two.0 two.1 (omega (arith, few)) in
     subst (λ s. All (CanPostRow (halt_tree limits)) s × (number + length s ≤ rows_most + 1))
     (ok_same (one.0 ∷ two.0) set two.2) (
-      All-cons _ one.0 two.0 (row_at_sound limits number fields one.0 one.1) later.0,
+      All-cons (CanPostRow (halt_tree limits)) one.0 two.0 (row_at_sound limits number fields one.0 one.1) later.0,
       omega (arith, later.1),
     )
 
--- the posts of an officer file can be made
-pub file_sound : (limits : LimitsValue) (bytes : List ℕ) (set : List OfficerRow)
-    → IsOfficerFile limits bytes set → AreOfficerRows limits set
+-- the posts that are read can be made
+file_sound : (limits : LimitsValue) (bytes : List ℕ) (set : List OfficerRow)
+    → IsRead limits bytes set → AreOfficerRows limits set
 file_sound limits bytes set is =
-    let read = is.1 in
-    let sound = rows_sound limits 1 read.rows set read.sets (omega arith) in
+    let sound = rows_sound limits 1 is.rows set is.sets (omega arith) in
     record { each = sound.0; few = omega (arith, sound.1) }
 
 -- where they are read
-pub if_sound : {A : Type 0} (P Q : A → Type 0) (r : Result A LimitFault) → ((x : A) → P x → Q x)
-    → IfOk r P → IfOk r Q
-if_sound P Q (Ok x) sound is = sound x is
-if_sound P Q (Err why) sound is = is
+pub if_sound : (limits : LimitsValue) (bytes : List ℕ)
+    (r : Result (Vec OfficerRow Global) LimitFault)
+    → IfOk r (λ rows. IsRead limits bytes rows.items)
+    → IfOk r (λ rows. AreOfficerRows limits rows.items)
+if_sound limits bytes (Ok rows) is = file_sound limits bytes rows.items is
+if_sound limits bytes (Err why) is = is

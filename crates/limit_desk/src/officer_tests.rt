@@ -15,6 +15,9 @@ const LIMITS: &[u8] =
     b"firm,,1000,,,\naccount,A,0,,,\naccount,B,800,,,\nsymbol,X,0,1,12,100000\nsymbol,Y,150,1,12,100000\n";
 
 /// Over plain boards.
+type Hands = DeskHands<PlainHand<Sum>, PlainHand<Max>, PlainHand<Min>>;
+
+/// An officer that has ended.
 type Done = OfficerDone<PlainHand<Sum>, PlainHand<Max>, PlainHand<Min>>;
 
 /// An officer's file, its posts by tree, index and value, and what a session behind it reads as the
@@ -105,14 +108,15 @@ fn compare(rt: &impl Abort, row: &Row, done: &Done) {
 }
 
 /// What a session reads behind the officer.
-fn compare_limits(rt: &impl Abort, row: &Row, done: Done) -> Result<(), Fail> {
-    let mut desk = done.hands.desk.give_back().hand(1);
+fn compare_limits(rt: &impl Abort, row: &Row, hands: Hands) -> Result<(), Fail> {
+    let DeskHands { sum: _, halt, desk } = hands;
+    let mut desk = desk.give_back().hand(1);
     desk.reserve(3)?;
     let firm = effective(&mut desk, 0, 1000).limit;
     let account = effective(&mut desk, 2, 1000).limit;
     let symbol = effective(&mut desk, 4, 1000).limit;
     assert_eq!(rt; [firm, account, symbol], row.limits, "{}", row.name);
-    let mut halt = done.hands.halt.give_back().hand(1);
+    let mut halt = halt.give_back().hand(1);
     halt.reserve(1)?;
     assert_eq!(rt; halt.read(0).value, row.level, "{}", row.name);
     Ok(())
@@ -126,7 +130,7 @@ fn officers_post_their_rows(rt: HostRuntime) -> Result<(), Fail> {
     for row in &ROWS {
         let done = run(&rt, rt.alloc(), &limits, row.text)?;
         compare(&rt, row, &done);
-        compare_limits(&rt, row, done)?;
+        compare_limits(&rt, row, done.hands)?;
     }
     Ok(())
 }
