@@ -1,5 +1,7 @@
 //! What no clause says: that officers run over plain boards with ample memory, with acts worked by hand,
 //! and that a session behind them reads what they posted.
+ghost use Rattle.std.specs.Prelude.{◌<◌, length};
+
 use crate::{DeskHands, Min, OfficerDone, effective, read_officer, run_officer};
 use fold_law::{Max, QUOTA, Sum};
 use limit_table::{Limits, read_limits};
@@ -13,12 +15,6 @@ use std::test::*;
 /// Behind it are the limit trees, 6 to 10.
 const LIMITS: &[u8] =
     b"firm,,1000,,,\naccount,A,0,,,\naccount,B,800,,,\nsymbol,X,0,1,12,100000\nsymbol,Y,150,1,12,100000\n";
-
-/// Over plain boards.
-type Hands = DeskHands<PlainHand<Sum>, PlainHand<Max>, PlainHand<Min>>;
-
-/// An officer that has ended.
-type Done = OfficerDone<PlainHand<Sum>, PlainHand<Max>, PlainHand<Min>>;
 
 /// An officer's file, its posts by tree, index and value, and what a session behind it reads as the
 /// limit of the firm, of B and of Y where the file's is 1000, and as the level of the halt.
@@ -76,26 +72,11 @@ const ROWS: [Row; 5] = [
     },
 ];
 
-/// An officer of this file as session 0 of two, over plain boards.
-fn run(rt: &impl Abort, alloc: Global, limits: &Limits, text: &str) -> Result<Done, Fail> {
-    assert!(rt; limits.quota() <= QUOTA, "a quota in range");
-    let trees = limits.halt_tree();
-    let hands = DeskHands {
-        sum: PlainBoard::<Sum>::open(alloc, trees, 2, limits.quota())?.hand(0),
-        halt: PlainBoard::<Max>::open(alloc, 1, 2, 50_000)?.hand(0),
-        desk: PlainBoard::<Min>::open(alloc, trees, 2, 50_000)?.hand(0),
-    };
-    match read_officer(alloc, limits, text.as_bytes()) {
-        Ok(rows) => Ok(run_officer(alloc, limits, &rows, hands)),
-        Err(_) => Err("a fault")?,
-    }
-}
-
 /// The posts and the end.
-fn compare(rt: &impl Abort, row: &Row, done: &Done) {
-    assert_eq!(rt; done.end, End::Whole, "{}", row.name);
-    assert_eq!(rt; done.acts.len(), row.posts.len() + 1, "{}", row.name);
-    for (act, (tree, index, value)) in done.acts.iter().zip(row.posts) {
+fn compare(rt: &impl Abort, row: &Row, acts: &[Act], end: End) {
+    assert_eq!(rt; end, End::Whole, "{}", row.name);
+    assert_eq!(rt; acts.len(), row.posts.len() + 1, "{}", row.name);
+    for (act, (tree, index, value)) in acts.iter().zip(row.posts) {
         let post = Act::Post {
             tree: *tree,
             index: *index,
@@ -103,22 +84,52 @@ fn compare(rt: &impl Abort, row: &Row, done: &Done) {
         };
         assert_eq!(rt; *act, post, "{}", row.name);
     }
-    let last = done.acts.last().copied();
+    let last = acts.last().copied();
     assert_eq!(rt; last, Some(Act::Ended { end: End::Whole }), "{}", row.name);
 }
 
-/// What a session reads behind the officer.
-fn compare_limits(rt: &impl Abort, row: &Row, hands: Hands) -> Result<(), Fail> {
-    let DeskHands { sum: _, halt, desk } = hands;
-    let mut desk = desk.give_back().hand(1);
+/// The limits that count for the firm, for B and for Y where the file's are 1000.
+fn limits_that_count(mut desk: PlainHand<Min>) -> Result<[u64; 3], Fail>
+    requires { 4 < length desk.board.lines }
+{
     desk.reserve(3)?;
     let firm = effective(&mut desk, 0, 1000).limit;
     let account = effective(&mut desk, 2, 1000).limit;
     let symbol = effective(&mut desk, 4, 1000).limit;
-    assert_eq!(rt; [firm, account, symbol], row.limits, "{}", row.name);
-    let mut halt = halt.give_back().hand(1);
+    Ok([firm, account, symbol])
+}
+
+/// The level of the halt.
+fn level(mut halt: PlainHand<Max>) -> Result<u64, Fail>
+    requires { 0 < length halt.board.lines }
+{
     halt.reserve(1)?;
-    assert_eq!(rt; halt.read(0).value, row.level, "{}", row.name);
+    Ok(halt.read(0).value)
+}
+
+/// An officer of this file as session 0 of two, over plain boards, and then what session 1 reads.
+fn compare_row(rt: &impl Abort, alloc: Global, limits: &Limits, row: &Row) -> Result<(), Fail> {
+    let Ok(rows) = read_officer(alloc, limits, row.text.as_bytes()) else {
+        return Err("a fault")?;
+    };
+    assert!(rt; limits.quota() <= QUOTA, "a quota in range");
+    let trees = limits.halt_tree();
+    assert_eq!(rt; trees, 5, "the firm's, two accounts' and two symbols'");
+    let hands = DeskHands {
+        sum: PlainBoard::<Sum>::open(alloc, trees, 2, limits.quota())?.hand(0),
+        halt: PlainBoard::<Max>::open(alloc, 1, 2, 50_000)?.hand(0),
+        desk: PlainBoard::<Min>::open(alloc, trees, 2, 50_000)?.hand(0),
+    };
+    let OfficerDone { hands, acts, end } = run_officer(alloc, limits, &rows, hands);
+    compare(rt, row, &acts, end);
+    let DeskHands {
+        sum: _sum,
+        halt,
+        desk,
+    } = hands;
+    let limits = limits_that_count(desk.give_back().hand(1))?;
+    assert_eq!(rt; limits, row.limits, "{}", row.name);
+    assert_eq!(rt; level(halt.give_back().hand(1))?, row.level, "{}", row.name);
     Ok(())
 }
 
@@ -128,9 +139,7 @@ fn officers_post_their_rows(rt: HostRuntime) -> Result<(), Fail> {
         return Err("no limits")?;
     };
     for row in &ROWS {
-        let done = run(&rt, rt.alloc(), &limits, row.text)?;
-        compare(&rt, row, &done);
-        compare_limits(&rt, row, done.hands)?;
+        compare_row(&rt, rt.alloc(), &limits, row)?;
     }
     Ok(())
 }
