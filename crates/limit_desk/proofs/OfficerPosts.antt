@@ -1,5 +1,5 @@
 -- The posts of the rows so far.
-use Rattle.std.proofs.Common.{◌≡◌, ℕ, ◌+◌, ◌<◌, ◌≤◌, List, [], ◌∷◌, length, refl, sym, ap, ◌∙◌, subst}
+use Rattle.std.proofs.Common.{◌≡◌, ℕ, ◌+◌, ◌<◌, List, [], ◌∷◌, length, sym, ap, ◌∙◌}
 use Rattle.std.proofs.Common.{arith, take, get_or, fold, length-append}
 use Rattle.std.proofs.lemmas.List.{length-take}
 use Rattle.std.proofs.lemmas.List.Sums.{fold_more}
@@ -8,7 +8,7 @@ use Rattle.risk_journal.specs.declared.acts.Act.{Act}
 use Rattle.risk_journal.specs.declared.acts.Act.TheVariants.{Post}
 use Rattle.risk_journal.specs.ActLists.{posts_in}
 use Rattle.limit_desk.specs.declared.officer.OfficerRow.{OfficerRow}
-use Rattle.limit_desk.specs.Hands.{IsAfter, IsFresh, OfficerValue}
+use Rattle.limit_desk.specs.Hands.{IsAfter, OfficerValue}
 use Rattle.limit_desk.specs.Posting.{posts_of, tree_number, with_row}
 
 -- as many acts as rows

@@ -1,5 +1,5 @@
 -- Rows that are read can be posted.
-use Rattle.std.proofs.Common.{◌≡◌, ℕ, ◌+◌, ◌<◌, ◌≤◌, List, [], ◌∷◌, length, refl, sym, ap, subst}
+use Rattle.std.proofs.Common.{◌≡◌, ℕ, ◌+◌, ◌<◌, ◌≤◌, List, [], ◌∷◌, length, refl, subst}
 use Rattle.std.proofs.Common.{Vec, Global, arith, Result, Ok, Err, Option, Some, None, Bool, true, false, cond}
 use Rattle.std.specs.Prelude.{All, IfOk, ◌-◌, not, ◌==◌, ◌&&◌, nat_le, nat_lt, codes, option_map}
 use Rattle.std.specs.List.{position}
