@@ -1,5 +1,5 @@
 -- The rows that a reader has read so far, and what they set.
-use Rattle.std.proofs.Common.{◌≡◌, ℕ, ◌+◌, ◌≤◌, List, [], ◌∷◌, ◌++◌, length, refl, sym, ap, subst, ◌∙◌}
+use Rattle.std.proofs.Common.{◌≡◌, ℕ, ◌+◌, ◌≤◌, List, [], ◌∷◌, ◌++◌, length, refl, sym, subst, ◌∙◌}
 use Rattle.std.proofs.Common.{arith, Ok, Err, Option, Some, Bor, true, false, length-append}
 use Rattle.csv.specs.Reading.{Reached, ReadRecord, default_config, source_of, strip_bom}
 use Rattle.csv.specs.declared.reader.Reader.{Reader}

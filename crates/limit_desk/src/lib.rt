@@ -5,15 +5,22 @@
 //! smaller of each limit of the file and the one that it read.
 #![tactic(auto)]
 
+mod hands;
 mod least;
 mod officer;
 mod officer_law;
+mod officer_run;
 mod reading;
+mod told;
 
+pub use hands::DeskHands;
 pub use least::{Min, OPEN};
 pub use officer::{OfficerRow, OfficerTree, ROWS_MOST, read_officer};
-pub use officer_law::one_officer_answer_stands;
+pub use officer_law::{officers_post_their_rows, one_officer_answer_stands};
+pub use officer_run::{OfficerDone, run_officer};
 pub use reading::{LimitSeen, effective};
 
+#[cfg(test)]
+mod officer_tests;
 #[cfg(test)]
 mod tests;

@@ -10,6 +10,7 @@ ghost use Rattle.limit_table.specs.declared.fault.LimitFault.TheVariants as faul
 ghost use Rattle.limit_desk.specs.Officers.{kind_named, value_in, limit_in, account_named, symbol_named};
 ghost use Rattle.limit_desk.specs.Officers.{row_by, row_at, named_row, IsRead, IsRowFault};
 ghost use Rattle.limit_desk.specs.Officers.{IsOfficerFile, IsFirstFault};
+ghost use Rattle.limit_desk.specs.Posting.{AreOfficerRows};
 
 use crate::least::OPEN;
 use csv::{ByteRecord, ReaderBuilder};
@@ -264,6 +265,7 @@ pub fn read_officer(
     bytes: &[u8],
 ) -> Result<Vec<OfficerRow>, LimitFault>
     ensures read { IfOk result (λ rows. IsOfficerFile limits.now bytes.now rows.items) }
+    ensures sound { IfOk result (λ rows. AreOfficerRows limits.now rows.items) }
     ensures refused { IfErr result (λ why. why ≢ fault.Memory → IsFirstFault limits.now bytes.now why) }
 {
     if bytes.len() > BYTES_MOST {
