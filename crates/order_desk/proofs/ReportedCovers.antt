@@ -18,7 +18,9 @@ use Rattle.admit_core.specs.Legs.{AreRowsOf, legs_of}
 use Rattle.order_desk.specs.declared.effect.Effect.{Effect}
 use Rattle.order_desk.specs.Backing.{Covers}
 use Rattle.order_desk.specs.Reported.{Settled, TellsLower, settled, settled_with, report_settled}
-use Rattle.order_desk.specs.Reported.{reject_settled}
+use Rattle.order_desk.specs.Reported.{reject_settled, outcome_of}
+use Rattle.order_desk.specs.declared.settling.Reply.{Reply}
+use Rattle.order_desk.specs.declared.settling.Reply.TheVariants as reply
 use Rattle.order_desk.specs.Values.{values_told, rows_told}
 use Rattle.order_desk.proofs.Covers.{Tells, covers_lowered, lower_legs, tells_with}
 use Rattle.order_desk.proofs.Offered.{order_is_placed}
@@ -97,15 +99,19 @@ module _ (limits : LimitsValue) (acts : List Act) (book : BookValue)
     );
   }
 
-  pub report_keeps_cover : (report : Report) → KeepsCover (outcome_of_report book report)
+  report_keeps_cover : (report : Report) → KeepsCover (outcome_of_report book report)
   report_keeps_cover report =
       report_comes book KeepsCover (record { covered = covers; tells = tt })
       (record { covered = covers; tells = tt }) lowered_keeps report
 
-  pub reject_keeps_cover : (reject : CancelReject) → KeepsCover (outcome_of_reject book reject)
+  reject_keeps_cover : (reject : CancelReject) → KeepsCover (outcome_of_reject book reject)
   reject_keeps_cover reject =
       reject_comes book KeepsCover (record { covered = covers; tells = tt })
       (record { covered = covers; tells = tt }) lowered_keeps reject
+
+  pub reply_keeps_cover : (said : Reply) → KeepsCover (outcome_of book said)
+  reply_keeps_cover (reply.Report report) = report_keeps_cover report.now
+  reply_keeps_cover (reply.Reject reject) = reject_keeps_cover reject.now
 
   pub report_covers : (report : Report) → IsCovered limits (report_settled limits report book acts)
   report_covers report = (report_keeps_cover report).covered

@@ -12,6 +12,8 @@ use Rattle.admit_core.specs.Lowering.{Lowered, lowering}
 use Rattle.limit_table.specs.Trees.{LimitsValue}
 use Rattle.order_desk.specs.declared.effect.Effect.{Effect}
 use Rattle.order_desk.specs.declared.effect.Effect.TheVariants as effect
+use Rattle.order_desk.specs.declared.settling.Reply.{Reply}
+use Rattle.order_desk.specs.declared.settling.Reply.TheVariants as reply
 use Rattle.order_desk.specs.Values.{values_told, rows_told}
 
 -- what became of a report, the acts by then, and the book
@@ -65,3 +67,12 @@ report_settled limits report book acts =
 abbrev pub reject_settled : LimitsValue → CancelReject → BookValue → List Act → Settled
 reject_settled limits reject book acts =
     settled limits book acts (outcome_of_reject book reject)
+
+-- what a reply makes of a book
+abbrev pub outcome_of : BookValue → Reply → Outcome
+outcome_of book (reply.Report report) = outcome_of_report book report.now
+outcome_of book (reply.Reject reject) = outcome_of_reject book reject.now
+
+-- what it comes to
+abbrev pub reply_settled : LimitsValue → Reply → BookValue → List Act → Settled
+reply_settled limits said book acts = settled limits book acts (outcome_of book said)

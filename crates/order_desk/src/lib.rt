@@ -17,7 +17,7 @@ mod laws;
 mod offer;
 mod refusal;
 mod rows;
-mod settle;
+mod settling;
 mod values;
 
 pub use complete_laws::{an_order_is_sent_exactly_within_limits, what_raises_no_value_is_sent};
@@ -32,7 +32,7 @@ pub use laws::{
 };
 pub use offer::Offer;
 pub use refusal::Refusal;
-pub use settle::{settle_reject, settle_report};
+pub use settling::{Reply, settle};
 
 #[cfg(test)]
 mod screened;

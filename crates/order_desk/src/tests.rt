@@ -6,9 +6,7 @@ use crate::dropping::only_its_own_rows_drop_screens;
 use crate::laws::a_first_book_is_covered;
 use crate::screened::SCREENED;
 use crate::sequences::{Answer, Posted, SEQUENCES, Sequence, Step, Turn};
-use crate::{
-    Desk, Refusal, decide_cancel, decide_new, decide_replace, settle_reject, settle_report,
-};
+use crate::{Desk, Refusal, Reply, decide_cancel, decide_new, decide_replace, settle};
 use admit_core::Hands;
 use exposure_book::Book;
 use fix_orders::{
@@ -146,8 +144,8 @@ fn take<H: Hand, M: Hand, K: Screen>(
         Message::New(order) => Ok(decided(decide_new(desk, order))),
         Message::Cancel(request) => Ok(decided(decide_cancel(desk, request))),
         Message::Replace(request) => Ok(decided(decide_replace(desk, request))),
-        Message::Report(report) => Ok(Answer::Settled(settle_report(desk, report))),
-        Message::CancelReject(reject) => Ok(Answer::Settled(settle_reject(desk, reject))),
+        Message::Report(report) => Ok(Answer::Settled(settle(desk, &Reply::Report(report)))),
+        Message::CancelReject(reject) => Ok(Answer::Settled(settle(desk, &Reply::Reject(reject)))),
         Message::Admin | Message::Other => Err("no message of an order")?,
     }
 }

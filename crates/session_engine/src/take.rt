@@ -14,7 +14,7 @@ use fix_orders::{
 };
 use frame_run::SoundFrame;
 use gate_ports::{PortFault, Sink};
-use order_desk::{decide_cancel, decide_new, decide_replace, settle_reject, settle_report};
+use order_desk::{Reply, decide_cancel, decide_new, decide_replace, settle};
 use risk_board::Hand;
 use screen_kit::Screen;
 
@@ -123,7 +123,7 @@ impl<'a, H: Hand, M: Hand, K: Screen, V: Sink, C: Sink> Session<'a, H, M, K, V, 
         ensures taken { TakesFront K.meaning sound.now (IsOk result)
             (IsErrOf result PortFault.Failed) self.old self.new }
     {
-        let effect = settle_report(&mut self.desk, report);
+        let effect = settle(&mut self.desk, &Reply::Report(report));
         let stamp = self.tell_effect(&report.head, effect);
         forward(&mut self.client, &mut self.writer, sound, &stamp)
     }
@@ -140,7 +140,7 @@ impl<'a, H: Hand, M: Hand, K: Screen, V: Sink, C: Sink> Session<'a, H, M, K, V, 
         ensures taken { TakesFront K.meaning sound.now (IsOk result)
             (IsErrOf result PortFault.Failed) self.old self.new }
     {
-        let effect = settle_reject(&mut self.desk, reject);
+        let effect = settle(&mut self.desk, &Reply::Reject(reject));
         let stamp = self.tell_effect(&reject.head, effect);
         forward(&mut self.client, &mut self.writer, sound, &stamp)
     }

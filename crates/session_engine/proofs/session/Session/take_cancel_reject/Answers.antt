@@ -20,9 +20,9 @@ forward-requires-clause-time g c = λ fields has.
 pub returns-clause-taken : goal.returns-clause-taken
 returns-clause-taken g c =
     report_taken g.K.Screen.meaning _ _ (reject_told c.args.reject.now) c.args.sound.now c.args.self.now _
-    c.settle_reject-effect.new.desk c.settle_reject-effect.result c.tell_effect-stamp.new.self _
-    c.self.view_is c.self-2.view_is c.requires.read c.settle_reject-effect.ensures.screens
-    c.settle_reject-effect.ensures.settled c.tell_effect-stamp.ensures.acts
+    c.settle-effect.new.desk c.settle-effect.result c.tell_effect-stamp.new.self _
+    c.self.view_is c.self-2.view_is c.requires.read c.settle-effect.ensures.screens
+    c.settle-effect.ensures.settled c.tell_effect-stamp.ensures.acts
     c.tell_effect-stamp.ensures.others _ c.forward.ensures.given.whole c.forward.ensures.given.front
     (λ fields has. subst (λ (s : Stamp). Appends (g.C.Sink.held c.self-2.inside.client)
     c.forward.ensures.given.whole (forward_text s.target s.seq fields))

@@ -1,6 +1,6 @@
 -- Whether all values were lowered tells the effect.
 use Rattle.std.proofs.Common.{refl}
-use Rattle.order_desk.proofs.settle.settle.Goals as goal
+use Rattle.order_desk.proofs.settling.post_lower.Goals as goal
 
 pub returns-in-Applied-clause-settled : goal.returns-in-Applied-clause-settled
 returns-in-Applied-clause-settled g c = λ book.
