@@ -9,14 +9,13 @@ times as long a check takes, by the median of the ratios of neighbours; the most
 bytes of the journal; and the load of the machine. It ends with status 1 where a check doesn't say
 that its journal is lawful.
 """
-import argparse
 import os
 import statistics
 import sys
 import tempfile
 from dataclasses import dataclass
 
-from sessions import LOOKED_AT, PROGRAM, Runs, memory_of, spread, texts_of, timed
+from sessions import LOOKED_AT, Runs, memory_of, parser_of_load, spread, texts_of, timed
 
 LAWFUL = "LAWFUL"
 
@@ -60,18 +59,8 @@ def measure(gate, sessions, orders, runs):
                        os.path.getsize(made.journal))
 
 
-def arguments():
-    """What the command line asks for."""
-    parser = argparse.ArgumentParser()
-    parser.add_argument("sessions", nargs="?", type=int, default=8)
-    parser.add_argument("orders", nargs="?", type=int, default=2_000)
-    parser.add_argument("--gate", default=PROGRAM)
-    parser.add_argument("--runs", type=int, default=7)
-    return parser.parse_args()
-
-
 def main():
-    asked = arguments()
+    asked = parser_of_load().parse_args()
     try:
         seen = measure(asked.gate, asked.sessions, asked.orders, asked.runs)
     except ValueError as wrong:

@@ -30,10 +30,12 @@ import forests
 import fuzz
 import live
 import machine
+import make_times
 import most
 import orders_read
 import refuse
 import replay
+import report_times
 import sessions
 import stress
 from model.judge import Wrong
@@ -49,7 +51,12 @@ LOADS = ((1, 40_000), (4, 2_000), (8, 1_000), (8, 2_000), (8, 5_000), (32, 2_000
 # The same for a check beside its run, and for the guard.
 CHECK_LOADS = ((1, 10_000), (8, 2_000), (32, 2_000), (64, 2_000))
 CROSS_LOADS = ((1, 10_000), (8, 2_000), (32, 2_000), (64, 2_000))
+# The same for a load from a number, and for reports.
+MAKE_LOADS = ((1, 10_000), (8, 2_000), (32, 10_000), (64, 2_000))
+REPORT_LOADS = ((1, 2_000), (8, 2_000), (32, 2_000))
 STRESS_RUNS, FUZZ_RUNS, GUARD_RUNS, CHECKED_RUNS = 2_000, 24_000, 1_000, 1_000
+# How many changes of the journal of each such run are checked.
+CHANGES = 20
 # What the refusals for a field fault have as their code, and how many codes there are.
 FIELD_FAULT, REFUSALS, NOTES = 16, 16, 6
 # Trees, posts of each pass in each, and the works: 2,048,000 posts each time.
@@ -93,6 +100,30 @@ def check_rows(asked):
     """A row for each load that is run and checked."""
     return [check_cells(check_times.measure(asked.gate, count, orders, asked.runs))
             for count, orders in CHECK_LOADS]
+
+
+def make_cells(seen):
+    """The row of a load from a number."""
+    return (f"{seen.sessions}", f"{seen.orders:,}", spread(seen.seconds), megabytes(seen.memory),
+            f"{seen.messages:,}", megabytes(seen.bytes), f"{seen.reads:,}", megabytes(seen.written))
+
+
+def make_rows(asked):
+    """A row for each load from a number."""
+    return [make_cells(make_times.measure(asked.gate, count, orders, asked.runs))
+            for count, orders in MAKE_LOADS]
+
+
+def report_cells(seen):
+    """The row of a load of whose run a report is made."""
+    return (f"{seen.sessions}", f"{seen.orders:,}", spread(seen.seconds), megabytes(seen.memory),
+            megabytes(seen.table), megabytes(seen.page))
+
+
+def report_rows(asked):
+    """A row for each load of whose run a report is made."""
+    return [report_cells(report_times.measure(asked.gate, count, orders, asked.runs))
+            for count, orders in REPORT_LOADS]
 
 
 def cross_rows(asked):
@@ -194,7 +225,7 @@ def checks_cells(every, changed):
 def checks_rows(asked):
     """What came in checks by the program."""
     wanted = SimpleNamespace(gate=os.path.abspath(asked.gate), seed=1, runs=CHECKED_RUNS,
-                             changes=20, keep=None)
+                             changes=CHANGES, keep=None)
     return checks_cells(*(checks.run_all(SimpleNamespace(**vars(wanted), every=is_every))
                           for is_every in (True, False)))
 
@@ -330,6 +361,8 @@ GROUPS = (
           more=growth),
     Group("most", ("Session", "Seconds", "Memory at most", "Bytes read", "Bytes written"),
           most_rows, is_quick=True),
+    Group("make", ("Sessions", "Orders each", "Seconds", "Memory at most", "Messages", "Their bytes",
+                   "Reads", "Written"), make_rows, is_quick=True, command="make"),
     Group("check", ("Sessions", "Orders each", "A run", "A check of its journal",
                     "Times as long", "Memory of the run", "Memory of the check", "Journal"),
           check_rows, is_quick=True, command="check"),
@@ -345,6 +378,8 @@ GROUPS = (
           is_repeated=False),
     Group("live", ("Session", "Sent", "Refused", "Slowest answer"), live_rows,
           is_repeated=False),
+    Group("report", ("Sessions", "Orders each", "A report", "Memory at most", "Table", "Page"),
+          report_rows),
     Group("forests", ("Threads", "one tree: forest", *ON_TREES[1:], "own trees: forest",
                       *ON_TREES[1:]), forest_rows, ("rt", "rustc")),
     Group("replay", ("Trees", "Prepared once", "of which preparing", "By `replay` of each tree",
