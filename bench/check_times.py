@@ -5,9 +5,9 @@ by turns.
 usage: check_times.py [SESSIONS] [ORDERS] [--gate PATH] [--runs N]      8 of 2,000 orders, 7 runs
 
 Prints the seconds of a run and of a check from start to end, each the median and the range; how many
-times as long a check takes, by the median of the ratios of neighbours; the most memory of both; the
-bytes of the journal; and the load of the machine. It ends with status 1 where a check doesn't say
-that its journal is lawful.
+times as long a check takes, by the median of the ratios of neighbours; the most memory of both, and
+how many times as much a check has; the bytes of the journal; and the load of the machine. It ends
+with status 1 where a check doesn't say that its journal is lawful.
 """
 import os
 import statistics
@@ -35,6 +35,10 @@ class Figures:
     def times_as_long(self):
         """The median of the ratios of a check and the run beside it."""
         return statistics.median(check / run for run, check in zip(self.runs, self.checks))
+
+    def times_the_memory(self):
+        """The most memory of a check, by that of a run."""
+        return self.check_memory / self.run_memory
 
 
 def checked(words, processors):
@@ -67,7 +71,8 @@ def main():
         sys.exit(str(wrong))
     print(f"{seen.sessions} sessions of {seen.orders} orders: a run {spread(seen.runs)}, a check "
           f"{spread(seen.checks)}, {seen.times_as_long():.2f} times as long; at most "
-          f"{seen.run_memory / 1e6:.1f} MB and {seen.check_memory / 1e6:.1f} MB; a journal of "
+          f"{seen.run_memory / 1e6:.1f} MB and {seen.check_memory / 1e6:.1f} MB, "
+          f"{seen.times_the_memory():.2f} times as much; a journal of "
           f"{seen.journal:,} bytes; load {os.getloadavg()[0]:.1f}")
 
 

@@ -49,12 +49,14 @@ README = os.path.join(sessions.HERE, "README.md")
 LOADS = ((1, 40_000), (4, 2_000), (8, 1_000), (8, 2_000), (8, 5_000), (32, 2_000),
          (64, 2_000))
 # The same for a check beside its run, and for the guard.
-CHECK_LOADS = ((1, 10_000), (8, 2_000), (32, 2_000), (64, 2_000))
+CHECK_LOADS = ((1, 10_000), (8, 2_000), (32, 2_000), (64, 2_000), (32, 10_000))
 CROSS_LOADS = ((1, 10_000), (8, 2_000), (32, 2_000), (64, 2_000))
 # The same for a load from a number, and for reports.
 MAKE_LOADS = ((1, 10_000), (8, 2_000), (32, 10_000), (64, 2_000))
 REPORT_LOADS = ((1, 2_000), (8, 2_000), (32, 2_000))
 STRESS_RUNS, FUZZ_RUNS, GUARD_RUNS, CHECKED_RUNS = 2_000, 24_000, 1_000, 1_000
+# Runs whose journals are audited, by turns of so many sessions.
+AUDITED_RUNS, AUDITED_SESSIONS = 1_000, (8, 64)
 # How many changes of the journal of each such run are checked.
 CHANGES = 20
 # What the refusals for a field fault have as their code, and how many codes there are.
@@ -93,7 +95,8 @@ def check_cells(seen):
     """The row of a load that is run and checked."""
     return (f"{seen.sessions}", f"{seen.orders:,}", spread(seen.runs), spread(seen.checks),
             f"{seen.times_as_long():.2f}", megabytes(seen.run_memory),
-            megabytes(seen.check_memory), megabytes(seen.journal))
+            megabytes(seen.check_memory), f"{seen.times_the_memory():.2f}",
+            megabytes(seen.journal))
 
 
 def check_rows(asked):
@@ -177,9 +180,9 @@ def stress_cells(counts):
             ("journals that the program's own check called lawful", f"{counts['checked']:,}")]
 
 
-def judged(asked, runs, has_check=False):
+def judged(asked, runs, has_check=False, many=None):
     """What the scripts that judge runs are asked."""
-    return SimpleNamespace(gate=asked.gate, runs=runs, seed=1, sessions=None, check=has_check,
+    return SimpleNamespace(gate=asked.gate, runs=runs, seed=1, sessions=many, check=has_check,
                            keep=None, only=None, jobs=len(os.sched_getaffinity(0)))
 
 
@@ -187,6 +190,12 @@ def stress_rows(asked):
     """What came in runs judged from outside, whose journals the program checks too where it can."""
     has_check = stress.has_command(asked.gate, "check")
     return stress_cells(stress.run_all(judged(asked, STRESS_RUNS, has_check), stress.judge))
+
+
+def audit_rows(asked):
+    """What came in runs whose journals the program's own check has to call lawful."""
+    return stress_cells(stress.run_all(judged(asked, AUDITED_RUNS, True, AUDITED_SESSIONS),
+                                       stress.judge))
 
 
 def guard_cells(counts):
@@ -364,12 +373,14 @@ GROUPS = (
     Group("make", ("Sessions", "Orders each", "Seconds", "Memory at most", "Messages", "Their bytes",
                    "Reads", "Written"), make_rows, is_quick=True, command="make"),
     Group("check", ("Sessions", "Orders each", "A run", "A check of its journal",
-                    "Times as long", "Memory of the run", "Memory of the check", "Journal"),
+                    "Times as long", "Memory of the run", "Memory of the check",
+                    "Times the memory", "Journal"),
           check_rows, is_quick=True, command="check"),
     Group("cross", ("Sessions", "Orders each", "On all processors", "On one", "Times as fast",
                     "Memory at most", "Read", "Written"), cross_rows, is_quick=True,
           command="cross"),
     Group("stress", ("What", "How many"), stress_rows, is_repeated=False),
+    Group("audits", ("What", "How many"), audit_rows, is_repeated=False, command="check"),
     Group("checks", ("What", "How many"), checks_rows, is_repeated=False, command="check"),
     Group("guards", ("What", "How many"), guard_rows, is_repeated=False, command="cross"),
     Group("fuzz", ("What", "How many"), fuzz_rows, is_repeated=False),

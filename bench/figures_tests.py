@@ -93,7 +93,7 @@ class Rows(unittest.TestCase):
                                    9_500_000, 6_200_000)
         self.assertEqual(figures.check_cells(seen), (
             "8", "2,000", "0.040 s (0.020 to 0.060)", "0.060 s (0.040 to 0.120)", "2.00", "17 MB",
-            "9.5 MB", "6.2 MB"))
+            "9.5 MB", "0.56", "6.2 MB"))
 
     def test_a_load_from_a_number_and_a_report(self):
         made = make_times.Figures(8, 20, [0.02, 0.04, 0.06], 1_700_000, 440, 65_000, 640, 99_000)
@@ -237,7 +237,7 @@ class Command(unittest.TestCase):
         """Each group that the stand-in can run, with few runs and few orders."""
         small = {"LOADS": ((1, 2),), "CHECK_LOADS": ((2, 2),), "CROSS_LOADS": ((2, 2),),
                  "REPORT_LOADS": ((1, 2),), "STRESS_RUNS": 1, "GUARD_RUNS": 1, "CHECKED_RUNS": 1,
-                 "CHANGES": 2}
+                 "CHANGES": 2, "AUDITED_RUNS": 2, "AUDITED_SESSIONS": (2, 3)}
         asked = SimpleNamespace(gate=STAND_IN, runs=1)
         once = [mock.patch(f"{name}.LOOKED_AT", 1)
                 for name in ("sessions", "check_times", "report_times")]
@@ -245,7 +245,8 @@ class Command(unittest.TestCase):
             for patch in (*once, mock.patch.multiple(figures, **small),
                           mock.patch("checks.every", lambda: ())):
                 stack.enter_context(patch)
-            for name in ("sessions", "check", "cross", "report", "stress", "guards", "checks"):
+            for name in ("sessions", "check", "cross", "report", "stress", "audits", "guards",
+                         "checks"):
                 with self.subTest(name):
                     rows = BY_NAME[name].rows(asked)
                     self.assertEqual({len(row) for row in rows}, {len(BY_NAME[name].head)})

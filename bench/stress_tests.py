@@ -6,6 +6,7 @@ there, and where it has the command.
 
 usage: stress_tests.py
 """
+import itertools
 import os
 import tempfile
 import unittest
@@ -53,14 +54,20 @@ class StandIn(unittest.TestCase):
         return counts
 
     def test_runs_and_their_checks(self):
-        counts = sum((self.judged(stress, number, sessions=3) for number in range(2)), Counter())
+        counts = sum((self.judged(stress, number, sessions=[3]) for number in range(2)), Counter())
         self.assertEqual((counts["runs"], counts["checked"]), (2, 2))
         self.assertGreater(counts["met"], 0)
 
+    def test_how_many_sessions_a_run_has(self):
+        """By turns, where several numbers are asked for."""
+        counts = [self.judged(stress, number, sessions=[2, 5], check=False)["sessions"]
+                  for number in range(2)]
+        self.assertEqual(counts, [2, 5])
+
     def test_a_check_that_finds_a_fault_is_wrong(self):
         with wrong("faulty"):
-            self.assertRaises(Wrong, self.judged, stress, 0, sessions=2)
-            self.judged(stress, 0, sessions=2, check=False)
+            self.assertRaises(Wrong, self.judged, stress, 0, sessions=[2])
+            self.judged(stress, 0, sessions=[2], check=False)
 
     def test_checks_of_changed_journals(self):
         counts = checks.run_all(asked(runs=2, changes=2))
@@ -72,6 +79,15 @@ class StandIn(unittest.TestCase):
         for name in ("lawful", "late row", "faulty"):
             with self.subTest(name), wrong(name), self.assertRaises(Wrong):
                 checks.run_all(asked())
+
+    def test_changes_of_a_worked_journal(self):
+        """The first few, by calls of the program: the header's, of which each is a fault in row 1."""
+        some = list(itertools.islice(checks.every(WORKED[:1]), 4))
+        with mock.patch("checks.every", lambda: some):
+            counts = checks.run_all(asked(every=True))
+            self.assertEqual(counts, {"LAWFUL": 1, "check fault 1": 3})
+            with wrong("lawful"), self.assertRaises(Wrong):
+                checks.run_all(asked(every=True))
 
     def test_a_wrong_check_leaves_its_files(self):
         with tempfile.TemporaryDirectory() as folder, wrong("faulty"):
@@ -190,10 +206,10 @@ class BuiltChecks(unittest.TestCase):
     def test_random_runs(self):
         checks.run_all(asked(GATE, runs=20))
 
-    def test_journals_of_8_sessions_are_lawful(self):
+    def test_journals_of_8_and_of_64_sessions_are_lawful(self):
         for number in range(20):
             with tempfile.TemporaryDirectory() as folder:
-                stress.judge(asked(GATE, sessions=8), folder, number, Counter())
+                stress.judge(asked(GATE, sessions=[8, 8, 8, 64]), folder, number, Counter())
 
 
 if __name__ == "__main__":
