@@ -3,12 +3,13 @@
 
 usage: stress.py [--runs N] [--seed N] [--sessions N...] [--check] [--gate PATH] [--keep FOLDER]
 
-2,000 runs, seed 1. A run has 2 to 64 sessions, or as many as are asked for, by turns of several N. Its journal has to be
-legal and to admit within the limits at every place; each session's acts and both streams, the totals
-and the status have to be those of the plain model in `model` over its input and its reads. With
-`--check` the program's own `check` has to call each journal lawful too. It prints what it ran and
-saw, and in how many runs sessions met: the places of their reads in the firm's tree overlap. It ends
-with status 1 at the first run that is wrong, whose files it leaves in FOLDER, where one is given.
+2,000 runs, seed 1. A run has 2 to 64 sessions, or as many as are asked for, by turns of several N.
+Its journal has to be legal and to admit within the limits at every place; each session's acts and both
+streams, the totals and the status have to be those of the plain model in `model` over its input and
+its reads. With `--check` the program's own `check` has to call each journal lawful too. It prints what
+it ran and saw, and in how many runs sessions met: the places of their reads in the firm's tree
+overlap. It ends with status 1 at the first run that is wrong, whose files it leaves in FOLDER, where
+one is given.
 """
 import argparse
 import os
