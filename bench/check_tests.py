@@ -4,6 +4,8 @@ what it says of each small change of a small journal, beside the judge of runs.
 
 usage: check_tests.py
 """
+import os
+import re
 import unittest
 from collections import Counter
 
@@ -18,6 +20,7 @@ from model.limits import Limits
 from model.session import run_session
 from rows import buy
 
+EXAMPLE = os.path.join(os.path.dirname(os.path.abspath(__file__)), "..", "examples", "first")
 ONE, SENT = journals.SENT, journals.SENT.journal
 
 
@@ -66,6 +69,33 @@ class Faults(unittest.TestCase):
         """It isn't read."""
         data = bytearray(check.BYTES_MOST + 1)
         self.assertEqual(first_fault(Limits(ONE.limits), data, ONE.inputs), (1, 0))
+
+
+class Example(unittest.TestCase):
+    """The audit in examples/first: what its README says of the journal that stands there, and of each
+    change of a row."""
+
+    def setUp(self):
+        with open(os.path.join(EXAMPLE, "README.md"), encoding="utf-8") as file:
+            self.page = file.read()
+        self.journal = re.search(r"^```\n(kind,.*?)^```$", self.page, re.M | re.S)[1]
+        with open(os.path.join(EXAMPLE, "session.fix"), "rb") as file:
+            self.inputs = [file.read()]
+        with open(os.path.join(EXAMPLE, "limits.csv"), encoding="ascii") as file:
+            self.limits = Limits(file.read())
+
+    def test_the_journal_is_lawful(self):
+        self.assertIsNone(first_fault(self.limits, self.journal.encode(), self.inputs))
+
+    def test_each_change_of_a_row_has_its_fault(self):
+        told = re.findall(r"^\| (\d+) \| `(.*?)` \| `check fault (\d) row (\d+)` \|", self.page, re.M)
+        self.assertEqual(len(told), 7)
+        for row, text, *fault in told:
+            rows = self.journal.splitlines(keepends=True)
+            rows[int(row) - 1] = text + "\n"
+            with self.subTest(text):
+                self.assertEqual(first_fault(self.limits, "".join(rows).encode(), self.inputs),
+                                 tuple(map(int, fault)))
 
 
 class Grammar(unittest.TestCase):

@@ -5,18 +5,17 @@ by turns.
 usage: check_times.py [SESSIONS] [ORDERS] [--gate PATH] [--runs N]      8 of 2,000 orders, 7 runs
 
 Prints the seconds of a run and of a check from start to end, each the median and the range; how many
-times as long a check takes, by the median of the ratios of neighbours; the most memory of both; the
-bytes of the journal; and the load of the machine. It ends with status 1 where a check doesn't say
-that its journal is lawful.
+times as long a check takes, by the median of the ratios of neighbours; the most memory of both, and
+how many times as much a check has; the bytes of the journal; and the load of the machine. It ends
+with status 1 where a check doesn't say that its journal is lawful.
 """
-import argparse
 import os
 import statistics
 import sys
 import tempfile
 from dataclasses import dataclass
 
-from sessions import LOOKED_AT, PROGRAM, Runs, memory_of, spread, texts_of, timed
+from sessions import LOOKED_AT, Runs, memory_of, parser_of_load, spread, texts_of, timed
 
 LAWFUL = "LAWFUL"
 
@@ -36,6 +35,10 @@ class Figures:
     def times_as_long(self):
         """The median of the ratios of a check and the run beside it."""
         return statistics.median(check / run for run, check in zip(self.runs, self.checks))
+
+    def times_the_memory(self):
+        """The most memory of a check, by that of a run."""
+        return self.check_memory / self.run_memory
 
 
 def checked(words, processors):
@@ -60,25 +63,16 @@ def measure(gate, sessions, orders, runs):
                        os.path.getsize(made.journal))
 
 
-def arguments():
-    """What the command line asks for."""
-    parser = argparse.ArgumentParser()
-    parser.add_argument("sessions", nargs="?", type=int, default=8)
-    parser.add_argument("orders", nargs="?", type=int, default=2_000)
-    parser.add_argument("--gate", default=PROGRAM)
-    parser.add_argument("--runs", type=int, default=7)
-    return parser.parse_args()
-
-
 def main():
-    asked = arguments()
+    asked = parser_of_load().parse_args()
     try:
         seen = measure(asked.gate, asked.sessions, asked.orders, asked.runs)
     except ValueError as wrong:
         sys.exit(str(wrong))
     print(f"{seen.sessions} sessions of {seen.orders} orders: a run {spread(seen.runs)}, a check "
           f"{spread(seen.checks)}, {seen.times_as_long():.2f} times as long; at most "
-          f"{seen.run_memory / 1e6:.1f} MB and {seen.check_memory / 1e6:.1f} MB; a journal of "
+          f"{seen.run_memory / 1e6:.1f} MB and {seen.check_memory / 1e6:.1f} MB, "
+          f"{seen.times_the_memory():.2f} times as much; a journal of "
           f"{seen.journal:,} bytes; load {os.getloadavg()[0]:.1f}")
 
 

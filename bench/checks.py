@@ -65,9 +65,9 @@ def compare(ask, case, counts):
     counts[right[1].split(b" row")[0].decode().strip()] += 1
 
 
-def every():
+def every(journals=WORKED):
     """Each small change of the worked journals, and these themselves."""
-    for worked, _ in WORKED:
+    for worked, _ in journals:
         own = Case(worked.name, worked.limits, worked.journal.encode(), worked.inputs)
         yield own
         for name, text in changes(worked.journal):

@@ -30,10 +30,12 @@ import forests
 import fuzz
 import live
 import machine
+import make_times
 import most
 import orders_read
 import refuse
 import replay
+import report_times
 import sessions
 import stress
 from model.judge import Wrong
@@ -47,9 +49,16 @@ README = os.path.join(sessions.HERE, "README.md")
 LOADS = ((1, 40_000), (4, 2_000), (8, 1_000), (8, 2_000), (8, 5_000), (32, 2_000),
          (64, 2_000))
 # The same for a check beside its run, and for the guard.
-CHECK_LOADS = ((1, 10_000), (8, 2_000), (32, 2_000), (64, 2_000))
+CHECK_LOADS = ((1, 10_000), (8, 2_000), (32, 2_000), (64, 2_000), (32, 10_000))
 CROSS_LOADS = ((1, 10_000), (8, 2_000), (32, 2_000), (64, 2_000))
+# The same for a load from a number, and for reports.
+MAKE_LOADS = ((1, 10_000), (8, 2_000), (32, 10_000), (64, 2_000))
+REPORT_LOADS = ((1, 2_000), (8, 2_000), (32, 2_000))
 STRESS_RUNS, FUZZ_RUNS, GUARD_RUNS, CHECKED_RUNS = 2_000, 24_000, 1_000, 1_000
+# Runs whose journals are audited, by turns of so many sessions.
+AUDITED_RUNS, AUDITED_SESSIONS = 1_000, (8, 64)
+# How many changes of the journal of each such run are checked.
+CHANGES = 20
 # What the refusals for a field fault have as their code, and how many codes there are.
 FIELD_FAULT, REFUSALS, NOTES = 16, 16, 6
 # Trees, posts of each pass in each, and the works: 2,048,000 posts each time.
@@ -86,13 +95,38 @@ def check_cells(seen):
     """The row of a load that is run and checked."""
     return (f"{seen.sessions}", f"{seen.orders:,}", spread(seen.runs), spread(seen.checks),
             f"{seen.times_as_long():.2f}", megabytes(seen.run_memory),
-            megabytes(seen.check_memory), megabytes(seen.journal))
+            megabytes(seen.check_memory), f"{seen.times_the_memory():.2f}",
+            megabytes(seen.journal))
 
 
 def check_rows(asked):
     """A row for each load that is run and checked."""
     return [check_cells(check_times.measure(asked.gate, count, orders, asked.runs))
             for count, orders in CHECK_LOADS]
+
+
+def make_cells(seen):
+    """The row of a load from a number."""
+    return (f"{seen.sessions}", f"{seen.orders:,}", spread(seen.seconds), megabytes(seen.memory),
+            f"{seen.messages:,}", megabytes(seen.bytes), f"{seen.reads:,}", megabytes(seen.written))
+
+
+def make_rows(asked):
+    """A row for each load from a number."""
+    return [make_cells(make_times.measure(asked.gate, count, orders, asked.runs))
+            for count, orders in MAKE_LOADS]
+
+
+def report_cells(seen):
+    """The row of a load of whose run a report is made."""
+    return (f"{seen.sessions}", f"{seen.orders:,}", spread(seen.seconds), megabytes(seen.memory),
+            megabytes(seen.table), megabytes(seen.page))
+
+
+def report_rows(asked):
+    """A row for each load of whose run a report is made."""
+    return [report_cells(report_times.measure(asked.gate, count, orders, asked.runs))
+            for count, orders in REPORT_LOADS]
 
 
 def cross_rows(asked):
@@ -146,9 +180,9 @@ def stress_cells(counts):
             ("journals that the program's own check called lawful", f"{counts['checked']:,}")]
 
 
-def judged(asked, runs, has_check=False):
+def judged(asked, runs, has_check=False, many=None):
     """What the scripts that judge runs are asked."""
-    return SimpleNamespace(gate=asked.gate, runs=runs, seed=1, sessions=None, check=has_check,
+    return SimpleNamespace(gate=asked.gate, runs=runs, seed=1, sessions=many, check=has_check,
                            keep=None, only=None, jobs=len(os.sched_getaffinity(0)))
 
 
@@ -156,6 +190,12 @@ def stress_rows(asked):
     """What came in runs judged from outside, whose journals the program checks too where it can."""
     has_check = stress.has_command(asked.gate, "check")
     return stress_cells(stress.run_all(judged(asked, STRESS_RUNS, has_check), stress.judge))
+
+
+def audit_rows(asked):
+    """What came in runs whose journals the program's own check has to call lawful."""
+    return stress_cells(stress.run_all(judged(asked, AUDITED_RUNS, True, AUDITED_SESSIONS),
+                                       stress.judge))
 
 
 def guard_cells(counts):
@@ -194,7 +234,7 @@ def checks_cells(every, changed):
 def checks_rows(asked):
     """What came in checks by the program."""
     wanted = SimpleNamespace(gate=os.path.abspath(asked.gate), seed=1, runs=CHECKED_RUNS,
-                             changes=20, keep=None)
+                             changes=CHANGES, keep=None)
     return checks_cells(*(checks.run_all(SimpleNamespace(**vars(wanted), every=is_every))
                           for is_every in (True, False)))
 
@@ -330,13 +370,17 @@ GROUPS = (
           more=growth),
     Group("most", ("Session", "Seconds", "Memory at most", "Bytes read", "Bytes written"),
           most_rows, is_quick=True),
+    Group("make", ("Sessions", "Orders each", "Seconds", "Memory at most", "Messages", "Their bytes",
+                   "Reads", "Written"), make_rows, is_quick=True, command="make"),
     Group("check", ("Sessions", "Orders each", "A run", "A check of its journal",
-                    "Times as long", "Memory of the run", "Memory of the check", "Journal"),
+                    "Times as long", "Memory of the run", "Memory of the check",
+                    "Times the memory", "Journal"),
           check_rows, is_quick=True, command="check"),
     Group("cross", ("Sessions", "Orders each", "On all processors", "On one", "Times as fast",
                     "Memory at most", "Read", "Written"), cross_rows, is_quick=True,
           command="cross"),
     Group("stress", ("What", "How many"), stress_rows, is_repeated=False),
+    Group("audits", ("What", "How many"), audit_rows, is_repeated=False, command="check"),
     Group("checks", ("What", "How many"), checks_rows, is_repeated=False, command="check"),
     Group("guards", ("What", "How many"), guard_rows, is_repeated=False, command="cross"),
     Group("fuzz", ("What", "How many"), fuzz_rows, is_repeated=False),
@@ -345,6 +389,8 @@ GROUPS = (
           is_repeated=False),
     Group("live", ("Session", "Sent", "Refused", "Slowest answer"), live_rows,
           is_repeated=False),
+    Group("report", ("Sessions", "Orders each", "A report", "Memory at most", "Table", "Page"),
+          report_rows),
     Group("forests", ("Threads", "one tree: forest", *ON_TREES[1:], "own trees: forest",
                       *ON_TREES[1:]), forest_rows, ("rt", "rustc")),
     Group("replay", ("Trees", "Prepared once", "of which preparing", "By `replay` of each tree",

@@ -19,7 +19,9 @@ from unittest import mock
 import check_times
 import figures
 import machine
+import make_times
 import most
+import report_times
 import sessions
 from table import marks, part_of, read_table, table, with_part
 
@@ -91,7 +93,22 @@ class Rows(unittest.TestCase):
                                    9_500_000, 6_200_000)
         self.assertEqual(figures.check_cells(seen), (
             "8", "2,000", "0.040 s (0.020 to 0.060)", "0.060 s (0.040 to 0.120)", "2.00", "17 MB",
-            "9.5 MB", "6.2 MB"))
+            "9.5 MB", "0.56", "6.2 MB"))
+
+    def test_a_load_from_a_number_and_a_report(self):
+        made = make_times.Figures(8, 20, [0.02, 0.04, 0.06], 1_700_000, 440, 65_000, 640, 99_000)
+        self.assertEqual(figures.make_cells(made), (
+            "8", "20", "0.040 s (0.020 to 0.060)", "1.7 MB", "440", "0.1 MB", "640", "0.1 MB"))
+        told = report_times.Figures(8, 2_000, [1.5], 40_000_000, 2_500_000, 900_000)
+        self.assertEqual(figures.report_cells(told), (
+            "8", "2,000", "1.500 s (1.500 to 1.500)", "40 MB", "2.5 MB", "0.9 MB"))
+
+    def test_what_a_summary_counts(self):
+        told = "make 0 1 1\nnew 1 cancel 2 report 3 bytes 272\nreads 4\nstatus 0\n"
+        self.assertEqual(make_times.summary(told), (6, 272, 4))
+        for other in (told[:-2] + "8\n", told.replace("new", "old"), ""):
+            with self.subTest(other), self.assertRaises(ValueError):
+                make_times.summary(other)
 
     def test_what_guards_count(self):
         counts = Counter({"runs": 10, "met": 4, "sessions": 30, "post": 1_000, "read": 900,
@@ -161,7 +178,7 @@ class Command(unittest.TestCase):
     """What is run, what is left out, and what stands in README.md."""
 
     def test_quick_groups_alone_run_with_no_words(self):
-        for gate, own in ((STAND_IN, ["sessions", "most", "check", "cross"]),
+        for gate, own in ((STAND_IN, ["sessions", "most", "make", "check", "cross"]),
                           (sys.executable, ["sessions", "most"])):
             asked = SimpleNamespace(all=False, groups=[], gate=gate)
             ran = [group.name for group in figures.GROUPS if figures.left_out(group, asked) is None]
@@ -219,10 +236,17 @@ class Command(unittest.TestCase):
     def test_small_loads_over_the_stand_in(self):
         """Each group that the stand-in can run, with few runs and few orders."""
         small = {"LOADS": ((1, 2),), "CHECK_LOADS": ((2, 2),), "CROSS_LOADS": ((2, 2),),
-                 "STRESS_RUNS": 1, "GUARD_RUNS": 1, "CHECKED_RUNS": 1}
+                 "REPORT_LOADS": ((1, 2),), "STRESS_RUNS": 1, "GUARD_RUNS": 1, "CHECKED_RUNS": 1,
+                 "CHANGES": 2, "AUDITED_RUNS": 2, "AUDITED_SESSIONS": (2, 3)}
         asked = SimpleNamespace(gate=STAND_IN, runs=1)
-        with mock.patch.multiple(figures, **small), mock.patch("checks.every", lambda: ()):
-            for name in ("sessions", "check", "cross", "stress", "guards", "checks"):
+        once = [mock.patch(f"{name}.LOOKED_AT", 1)
+                for name in ("sessions", "check_times", "report_times")]
+        with contextlib.ExitStack() as stack:
+            for patch in (*once, mock.patch.multiple(figures, **small),
+                          mock.patch("checks.every", lambda: ())):
+                stack.enter_context(patch)
+            for name in ("sessions", "check", "cross", "report", "stress", "audits", "guards",
+                         "checks"):
                 with self.subTest(name):
                     rows = BY_NAME[name].rows(asked)
                     self.assertEqual({len(row) for row in rows}, {len(BY_NAME[name].head)})
@@ -233,6 +257,17 @@ class Command(unittest.TestCase):
             check_times.measure(STAND_IN, 1, 2, 1)
         with self.assertRaises(ValueError):
             check_times.checked(["echo", "check fault"], os.sched_getaffinity(0))
+
+    def test_a_load_from_a_number(self):
+        """Over a program that tells a summary and writes one output."""
+        with tempfile.TemporaryDirectory() as folder:
+            gate = sessions.write(folder, "gate", '#!/bin/sh\necho made > load/journal.csv\necho "$*"\n'
+                                  "echo new 6 cancel 1 report 5 bytes 900\necho reads 24\n"
+                                  "echo status 0\n")
+            os.chmod(gate, 0o755)
+            seen = make_times.measure(gate, 2, 3, 2)
+        self.assertEqual((seen.messages, seen.bytes, seen.reads, seen.written, len(seen.seconds)),
+                         (12, 900, 24, 5, 2))
 
     def test_orders_of_the_guard_never_cross(self):
         seen = sessions.measure(STAND_IN, 2, 3, 1, "cross")

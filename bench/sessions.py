@@ -4,10 +4,10 @@
 usage: sessions.py [SESSIONS] [ORDERS] [--gate PATH] [--runs N] [--cross]     8 of 2,000, 7 runs
 
 The orders are buys. With `--cross` the guard against crossing orders is run, and every second
-session sells at a higher price, so that each order is passed on. Prints the seconds from start to end on all processors and on one, where the sessions can only take
-turns, each the median and the range of the runs; how many times as fast all are, by the median of
-the ratios of runs beside each other; the most memory of a run; the bytes read and written; and the
-load of the machine.
+session sells at a higher price, so that each order is passed on. Prints the seconds from start to end
+on all processors and on one, where the sessions can only take turns, each the median and the range of
+the runs; how many times as fast all are, by the median of the ratios of runs beside each other; the
+most memory of a run; the bytes read and written; and the load of the machine.
 """
 import argparse
 import os
@@ -56,20 +56,21 @@ def spread(seconds):
     return f"{statistics.median(seconds):.3f} s ({min(seconds):.3f} to {max(seconds):.3f})"
 
 
-def timed(words, processors):
-    """The seconds of a call on these processors, and the last line that it prints."""
+def timed(words, processors, folder=None):
+    """The seconds of a call on these processors, in a folder where one is given, and the last line
+    that it prints."""
     start = time.perf_counter()
-    done = subprocess.run(words, check=True, capture_output=True, text=True,
+    done = subprocess.run(words, check=True, capture_output=True, text=True, cwd=folder,
                           preexec_fn=lambda: os.sched_setaffinity(0, processors))
     return time.perf_counter() - start, done.stdout.splitlines()[-1]
 
 
-def memory_of(words):
+def memory_of(words, folder=None):
     """The most memory of a call, in bytes, which is looked at again and again. What the system tells
     of a process that has ended isn't taken: it has in it what the memory was before the program was
     called, which is Python's."""
     most = 0
-    with subprocess.Popen(words, stdout=subprocess.DEVNULL) as gate:
+    with subprocess.Popen(words, stdout=subprocess.DEVNULL, cwd=folder) as gate:
         while gate.poll() is None:
             most = max(most, highest(gate.pid))
             time.sleep(0.0002)
@@ -149,13 +150,19 @@ def measure(gate, sessions, orders, runs, command="run"):
                        size(made.inputs), size(made.out), made.last)
 
 
-def arguments():
-    """What the command line asks for."""
+def parser_of_load():
+    """What each script takes that measures one load."""
     parser = argparse.ArgumentParser()
     parser.add_argument("sessions", nargs="?", type=int, default=8)
     parser.add_argument("orders", nargs="?", type=int, default=2_000)
     parser.add_argument("--gate", default=PROGRAM)
     parser.add_argument("--runs", type=int, default=7)
+    return parser
+
+
+def arguments():
+    """What the command line asks for."""
+    parser = parser_of_load()
     parser.add_argument("--cross", action="store_true")
     return parser.parse_args()
 

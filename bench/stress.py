@@ -1,14 +1,15 @@
 #!/usr/bin/env python3
 """Runs the built program over random sessions that share an account and a symbol, and judges it.
 
-usage: stress.py [--runs N] [--seed N] [--sessions N] [--check] [--gate PATH] [--keep FOLDER]
+usage: stress.py [--runs N] [--seed N] [--sessions N...] [--check] [--gate PATH] [--keep FOLDER]
 
-2,000 runs, seed 1. A run has 2 to 64 sessions, or as many as are asked for. Its journal has to be
-legal and to admit within the limits at every place; each session's acts and both streams, the totals
-and the status have to be those of the plain model in `model` over its input and its reads. With
-`--check` the program's own `check` has to call each journal lawful too. It prints what it ran and
-saw, and in how many runs sessions met: the places of their reads in the firm's tree overlap. It ends
-with status 1 at the first run that is wrong, whose files it leaves in FOLDER, where one is given.
+2,000 runs, seed 1. A run has 2 to 64 sessions, or as many as are asked for, by turns of several N.
+Its journal has to be legal and to admit within the limits at every place; each session's acts and both
+streams, the totals and the status have to be those of the plain model in `model` over its input and
+its reads. With `--check` the program's own `check` has to call each journal lawful too. It prints what
+it ran and saw, and in how many runs sessions met: the places of their reads in the firm's tree
+overlap. It ends with status 1 at the first run that is wrong, whose files it leaves in FOLDER, where
+one is given.
 """
 import argparse
 import os
@@ -45,7 +46,7 @@ def read(folder, name):
 
 
 def made(number, sessions=None):
-    """The limit file and the inputs of a run."""
+    """The limit file and the inputs of a run, of so many sessions where that is given."""
     dice = random.Random(number)
     limits = loads.limits(dice)
     sessions = sessions or dice.choice((2, 2, 3, 4, 5, 8, 8, 16, 32, 64))
@@ -127,7 +128,7 @@ def parser_of(runs):
 def arguments():
     """What the command line asks for."""
     parser = parser_of(2_000)
-    parser.add_argument("--sessions", type=int)
+    parser.add_argument("--sessions", type=int, nargs="+")
     parser.add_argument("--check", action="store_true")
     return parser.parse_args()
 
@@ -149,7 +150,8 @@ def tell(counts, seconds):
 
 def judge(asked, folder, number, counts):
     """Judges a run."""
-    limits, inputs = made(asked.seed * 1_000_003 + number, asked.sessions)
+    many = asked.sessions[number % len(asked.sessions)] if asked.sessions else None
+    limits, inputs = made(asked.seed * 1_000_003 + number, many)
     done, out = call(asked.gate, folder, limits, inputs)
     found = results(done, out, len(inputs))
     count(counts, judge_run(limits, inputs, *found))

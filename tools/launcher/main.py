@@ -5,12 +5,13 @@ import sys
 
 from launcher.building import is_due, program_of
 from launcher.files import drop_empty, make_folder, why_not_read
+from launcher.journal_check import check_journal
 from launcher.outputs import left_over, marks
 from launcher.processes import hand_on
 from launcher.reasons import reasons
 from launcher.say import name, put, say
 from launcher.usage import HELP, USAGE, version
-from launcher.words import SESSIONS, read_run
+from launcher.words import SESSIONS, Check, read_run
 
 DONE, NO_PROGRAM, MALFORMED, UNREAD = 0, 1, 2, 5
 
@@ -30,7 +31,7 @@ def main(top, words):
 
 
 def run(top, words):
-    """A run, or what is wrong with the words."""
+    """A run, a load or a check, or what is wrong with the words."""
     asked, fault = read_run(words)
     if fault:
         say(f"{fault}. Nothing was read or written; `gate --help` tells more")
@@ -41,7 +42,14 @@ def run(top, words):
             say(f"{name(unread[0])} can't be read: {unread[1]}. Nothing was built or written")
             return put("read fault", UNREAD)
     program = program_of(top)
-    return run_program(program, words, asked) if program else NO_PROGRAM
+    if not program:
+        return NO_PROGRAM
+    try:
+        call = check_journal if isinstance(asked, Check) else run_program
+        return call(program, words, asked)
+    except OSError as error:
+        say(f"{program} can't be started: {(error.strerror or str(error)).lower()}")
+        return NO_PROGRAM
 
 
 def report(top, words):
@@ -65,9 +73,6 @@ def run_program(program, words, asked):
                 say(line)
         tell_left_over(asked, before, status)
         return status if status >= 0 else 128 - status
-    except OSError as error:
-        say(f"{program} can't be started: {(error.strerror or str(error)).lower()}")
-        return NO_PROGRAM
     finally:
         drop_empty(made)
 

@@ -3,13 +3,17 @@ import os
 import shutil
 import subprocess
 
-USAGE = "usage: gate run LIMITS OUT SESSION... | gate make NUMBER SESSIONS ORDERS"
+USAGE = (
+    "usage: gate run LIMITS OUT SESSION... | gate make NUMBER SESSIONS ORDERS"
+    " | gate check LIMITS JOURNAL SESSION..."
+)
 
 KIT = "rattle-kit-13f logic dac8208d650f15bf"
 
 HELP = """\
 usage: gate run LIMITS OUT SESSION...
        gate make NUMBER SESSIONS ORDERS
+       gate check LIMITS JOURNAL SESSION...
        gate report LIMITS OUT SESSION...
        gate --help | --version
 
@@ -23,17 +27,22 @@ each, and runs it in memory: it reads no file, and writes the outputs into the f
 compares what every session read with a walk along each tree's history, and tells what it found. It
 ends with 0, 1, 2, 6 or 8 alone.
 
+`check` judges a journal, whoever made it, by the limit file and by the session files, which are
+given in the order of the journal's sessions. It tells `LAWFUL`, or the kind of the first fault and
+its row, and writes nothing. It ends with 0, 1, 2, 3, 5, 6, 7 or 8 alone.
+
 `report`, with the words of a run that has ended, writes OUT/report.html and
 OUT/requests.csv about it.
 
-status of a run
-  0  every session file was read to its end, and everything was written
+status of a run, a load or a check
+  0  every session file was read to its end, and everything was written; or the journal is lawful
   1  the program couldn't be built or started
   2  the command line is malformed, or names one file twice; nothing was read or written
   3  the limit file has a fault
   4  a session file ends within a message, or something in it is no message
   5  a file couldn't be read
   6  a file, or standard output, couldn't be written
+  7  the journal that was checked has a fault
   8  out of memory
   128 and the number of a signal, where one ended the program
 

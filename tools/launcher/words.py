@@ -1,4 +1,5 @@
-"""The words of a call: which run or load they ask for, and what is wrong where they ask for none."""
+"""The words of a call: which run, load or check they ask for, and what is wrong where they ask for
+none."""
 import os
 import re
 
@@ -47,6 +48,25 @@ class Load(Run):
         return []
 
 
+class Check:
+    """`check LIMITS JOURNAL SESSION...`: the names as they were given. Nothing is written."""
+
+    def __init__(self, limits, journal, sessions):
+        self.limits = limits
+        self.journal = journal
+        self.sessions = sessions
+
+    def inputs(self):
+        """The names that are read, in the order in which they are."""
+        return [self.limits, self.journal, *self.sessions]
+
+
+# What each word behind `run` and behind `check` is, but for the sessions.
+NAMES = {
+    "run": ("a limit file", "a folder for the outputs", "a session file"),
+    "check": ("a limit file", "a journal", "a session file"),
+}
+
 # What each word behind `make` is: its name, and its least and its most.
 NUMBERS = (
     ("NUMBER", 0, 4_294_967_295),
@@ -56,13 +76,16 @@ NUMBERS = (
 
 
 def read_run(words):
-    """The run or the load that these words ask for and None, or None and what is wrong with them."""
+    """The run, the load or the check that these words ask for and None, or None and what is wrong
+    with them."""
     fault = wrong_word(words)
     if not fault and words[0] == "make":
         return read_load(words)
     fault = fault or wrong_number(words)
     if fault:
         return None, fault
+    if words[0] == "check":
+        return read_check(words)
     run = Run(words[1], words[2], words[3:])
     fault = repeated(run) or overwritten(run)
     return (None, fault) if fault else (run, None)
@@ -76,6 +99,24 @@ def read_load(words):
     load = Load(int(words[2]))
     fault = overwritten(load)
     return (None, fault) if fault else (load, None)
+
+
+def read_check(words):
+    """The same where the first word is `check`. A file may be given under two names, since nothing
+    is written; a name is given once."""
+    fault = given_twice(words[3:])
+    return (None, fault) if fault else (Check(words[1], words[2], words[3:]), None)
+
+
+def given_twice(sessions):
+    """Whether a session's name was given twice, or None."""
+    places = {}
+    for place, path in enumerate(sessions):
+        if path in places:
+            both = f"sessions {places[path]} and {place} are both {path}"
+            return f"{both}: a session can't be given twice"
+        places[path] = place
+    return None
 
 
 def wrong_count(words):
@@ -105,13 +146,13 @@ def wrong_word(words):
     for place, word in enumerate(words, 1):
         if not is_utf8(word):
             return f"word {place} isn't UTF-8: {name(word)}"
-    if words[0] not in ("run", "make"):
+    if words[0] not in ("run", "make", "check"):
         return f"`{words[0]}` is no command"
     for place, word in enumerate(words, 1):
         if not word:
             return f"word {place} is empty"
         if word.startswith("-"):
-            hint = f": write `./{word}` for such a file" if words[0] == "run" else ""
+            hint = f": write `./{word}` for such a file" if words[0] in NAMES else ""
             return f"word {place}, `{word}`, begins with a dash{hint}"
     return None
 
@@ -119,11 +160,10 @@ def wrong_word(words):
 def wrong_number(words):
     """Whether there are too few words or too many, or None."""
     if len(words) < 4:
-        missing = ("a limit file", "a folder for the outputs", "a session file")[len(words) - 1 :]
-        return "`run` lacks " + listed(missing)
+        return f"`{words[0]}` lacks " + listed(NAMES[words[0]][len(words) - 1 :])
     count = len(words) - 3
     if count > SESSIONS:
-        return f"{count} sessions were given: a run takes 1 to {SESSIONS}"
+        return f"{count} sessions were given: a {words[0]} takes 1 to {SESSIONS}"
     return None
 
 

@@ -202,6 +202,33 @@ class Runs(InFolder):
                 sent, refused = re.findall(r"sent (\d+) refused (\d+)", self.run_example(name))[0]
                 self.assertEqual(self.report_of(name, "session"), (int(sent), int(refused)))
 
+    def test_the_journals_are_lawful(self):
+        for name in ONE_SESSION:
+            with self.subTest(name):
+                self.run_example(name)
+                self.assertEqual(self.check(name, "out/journal.csv"), (0, "LAWFUL\n", ""))
+
+    def check(self, name, journal):
+        """What the launcher answers to a check of a journal by an example with one session."""
+        files = [os.path.join(EXAMPLES, name, one) for one in ("limits.csv", "session.fix")]
+        return self.gate("check", files[0], journal, files[1], env={"GATE_PROGRAM": built()})
+
+    def test_the_audit_of_the_first_example(self):
+        self.run_example("first")
+        rows = self.read("out/journal.csv").decode().splitlines(keepends=True)
+        page = read("first", "README.md").decode()
+        told = re.findall(r"^\| (\d+) \| `(.*?)` \| `(check fault .*?)` \|", page, re.M)
+        self.assertTrue(told)
+        for row, text, fault in told:
+            with self.subTest(text):
+                place = int(row) - 1
+                changed = [*rows[:place], text + "\n", *rows[place + 1 :]]
+                self.write("out/first/changed.csv", "".join(changed))
+                status, out, error = self.check("first", "out/first/changed.csv")
+                self.assertEqual((status, out), (7, fault + "\n"))
+                if (row, text) == told[0][:2]:
+                    self.assertIn(error, blocks("first"))
+
     def report_of(self, name, *sessions):
         """How many requests the report of the run in `out` tells as sent and as refused. The report
         is taken away again."""
@@ -225,6 +252,9 @@ class Runs(InFolder):
         ended = re.findall(rb"session (\d) whole sent (\d) refused (\d) noted 0", done.stdout)
         self.assertEqual([int(sent) + int(refused) for _, sent, refused in ended], [1, 2, 3, 1])
         self.assertEqual(sum(self.report_of("firm", *sessions)), 7)
+        limits = os.path.join(EXAMPLES, "firm", "limits.csv")
+        done = self.run_words("check", limits, "out/journal.csv", *inputs)
+        self.assertEqual((done.returncode, done.stdout), (0, b"LAWFUL\n"))
         roots, reads = history(self.read("out/journal.csv").decode(), tree=0)
         self.assertTrue(reads)
         self.assertEqual([roots[place] for place, _ in reads], [root for _, root in reads])

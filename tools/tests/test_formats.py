@@ -53,7 +53,7 @@ class Formats(unittest.TestCase):
         self.assertEqual(told, proved)
 
     def test_the_statuses_are_those_of_the_help(self):
-        of_run = HELP.split("status of a run\n")[1].split("status of a report\n")[0]
+        of_run = re.split("^status of .*\n", HELP, flags=re.M)[1]
         helped = re.findall(r"^  (\d) ", of_run, re.M)
         told = [row[0] for row in table("| Status | Standard output |")]
         self.assertEqual(told, [status for status in helped if status != "1"])

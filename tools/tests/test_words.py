@@ -5,8 +5,12 @@ import subprocess
 import unittest
 
 from tests.places import TOP, InFolder
+from tests.sources import sources
 
-USAGE = "usage: gate run LIMITS OUT SESSION... | gate make NUMBER SESSIONS ORDERS\n"
+USAGE = (
+    "usage: gate run LIMITS OUT SESSION... | gate make NUMBER SESSIONS ORDERS"
+    " | gate check LIMITS JOURNAL SESSION...\n"
+)
 
 # Words, and what standard error says of them.
 MALFORMED = [
@@ -48,6 +52,20 @@ MALFORMED = [
     ("65 sessions of a load", ["make", "7", "65", "20"], "word 3, `65`, is no SESSIONS"),
     ("no order", ["make", "7", "8", "0"], "word 4, `0`, is no ORDERS"),
     ("10,001 orders", ["make", "7", "8", "10001"], "that is 1 to 10,000"),
+    ("check alone", ["check"], "`check` lacks a limit file, a journal and a session file"),
+    ("no session of a check", ["check", "limits.csv", "j.csv"], "`check` lacks a session file"),
+    (
+        "65 sessions of a check",
+        ["check", "limits.csv", "j.csv", *(f"{n}.fix" for n in range(65))],
+        "65 sessions were given: a check takes 1 to 64",
+    ),
+    ("an empty journal", ["check", "limits.csv", "", "a.fix"], "word 3 is empty"),
+    ("a dash", ["check", "limits.csv", "-j", "a.fix"], "write `./-j` for such a file"),
+    (
+        "a session of a check twice",
+        ["check", "limits.csv", "j.csv", "a.fix", "b.fix", "a.fix"],
+        "sessions 0 and 2 are both a.fix: a session can't be given twice",
+    ),
     ("no UTF-8", ["run", "limits.csv", "out", b"a\xff.fix"], "word 4 isn't UTF-8: a\\xff.fix"),
 ]
 
@@ -70,19 +88,19 @@ class Words(InFolder):
         self.says(error, "`run` lacks")
 
     def test_the_usage_is_the_programs(self):
+        """A text may go on in the next line of its source."""
         found = set()
-        for folder, _, names in os.walk(os.path.join(TOP, "crates/gate_program")):
-            for name in names if "/out" not in folder else ():
-                with open(os.path.join(folder, name), encoding="utf-8", errors="replace") as file:
-                    found |= set(re.findall(r"usage: gate [^\"\\\n`]*", file.read()))
+        for crate in ("gate_files", "gate_program"):
+            text = re.sub(r'\\\n\s*|"\s*\+\+ codes "', "", sources(crate))
+            found |= set(re.findall(r"usage: gate [^\"\\\n`]*", text))
         self.assertEqual(found, {USAGE.rstrip()})
 
     def test_help_has_a_line_for_each_status(self):
-        for words in (["--help"], ["-h"], ["run", "--help"], ["make", "-h"], ["report", "-h"]):
+        for words in (["--help"], ["-h"], ["run", "--help"], ["check", "-h"], ["report", "-h"]):
             status, out, error = self.gate(*words, env={"GATE_PROGRAM": None, "PATH": self.bare()})
             self.assertEqual((status, error), (0, ""))
-            of_run, of_report = out.split("status of a run\n")[1].split("status of a report\n")
-            self.assertEqual(re.findall(r"^  ([0-9]+) ", of_run, re.M), [*"01234568", "128"])
+            _, of_run, of_report = re.split("^status of .*\n", out, flags=re.M)
+            self.assertEqual(re.findall(r"^  ([0-9]+) ", of_run, re.M), [*"012345678", "128"])
             self.assertEqual(re.findall(r"^  ([0-9]+) ", of_report, re.M), [*"0234"])
             self.says(
                 out,
