@@ -394,6 +394,7 @@ unopened_among before now after last session venue client status.Usage earlier l
 unopened_among before now after last session venue client (status.Limits why) earlier later rose =
     rose
 unopened_among before now after last session venue client status.CutShort earlier later rose = rose
+unopened_among before now after last session venue client status.Unlawful earlier later rose = rose
 
 -- objects that were opened are fresh
 pub created : (run : RunWords) (before after : PortsValue) (objects : List ObjectsValue)

@@ -71,3 +71,4 @@ module _ (name : List ℕ) (most : ℕ) (room : bytes_most < most) where
   has_limits_fault before after bytes status.CutShort front gives = absurd gives
   has_limits_fault before after bytes status.ReadFault front gives = absurd gives
   has_limits_fault before after bytes status.WriteFault front gives = absurd gives
+  has_limits_fault before after bytes status.Unlawful front gives = absurd gives

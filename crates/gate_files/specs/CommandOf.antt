@@ -1,4 +1,4 @@
--- What the parsed words of a run are.
+-- What the parsed words of a command are.
 use Rattle.std.specs.Prelude.{ℕ, ◌≤◌, IsTrue, List, [], ◌∷◌, ◌++◌, codes, map, string_bytes}
 use Rattle.std.specs.List.{flat_map, range_with_len}
 use Rattle.make_load.specs.declared.session.TheConstants.{ORDERS_MOST}
@@ -6,9 +6,11 @@ use Rattle.make_load.specs.declared.summary.Asked.{Asked}
 use Rattle.gate_files.specs.declared.words.Command.{Command as Read}
 use Rattle.gate_files.specs.declared.words.Command.TheVariants as read
 use Rattle.gate_files.specs.declared.words.Run.{Run}
-use Rattle.gate_files.specs.Words.{RunWords, Command, two_digits}
-use Rattle.gate_files.specs.Words.{is_run, session_most}
+use Rattle.gate_files.specs.declared.words.Check.{Check}
+use Rattle.gate_files.specs.Words.{RunWords, CheckWords, Command, two_digits}
+use Rattle.gate_files.specs.Words.{is_run, is_check, session_most}
 use Rattle.gate_files.specs.Words.Command.{Run as run_command, Make as make_command}
+use Rattle.gate_files.specs.Words.Command.{Check as check_command}
 
 -- the words of a run
 abbrev pub run_value : Run → RunWords
@@ -18,10 +20,19 @@ run_value run = record {
   sessions = map string_bytes run.sessions.now;
 }
 
+-- the words of a check
+abbrev pub check_value : Check → CheckWords
+check_value check = record {
+  limits = check.limits.now;
+  journal = check.journal.now;
+  sessions = map string_bytes check.sessions.now;
+}
+
 -- the command that was read
 abbrev pub command_value : Read → Command
 command_value (read.Run run) = run_command (run_value run)
 command_value (read.Make asked) = make_command asked
+command_value (read.Check check) = check_command (check_value check)
 
 -- a load has one session to the most, and each one order to the most
 pub record IsAsked (asked : Asked) : Type 0 where
@@ -34,6 +45,7 @@ pub record IsAsked (asked : Asked) : Type 0 where
 abbrev pub IsForm : Read → Type 0
 IsForm (read.Run run) = IsTrue (is_run (run_value run))
 IsForm (read.Make asked) = IsAsked asked
+IsForm (read.Check check) = IsTrue (is_check (check_value check))
 
 -- the names of a session's outputs, after the folder of outputs
 abbrev pub files_of : ℕ → List (List ℕ)

@@ -15,11 +15,11 @@ number_of (status.Limits why) = 3
 number_of status.CutShort = 4
 number_of status.ReadFault = 5
 number_of status.WriteFault = 6
+number_of status.Unlawful = 7
 number_of status.Memory = 8
 
--- what is told of a run that stopped with this status; the statuses after sessions have their
--- totals,
--- and want of memory tells nothing
+-- what is told of a command that stopped with this status; the statuses after sessions have their
+-- totals, a journal's fault has its text, and want of memory tells nothing
 abbrev pub told_text : Status → List ℕ
 told_text status.Done = []
 told_text status.Usage = usage_text
@@ -27,6 +27,7 @@ told_text (status.Limits why) = limits_fault_text why
 told_text status.CutShort = []
 told_text status.ReadFault = read_fault_text
 told_text status.WriteFault = write_fault_text
+told_text status.Unlawful = []
 told_text status.Memory = []
 
 -- the exit status of an answer

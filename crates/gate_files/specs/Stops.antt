@@ -37,16 +37,16 @@ pub record HasNoForm (words : List (List ℕ)) (before after : PortsValue) (stat
   pub texts : after.texts ≡ before.texts
   pub told : Tells before after usage_text 2 status
 
--- The limit file could not be opened or read.
-pub record HasUnreadLimits (run : RunWords) (before after : PortsValue) (status : ℕ) : Type 0 where
-  pub rose : ReadRose before after run.limits
+-- The limit file of this name could not be opened or read.
+pub record HasUnreadLimits (name : List ℕ) (before after : PortsValue) (status : ℕ) : Type 0 where
+  pub rose : ReadRose before after name
   pub texts : after.texts ≡ before.texts
   pub told : Tells before after read_fault_text 5 status
 
--- The limit file is refused, and what is told is its first fault.
-pub record HasRefusedLimits (run : RunWords) (before after : PortsValue) (status : ℕ) : Type 0 where
+-- The limit file of this name is refused, and what is told is its first fault.
+pub record HasRefusedLimits (name : List ℕ) (before after : PortsValue) (status : ℕ) : Type 0 where
   pub why : LimitFault
-  pub refused : IsRefused before.texts run.limits why
+  pub refused : IsRefused before.texts name why
   pub texts : after.texts ≡ before.texts
   pub told : Tells before after (limits_fault_text why) 3 status
 

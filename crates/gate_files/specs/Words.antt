@@ -15,10 +15,17 @@ pub record RunWords : Type 0 where
   pub out : List ℕ
   pub sessions : List (List ℕ)
 
+-- the words of a check: the limit file, the journal, and the sessions
+pub record CheckWords : Type 0 where
+  pub limits : List ℕ
+  pub journal : List ℕ
+  pub sessions : List (List ℕ)
+
 -- what the words ask for
 pub data Command : Type 0 where
   Run : RunWords → Command
   Make : Asked → Command
+  Check : CheckWords → Command
 
 -- not empty, and without a leading dash
 abbrev pub is_word : List ℕ → Bool
@@ -65,7 +72,7 @@ abbrev pub are_distinct : List (List ℕ) → Bool
 are_distinct [] = true
 are_distinct (name ∷ names) = not (is_among name names) && are_distinct names
 
--- the most sessions of a run
+-- the most sessions of a run, and of a check
 abbrev pub session_most : ℕ
 session_most = SESSIONS
 
@@ -85,6 +92,22 @@ abbrev pub run_of : List ℕ → List ℕ → List (List ℕ) → Option Command
 run_of limits out sessions =
     let run : RunWords = record { limits = limits; out = out; sessions = sessions } in
     if is_run run then Some (Run run) else None
+
+-- A check has no empty word and none with a leading dash, and one session to the most, no two of them
+-- equal.
+abbrev pub is_check : CheckWords → Bool
+is_check check =
+    let count = length check.sessions in
+    list_all is_word (check.limits ∷ check.journal ∷ check.sessions)
+    && nat_le 1 count && nat_le count session_most
+    && are_distinct check.sessions
+
+-- the words after `check` as those of a check, where they are
+abbrev pub check_of : List ℕ → List ℕ → List (List ℕ) → Option Command
+check_of limits journal sessions =
+    let check : CheckWords =
+    record { limits = limits; journal = journal; sessions = sessions } in
+    if is_check check then Some (Check check) else None
 
 -- the number that a word spells in digits without a leading zero, where it does and is in this range
 abbrev pub number_in : ℕ → ℕ → List ℕ → Option ℕ
@@ -114,7 +137,8 @@ load_of number sessions (orders ∷ other ∷ others) = None
 abbrev pub command_of : List (List ℕ) → Option Command
 command_of (command ∷ first ∷ second ∷ others) =
     if bytes_eq command (codes "run") then run_of first second others
-    else (if bytes_eq command (codes "make") then load_of first second others else None)
+    else (if bytes_eq command (codes "make") then load_of first second others
+    else (if bytes_eq command (codes "check") then check_of first second others else None))
 command_of [] = None
 command_of (command ∷ []) = None
 command_of (command ∷ limits ∷ []) = None

@@ -22,8 +22,10 @@ pub use close::{close_session, close_sessions};
 pub use inputs::{Inputs, Named, Sure};
 pub use limits::limits_from;
 pub use names::{Names, Outputs, names_in};
-pub use open::{Opened, Sinks, create_outputs, open_session, open_sessions, read_limits};
+pub use open::{
+    Opened, Sinks, create_outputs, fetch_name, open_session, open_sessions, read_limits,
+};
 pub use status::{Answer, Status, standing};
 pub use telling::{tell, tell_answer};
-pub use words::{Command, Run, command_from};
+pub use words::{Check, Command, Run, command_from};
 pub use writing::write_file;

@@ -25,13 +25,18 @@ use std::alloc::Global;
 /// The most bytes of a limit file.
 const LIMIT_BYTES: usize = 1_048_576;
 
-/// Reads a name to its end, or to one byte more than a limit file may have.
-fn fetch_name<D: Folder>(alloc: Global, name: &str, folder: &mut D) -> Result<Vec<u8>, Status>
+/// Reads a name to its end, or to so many bytes.
+pub fn fetch_name<D: Folder>(
+    alloc: Global,
+    name: &str,
+    most: usize,
+    folder: &mut D,
+) -> Result<Vec<u8>, Status>
     ensures went { Went (folder_of D.texts D.read_faults D.write_faults folder.old)
         (folder_of D.texts D.read_faults D.write_faults folder.new) }
     ensures texts { D.texts folder.new ≡ D.texts folder.old }
     ensures ok { IfOk result (λ bytes.
-        HasFront (D.texts folder.old) name.now (LIMIT_BYTES + 1) bytes.items) }
+        HasFront (D.texts folder.old) name.now most bytes.items) }
     ensures err { IfErr result (λ status.
         IsUnread (folder_of D.texts D.read_faults D.write_faults folder.old)
         (folder_of D.texts D.read_faults D.write_faults folder.new) name.now status) }
@@ -41,7 +46,7 @@ fn fetch_name<D: Folder>(alloc: Global, name: &str, folder: &mut D) -> Result<Ve
         Err(PortFault::Failed) => return Err(Status::ReadFault),
         Err(PortFault::Memory) => return Err(Status::Memory),
     };
-    let fetched = fetch_up_to(alloc, &mut input, LIMIT_BYTES + 1);
+    let fetched = fetch_up_to(alloc, &mut input, most);
     folder.done(name, input);
     match fetched.end {
         FetchEnd::Whole => Ok(fetched.bytes),
@@ -61,7 +66,7 @@ pub fn read_limits<D: Folder>(alloc: Global, name: &str, folder: &mut D) -> Resu
         HasLimitsFault (folder_of D.texts D.read_faults D.write_faults folder.old)
         (folder_of D.texts D.read_faults D.write_faults folder.new) name.now status) }
 {
-    let bytes = match fetch_name(alloc, name, folder) {
+    let bytes = match fetch_name(alloc, name, LIMIT_BYTES + 1, folder) {
         Ok(bytes) => bytes,
         Err(status) => return Err(status),
     };

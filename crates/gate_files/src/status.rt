@@ -23,6 +23,8 @@ pub enum Status {
     ReadFault,
     /// A write failed.
     WriteFault,
+    /// The journal has a fault.
+    Unlawful,
     /// Memory was wanting.
     Memory,
 }
@@ -39,6 +41,7 @@ impl Status {
             Status::CutShort => 4,
             Status::ReadFault => 5,
             Status::WriteFault => 6,
+            Status::Unlawful => 7,
             Status::Memory => 8,
         }
     }

@@ -32,13 +32,14 @@ pub fn tell<O: Sink>(alloc: Global, out: &mut O, standing: Status) -> u8
     match standing {
         Status::Usage => tell_text(
             out,
-            b"usage: gate run LIMITS OUT SESSION... | gate make NUMBER SESSIONS ORDERS\n",
+            b"usage: gate run LIMITS OUT SESSION... | gate make NUMBER SESSIONS ORDERS \
+              | gate check LIMITS JOURNAL SESSION...\n",
             standing,
         ),
         Status::Limits(fault) => tell_fault(alloc, out, fault),
         Status::ReadFault => tell_text(out, b"read fault\n", standing),
         Status::WriteFault => tell_text(out, b"write fault\n", standing),
-        Status::Done | Status::CutShort => tell_text(out, b"", standing),
+        Status::Done | Status::CutShort | Status::Unlawful => tell_text(out, b"", standing),
         Status::Memory => Status::Memory.number(),
     }
 }

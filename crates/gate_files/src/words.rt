@@ -5,9 +5,10 @@ ghost use Rattle.std.specs.List.{list_all, list_any};
 ghost use Rattle.std.specs.Option.{option_map};
 ghost use Rattle.std.specs.Str.{bytes_eq};
 ghost use Rattle.gate_files.specs.Words.{command_of, is_word, is_run, is_among, load_of, number_in};
-ghost use Rattle.gate_files.specs.Words.{run_of};
+ghost use Rattle.gate_files.specs.Words.{run_of, check_of, is_check};
 ghost use Rattle.gate_files.specs.Words.{output_names, are_distinct, session_most};
-ghost use Rattle.gate_files.specs.CommandOf.{command_value, run_value, file_names, files_of, IsForm};
+ghost use Rattle.gate_files.specs.CommandOf.{command_value, run_value, check_value, IsForm};
+ghost use Rattle.gate_files.specs.CommandOf.{file_names, files_of};
 
 use fold_law::SESSIONS;
 use itoa::Buffer;
@@ -24,6 +25,17 @@ pub struct Run<'a> {
     pub sessions: &'a [String],
 }
 
+/// The words of a check.
+#[derive(Clone, Copy, Debug)]
+pub struct Check<'a> {
+    /// The name of the limit file.
+    pub limits: &'a str,
+    /// The name of the journal.
+    pub journal: &'a str,
+    /// The names of the sessions' inputs.
+    pub sessions: &'a [String],
+}
+
 /// What the words ask for.
 #[derive(Clone, Copy, Debug)]
 pub enum Command<'a> {
@@ -31,6 +43,8 @@ pub enum Command<'a> {
     Run(Run<'a>),
     /// A load, and a run over it.
     Make(Asked),
+    /// A check of a journal against the files of its sessions.
+    Check(Check<'a>),
 }
 
 /// The command that the words ask for. None where they are no form.
@@ -45,6 +59,8 @@ pub fn command_from<'a>(words: &'a [String]) -> Option<Command<'a>>
         run_from(first.as_str(), second.as_str(), others)
     } else if command.as_str() == "make" {
         load_from(first.as_str(), second.as_str(), others)
+    } else if command.as_str() == "check" {
+        check_from(first.as_str(), second.as_str(), others)
     } else {
         None
     }
@@ -63,6 +79,24 @@ fn run_from<'a>(limits: &'a str, out: &'a str, sessions: &'a [String]) -> Option
     };
     if is_run(&run) {
         Some(Command::Run(run))
+    } else {
+        None
+    }
+}
+
+/// The check that the words after `check` ask for.
+fn check_from<'a>(limits: &'a str, journal: &'a str, sessions: &'a [String]) -> Option<Command<'a>>
+    ensures command { option_map command_value result
+        ≡ check_of limits.now journal.now (map string_bytes sessions.now) }
+    ensures form { IfSome result IsForm }
+{
+    let check = Check {
+        limits,
+        journal,
+        sessions,
+    };
+    if is_check(&check) {
+        Some(Command::Check(check))
     } else {
         None
     }
@@ -131,7 +165,7 @@ fn is_run(run: &Run) -> bool
     ensures { result ≡ is_run (run_value run.now) }
 {
     let count = run.sessions.len();
-    if !has_words(run) {
+    if !has_words(run.limits, run.out, run.sessions) {
         return false;
     }
     if count < 1 || count > SESSIONS as usize {
@@ -143,18 +177,31 @@ fn is_run(run: &Run) -> bool
     !reads_outputs(run, count)
 }
 
-/// Whether each name of the run is a word.
-fn has_words(run: &Run) -> bool
-    ensures { let words = run_value run.now in
-        result ≡ list_all is_word (words.limits ∷ words.out ∷ words.sessions) }
+/// Whether the words are those of a check.
+fn is_check(check: &Check) -> bool
+    ensures { result ≡ is_check (check_value check.now) }
 {
-    if !is_word(run.limits) {
+    let count = check.sessions.len();
+    if !has_words(check.limits, check.journal, check.sessions) {
         return false;
     }
-    if !is_word(run.out) {
+    if count < 1 || count > SESSIONS as usize {
         return false;
     }
-    are_words(run.sessions)
+    are_distinct(check.sessions)
+}
+
+/// Whether two names and those of the sessions are words.
+fn has_words(first: &str, second: &str, sessions: &[String]) -> bool
+    ensures { result ≡ list_all is_word (first.now ∷ second.now ∷ map string_bytes sessions.now) }
+{
+    if !is_word(first) {
+        return false;
+    }
+    if !is_word(second) {
+        return false;
+    }
+    are_words(sessions)
 }
 
 /// Whether the limit file or a session is an output of a run of so many sessions.

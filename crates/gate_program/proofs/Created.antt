@@ -143,6 +143,7 @@ unmade_among before now after last venue client status.Done earlier later rose =
 unmade_among before now after last venue client status.Usage earlier later rose = rose
 unmade_among before now after last venue client (status.Limits why) earlier later rose = rose
 unmade_among before now after last venue client status.CutShort earlier later rose = rose
+unmade_among before now after last venue client status.Unlawful earlier later rose = rose
 
 pub unmade_named : (run : RunWords) (before now after last : PortsValue) (session : ℕ) (s : Status)
     (venue client : List ℕ) → session < length run.sessions → venue ≡ venue_name run.out session

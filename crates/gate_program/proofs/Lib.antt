@@ -10,10 +10,12 @@ pub mod Finished
 pub mod Ran
 pub mod Ways
 pub mod WholeInputs
+pub mod UnfailingChecks
 pub mod Made
 pub mod Agreed
 pub mod TreesTold
 pub mod LoadTold
+pub mod ChecksTold
 pub mod LoadRuns
 pub mod Sums
 pub mod Created

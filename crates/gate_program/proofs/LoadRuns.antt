@@ -165,6 +165,7 @@ gives_no_limits asked t0 r0 w0 t1 r1 w1 status.Usage file fault = absurd fault
 gives_no_limits asked t0 r0 w0 t1 r1 w1 status.CutShort file fault = absurd fault
 gives_no_limits asked t0 r0 w0 t1 r1 w1 status.ReadFault file fault = absurd fault
 gives_no_limits asked t0 r0 w0 t1 r1 w1 status.WriteFault file fault = absurd fault
+gives_no_limits asked t0 r0 w0 t1 r1 w1 status.Unlawful file fault = absurd fault
 
 -- an output of a load could not be made
 unmade : (asked : Asked) (t0 : Option Texts) (r0 w0 : List ℕ → ℕ) (t1 : Option Texts)
@@ -186,6 +187,7 @@ unmade asked t0 r0 w0 t1 r1 w1 status.Usage (session, below, fault, left) = absu
 unmade asked t0 r0 w0 t1 r1 w1 (status.Limits why) (session, below, fault, left) = absurd fault
 unmade asked t0 r0 w0 t1 r1 w1 status.CutShort (session, below, fault, left) = absurd fault
 unmade asked t0 r0 w0 t1 r1 w1 status.ReadFault (session, below, fault, left) = absurd fault
+unmade asked t0 r0 w0 t1 r1 w1 status.Unlawful (session, below, fault, left) = absurd fault
 
 -- no file of a load has more bytes than this
 pub files_small : FilesLaw → (asked : Asked) → IsAsked asked → (files : List (Vec ℕ Global))

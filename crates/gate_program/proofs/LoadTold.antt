@@ -22,8 +22,7 @@ module _ (asked : Asked) (t0 : Option Texts) (r0 w0 : List ℕ → ℕ) (t1 : Op
     rose = h.rose;
     left = h.left;
     others = h.others;
-    told = told_so (load_run asked) [] t0 r0 w0 t1 r1 w1 text n held held_after faults faults_after
-        answer told _ _ h.told;
+    told = told_so text n held held_after faults faults_after answer told _ _ h.told;
   })
   went_told told (inr h) = inr (record {
     limits = h.limits;
@@ -46,8 +45,7 @@ module _ (asked : Asked) (t0 : Option Texts) (r0 w0 : List ℕ → ℕ) (t1 : Op
         faults_after answer told h.acts h.lines h.refused h.journal;
     others = h.others;
     tells = h.tells;
-    told = told_so (load_run asked) [] t0 r0 w0 t1 r1 w1 text n held held_after faults faults_after
-        answer told _ _ h.told;
+    told = told_so text n held held_after faults faults_after answer told _ _ h.told;
   })
 
   -- what a load did and what was told of it

@@ -48,6 +48,7 @@ no_limits_went run sets t0 r0 w0 t1 r1 w1 status.Done same fault = absurd fault
 no_limits_went run sets t0 r0 w0 t1 r1 w1 status.Usage same fault = absurd fault
 no_limits_went run sets t0 r0 w0 t1 r1 w1 status.CutShort same fault = absurd fault
 no_limits_went run sets t0 r0 w0 t1 r1 w1 status.WriteFault same fault = absurd fault
+no_limits_went run sets t0 r0 w0 t1 r1 w1 status.Unlawful same fault = absurd fault
 
 module _ (run : RunWords) (sets : List (List ScreenValue)) (t : Option Texts)
     (r0 w0 r1 w1 : List ℕ → ℕ) (t2 : Option Texts)
@@ -197,6 +198,9 @@ unopened run limits sets t0 r0 w0 t1 r1 w1 (status.Limits why) limits_are (sessi
 unopened run limits sets t0 r0 w0 t1 r1 w1 status.CutShort limits_are (session, below, fault, left) =
     absurd
     fault
+unopened run limits sets t0 r0 w0 t1 r1 w1 status.Unlawful limits_are (session, below, fault, left) =
+    absurd
+    fault
 
 -- the limits that count for so many sessions, by equal counts
 pub counted_as : (told : Option Texts) (name : List ℕ) (count sessions : ℕ) (limits : Limits)
@@ -244,18 +248,26 @@ beside texts reads writes held faults = record {
   out_faults = faults;
 }
 
+-- what an answer says is told
+pub told_so : (text : List ℕ) (n : ℕ) (held held_after : Option (List ℕ))
+    (faults faults_after answer : ℕ) → IsTold held held_after faults faults_after text n answer
+    → (say : List ℕ) (standing : ℕ) → IsTold (Some []) (Some text) 0 0 say standing n
+    → IsTold held held_after faults faults_after say standing answer
+told_so text n held held_after faults faults_after answer told say standing (inl is) =
+    subst (λ (m : ℕ). IsTold held held_after faults faults_after say m answer) is.0
+    (subst (λ (s : List ℕ). IsTold held held_after faults faults_after s n answer) is.1 told)
+told_so text n held held_after faults faults_after answer told say standing (inr faulty) =
+    absurd (zero_stands faulty.1)
+
 module _ (run : RunWords) (sets : List (List ScreenValue)) (t0 : Option Texts)
     (r0 w0 : List ℕ → ℕ) (t1 : Option Texts)
     (r1 w1 : List ℕ → ℕ) (text : List ℕ) (n : ℕ)
     (held held_after : Option (List ℕ)) (faults faults_after answer : ℕ)
     (told : IsTold held held_after faults faults_after text n answer) where
-  -- what an answer says is told
-  pub told_so : (say : List ℕ) (standing : ℕ) → IsTold (Some []) (Some text) 0 0 say standing n
+  -- what such a way says is told
+  say_so : (say : List ℕ) (standing : ℕ) → IsTold (Some []) (Some text) 0 0 say standing n
       → IsTold held held_after faults faults_after say standing answer
-  told_so say standing (inl is) =
-      subst (λ (m : ℕ). IsTold held held_after faults faults_after say m answer) is.0
-      (subst (λ (s : List ℕ). IsTold held held_after faults faults_after s n answer) is.1 told)
-  told_so say standing (inr faulty) = absurd (zero_stands faulty.1)
+  say_so = told_so text n held held_after faults faults_after answer told
 
   pub end_beside : (limits : Limits) (screens : List ScreenValue) (session : ℕ) (bytes : List ℕ)
       (own : List Act) (end : End)
@@ -291,7 +303,7 @@ module _ (run : RunWords) (sets : List (List ScreenValue)) (t0 : Option Texts)
     rose = h.rose;
     left = h.left;
     others = h.others;
-    told = told_so _ _ h.told;
+    told = say_so _ _ h.told;
   })
   sessions_told (inr (inl h)) = inr (inl (record {
     limits = h.limits;
@@ -301,7 +313,7 @@ module _ (run : RunWords) (sets : List (List ScreenValue)) (t0 : Option Texts)
     rose = h.rose;
     left = h.left;
     others = h.others;
-    told = told_so _ _ h.told;
+    told = say_so _ _ h.told;
   }))
   sessions_told (inr (inr h)) = inr (inr (record {
     limits = h.limits;
@@ -323,19 +335,19 @@ module _ (run : RunWords) (sets : List (List ScreenValue)) (t0 : Option Texts)
     journal = journal_beside h.acts h.lines h.refused h.journal;
     others = h.others;
     tells = h.tells;
-    told = told_so _ _ h.told;
+    told = say_so _ _ h.told;
   }))
 
   -- what a run did, once it is told
   pub went_told : RunWent run sets (shown t0 r0 w0 []) (shown t1 r1 w1 text) n
       → RunWent run sets (beside t0 r0 w0 held faults) (beside t1 r1 w1 held_after faults_after)
       answer
-  went_told (inl h) = inl (record { rose = h.rose; texts = h.texts; told = told_so _ _ h.told })
+  went_told (inl h) = inl (record { rose = h.rose; texts = h.texts; told = say_so _ _ h.told })
   went_told (inr (inl h)) = inr (inl (record {
     why = h.why;
     refused = h.refused;
     texts = h.texts;
-    told = told_so _ _ h.told;
+    told = say_so _ _ h.told;
   }))
   went_told (inr (inr did)) = inr (inr (sessions_told did))
 

@@ -76,5 +76,6 @@ SessionsWent run sets before after status =
 -- a run that came as far as its limit file, or behind it
 abbrev pub RunWent : RunWords → List (List ScreenValue) → PortsValue → PortsValue → ℕ → Type 0
 RunWent run sets before after status =
-    HasUnreadLimits run before after status ⊎ HasRefusedLimits run before after status
+    HasUnreadLimits run.limits before after status
+    ⊎ HasRefusedLimits run.limits before after status
     ⊎ SessionsWent run sets before after status

@@ -11,4 +11,5 @@ pub mod Objects
 pub mod Finish
 pub mod Room
 pub mod WholeInputs
+pub mod UnfailingChecks
 pub mod Pieces

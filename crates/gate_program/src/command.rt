@@ -2,7 +2,8 @@
 ghost use Rattle.std.specs.Prelude.{◌≡◌, ◌⊎◌, ◌^◌, ◌<◌, ◌≤◌, IsTrue, IfOk, [], length, map};
 ghost use Rattle.std.specs.Prelude.{string_bytes, vec_capacity};
 ghost use Rattle.std.specs.List.{AllByRecursion};
-ghost use Rattle.gate_files.specs.CommandOf.{run_value, IsAsked};
+ghost use Rattle.check_command.specs.Gate.{CheckWent};
+ghost use Rattle.gate_files.specs.CommandOf.{run_value, check_value, IsAsked};
 ghost use Rattle.gate_program.specs.Commands.{GateRun};
 ghost use Rattle.gate_program.specs.Loads.{LoadWent};
 ghost use Rattle.gate_program.specs.Finish.{HasEnded, HasKept};
@@ -16,7 +17,7 @@ ghost use Rattle.gate_program.specs.Room.{HasNone, HasSpare};
 ghost use Rattle.gate_files.specs.Stages.{folder_of, folder_with};
 ghost use Rattle.gate_files.specs.Statuses.{answer_number, answer_text};
 ghost use Rattle.gate_program.specs.Telling.{told_of};
-ghost use Rattle.gate_files.specs.Words.{is_run, journal_name, session_most};
+ghost use Rattle.gate_files.specs.Words.{is_run, is_check, journal_name, session_most};
 
 use crate::ended::{Ended, Room, room_for, run_sessions};
 use crate::finish::{Finished, finish};
@@ -25,10 +26,11 @@ use crate::make::make_words;
 use crate::replay::journal_after;
 use crate::tasks::tasks_of;
 use crate::told::Told;
+use check_command::check_words;
 use fold_law::Memory;
 use gate_files::{
-    Answer, Command, Inputs, Named, Names, Opened, Run, Status, close_sessions, command_from,
-    names_in, open_sessions, read_limits, tell, tell_answer,
+    Answer, Check, Command, Inputs, Named, Names, Opened, Run, Status, close_sessions,
+    command_from, names_in, open_sessions, read_limits, tell, tell_answer,
 };
 use gate_ports::{Folder, Gate, Sink};
 use limit_table::Limits;
@@ -272,6 +274,28 @@ fn run_and_tell<R: Threads + Sync, D: Folder, O: Sink, G: Gate>(
     tell_answer(alloc, out, answer)
 }
 
+/// Does a check, and tells what it comes to.
+fn check_and_tell<D: Folder, O: Sink>(
+    alloc: Global,
+    check: &Check,
+    folder: &mut D,
+    out: &mut O,
+    screens: Vec<Vec<Box<dyn Screen + Send>>>,
+) -> u8
+    requires check { IsTrue (is_check (check_value check.now)) }
+    requires sets { length screens.items ≡ session_most }
+    ensures { (result ≡ 8) ⊎ CheckWent (check_value check.now)
+        (map (λ set. map (λ b. (Screen-box b).meaning b.value) set.items) screens.items)
+        (ports_of D.texts D.read_faults D.write_faults O.held O.faults folder.old out.old)
+        (ports_of D.texts D.read_faults D.write_faults O.held O.faults folder.new out.new) result }
+{
+    let answer = check_words(alloc, check, folder, screens);
+    if answer.number() == Status::Memory.number() {
+        return Status::Memory.number();
+    }
+    tell_answer(alloc, out, answer)
+}
+
 /// Makes a load and runs it, and tells what it comes to.
 fn make_and_tell<R: Threads + Sync, D: Folder, O: Sink, G: Gate>(
     rt: &R,
@@ -296,10 +320,11 @@ fn make_and_tell<R: Threads + Sync, D: Folder, O: Sink, G: Gate>(
 /// Does what the words ask for, and answers the status of the program.
 ///
 /// `words` doesn't hold the program's name. There is a set of screens for each session that a run
-/// may have: a session's is the one in its place, and those that no session takes are dropped. The
-/// statuses are 0 where all was read and written, 2 where the words are no form, 3 where the limit
-/// file is refused, 4 after a session that ends within a frame or with none, 5 and 6 after a fault
-/// of reading or of writing, and 8 for want of memory.
+/// or a check may have: a session's is the one in its place, and those that no session takes are
+/// dropped. The statuses are 0 where all was read and written, or a journal is lawful, 2 where the
+/// words are no form, 3 where the limit file is refused, 4 after a session that ends within a frame
+/// or with none, 5 and 6 after a fault of reading or of writing, 7 where a journal that was checked
+/// has a fault, and 8 for want of memory.
 pub fn gate<R: Threads + Sync, D: Folder, O: Sink, G: Gate>(
     rt: &R,
     alloc: Global,
@@ -318,6 +343,7 @@ pub fn gate<R: Threads + Sync, D: Folder, O: Sink, G: Gate>(
     match command_from(words) {
         Some(Command::Run(run)) => run_and_tell(rt, alloc, &run, folder, out, screens, gate),
         Some(Command::Make(asked)) => make_and_tell(rt, alloc, &asked, folder, out, gate),
+        Some(Command::Check(check)) => check_and_tell(alloc, &check, folder, out, screens),
         None => tell(alloc, out, Status::Usage),
     }
 }

@@ -1,6 +1,7 @@
-//! A law on whole runs. The function does nothing: its contract is the law.
+//! Laws on whole runs and on checks. The functions do nothing: their contracts are the laws.
 ghost use Rattle.std.specs.Prelude.{◌≡◌, ℕ, ◌⊎◌, List};
 ghost use Rattle.screen_kit.specs.Screens.{ScreenValue};
+ghost use Rattle.gate_program.specs.UnfailingChecks.{HasUnfailingCheck, IsJudged};
 ghost use Rattle.gate_program.specs.WholeInputs.{HasWholeInputs};
 ghost use Rattle.gate_program.specs.Commands.{GateRun};
 ghost use Rattle.gate_files.specs.Ports.{PortsValue};
@@ -12,4 +13,13 @@ pub fn whole_inputs_are_done()
         (before after : PortsValue) (status : ℕ)
         → HasWholeInputs words before after → GateRun words sets before after status
         → (status ≡ 0) ⊎ (status ≡ 8) }
+{}
+
+/// A check in which nothing failed that was read or written ends with 0 or 7 by its journal, or with
+/// 3 by its limit file, unless memory was wanting (8), whatever its screens are.
+pub fn unfailing_checks_are_judged()
+    ensures { (words : List (List ℕ)) (sets : List (List ScreenValue))
+        (before after : PortsValue) (status : ℕ)
+        → HasUnfailingCheck words before after → GateRun words sets before after status
+        → IsJudged status }
 {}

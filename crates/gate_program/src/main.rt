@@ -3,6 +3,8 @@
 #![tactic(auto)]
 
 mod agreeing;
+#[cfg(test)]
+mod check_tests;
 mod command;
 mod completeness;
 mod ended;
@@ -49,7 +51,7 @@ mod totals;
 mod turn_rows;
 
 pub use command::gate;
-pub use completeness::whole_inputs_are_done;
+pub use completeness::{unfailing_checks_are_judged, whole_inputs_are_done};
 use fold_law::Memory;
 use gate_files::Status;
 use gate_ports::{OpenGate, RealFolder, RealOut};

@@ -1,13 +1,11 @@
 //! Runs of more than 32 sessions. No clause says that memory isn't wanting.
 use crate::command::gate;
 use crate::rows::{BUY, BUY_SENT, Piece, SMALL, bytes_of, no_screens, words_of};
-use fold_law::SESSIONS;
-use gate_ports::{MemFolder, MemSink, MemSource, OpenGate};
-use journal_check::{Checked, check};
-use limit_table::read_limits;
+use gate_ports::{MemFolder, MemSink, OpenGate};
 use std::alloc::Global;
 use std::process::Abort;
 use std::test::*;
+use std::thread::Threads;
 
 /// What is told of the trees of sessions that did nothing.
 const TREES: &[u8] = b"tree 0 firm - posts 0 root 0 limit 1000\n\
@@ -124,25 +122,23 @@ fn of_many_with_one_symbol_at_most_one_gets_what_one_may_have(rt: HostRuntime) -
     Ok(())
 }
 
-/// What a judge says of the journal of a run of so many sessions of one order each, from its files.
-fn judged(rt: &impl Abort, alloc: Global, racing: &Empties, count: u32) -> Result<Checked, Fail> {
-    let Ok(limits) = read_limits(alloc, SMALL) else {
-        return Err("the limits are no file's".into());
-    };
-    let limits = limits.counted_for(count);
-    let journal = racing.folder.get("out/journal.csv").ok_or("no journal")?;
-    let mut sources = Vec::new(alloc);
+/// Sees that the journal of a run of so many sessions is lawful, by its files.
+fn compare_lawful<R: Threads + Sync + Abort>(
+    rt: &R,
+    alloc: Global,
+    folder: &mut MemFolder,
+    count: u32,
+) -> Result<(), Fail> {
+    let mut words = words_of(alloc, &["check", "limits", "out/journal.csv"])?;
     for session in 0..count {
-        let name = format!(in alloc; "session{session}")?;
-        let input = racing.folder.get(name.as_str()).ok_or("no input")?;
-        let bytes = Vec::from_slice(alloc, input)?;
-        sources.push(MemSource::new(bytes, 65_536, Vec::new(alloc)))?;
+        words.push(format!(in alloc; "session{session}")?)?;
     }
+    let mut out = MemSink::new(alloc, 65_536, Vec::new(alloc));
     let screens = no_screens(alloc)?;
-    assert!(rt; sources.len() >= 1, "a source");
-    assert!(rt; sources.len() <= SESSIONS as usize, "few sources");
-    assert!(rt; sources.len() <= screens.len(), "screens for each");
-    Ok(check(alloc, &limits, journal, sources, screens).answer)
+    let status = gate(rt, alloc, &words, folder, &mut out, screens, &OpenGate);
+    assert_eq!(rt; status, 0, "{count} sessions");
+    assert_eq!(rt; out.bytes(), b"LAWFUL\n".as_slice(), "{count} sessions");
+    Ok(())
 }
 
 #[test]
@@ -162,8 +158,7 @@ fn journals_of_runs_on_threads_are_lawful(rt: HostRuntime) -> Result<(), Fail> {
             &OpenGate,
         );
         assert_eq!(rt; status, 0, "{count} sessions");
-        let answer = judged(&rt, alloc, &racing, count)?;
-        assert_eq!(rt; answer, Checked::Yes, "{count} sessions");
+        compare_lawful(&rt, alloc, &mut racing.folder, count)?;
     }
     Ok(())
 }

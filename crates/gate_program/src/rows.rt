@@ -11,6 +11,11 @@ use std::alloc::{AllocError, Global};
 use std::process::Abort;
 use std::test::*;
 
+/// What is told where the words are no form.
+pub(crate) const USAGE: &[u8] =
+    b"usage: gate run LIMITS OUT SESSION... | gate make NUMBER SESSIONS ORDERS \
+        | gate check LIMITS JOURNAL SESSION...\n";
+
 /// A firm's limit of 1,000, and an account and a symbol with more.
 pub(crate) const SMALL: &[u8] =
     b"firm,,1000,,,\naccount,ACC,100000,,,\nsymbol,XYZ,100000,1,12,100000\n";

@@ -1,7 +1,7 @@
 //! Runs that stop before a session, and one whose standard output fails: statuses and what is told.
 //! No clause says that memory isn't wanting, nor what a table's row gives.
 use crate::command::gate;
-use crate::rows::{Piece, Row, SMALL, Session, compare, no_screens, stage_of, words_of};
+use crate::rows::{Piece, Row, SMALL, Session, USAGE, compare, no_screens, stage_of, words_of};
 use gate_ports::{Folder, MemFolder, MemSink, OpenGate};
 use std::test::*;
 
@@ -91,8 +91,6 @@ const STOPS: [(&str, &[&str], &[u8], u8, &[u8]); 15] = [
     ),
     ("no session", &WORDS, SMALL, 5, b"read fault\n"),
 ];
-
-const USAGE: &[u8] = b"usage: gate run LIMITS OUT SESSION... | gate make NUMBER SESSIONS ORDERS\n";
 
 /// A limit file's text, the status and what is told. No session is there, so with limits a run ends as
 /// a read fault.
@@ -275,10 +273,15 @@ fn stops_before_a_session(rt: HostRuntime) -> Result<(), Fail> {
 }
 
 #[test]
-fn a_run_has_at_most_64_sessions(rt: HostRuntime) -> Result<(), Fail> {
+fn a_run_and_a_check_have_at_most_64_sessions(rt: HostRuntime) -> Result<(), Fail> {
     let alloc = rt.alloc();
-    for (count, want) in [(64, 5), (65, 2)] {
-        let mut words = words_of(alloc, &["run", "limits", "out"])?;
+    for (command, count, want) in [
+        ("run", 64, 5),
+        ("run", 65, 2),
+        ("check", 64, 5),
+        ("check", 65, 2),
+    ] {
+        let mut words = words_of(alloc, &[command, "limits", "out"])?;
         for session in 0..count {
             words.push(format!(in alloc; "session{session}")?)?;
         }
@@ -294,7 +297,7 @@ fn a_run_has_at_most_64_sessions(rt: HostRuntime) -> Result<(), Fail> {
             no_screens(alloc)?,
             &OpenGate,
         );
-        assert_eq!(rt; status, want);
+        assert_eq!(rt; status, want, "{command} with {count} sessions");
     }
     Ok(())
 }

@@ -11,7 +11,7 @@ behind_two true false c is_a is_b = absurd cc
 pub returns : goal.returns
 returns c =
     c.are_words.ensures
-    ∙ sym (list_all-map is_word string_bytes c.args.run.now.sessions.now)
-    ∙ behind_two (is_word c.args.run.now.limits.now) (is_word c.args.run.now.out.now) _
+    ∙ sym (list_all-map is_word string_bytes c.args.sessions.now)
+    ∙ behind_two (is_word c.args.first.now) (is_word c.args.second.now) _
     (sym c.is_word.ensures ∙ c.if-not-is_word.false) (sym c.is_word-2.ensures ∙
     c.if-not-is_word-2.false)

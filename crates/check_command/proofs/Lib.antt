@@ -1,0 +1,4 @@
+pub mod Sources
+pub mod Cases
+pub mod Ways
+pub mod OneVerdict

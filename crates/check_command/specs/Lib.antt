@@ -1,0 +1,4 @@
+pub mod Inputs
+pub mod Files
+pub mod Verdicts
+pub mod Gate
