@@ -53,6 +53,7 @@ no_limits_went Ran run t0 r0 w0 t1 r1 w1 status.Done same fault = absurd fault
 no_limits_went Ran run t0 r0 w0 t1 r1 w1 status.Usage same fault = absurd fault
 no_limits_went Ran run t0 r0 w0 t1 r1 w1 status.CutShort same fault = absurd fault
 no_limits_went Ran run t0 r0 w0 t1 r1 w1 status.WriteFault same fault = absurd fault
+no_limits_went Ran run t0 r0 w0 t1 r1 w1 status.Unlawful same fault = absurd fault
 
 -- a session or its outputs could not be opened
 pub unopened : (Ran : Outcome) (run : RunWords) (limits : Limits)
@@ -92,6 +93,8 @@ unopened Ran run limits t0 r0 w0 t1 r1 w1 status.Usage limits_are (session, belo
 unopened Ran run limits t0 r0 w0 t1 r1 w1 (status.Limits why) limits_are
     (session, below, fault, left) = absurd fault
 unopened Ran run limits t0 r0 w0 t1 r1 w1 status.CutShort limits_are
+    (session, below, fault, left) = absurd fault
+unopened Ran run limits t0 r0 w0 t1 r1 w1 status.Unlawful limits_are
     (session, below, fault, left) = absurd fault
 
 -- the limits that count for so many sessions, by equal counts

@@ -1,0 +1,5 @@
+pub mod Doing
+pub mod PlacedCalls
+pub mod Replays
+pub mod ClearHistories
+pub mod Ended
