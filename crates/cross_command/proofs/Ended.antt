@@ -1,11 +1,13 @@
 -- Sessions that were filtered and closed, and what the command came to with them.
-use Rattle.std.proofs.Common.{◌≡◌, ℕ, List, [], length, map, refl, sym, ap, subst, ◌∙◌}
-use Rattle.std.proofs.Common.{inl, inr}
+use Rattle.std.proofs.Common.{◌≡◌, ℕ, ◌^◌, ◌<◌, ◌≤◌, List, [], length, map, max, refl, sym, ap, subst}
+use Rattle.std.proofs.Common.{inl, inr, ◌∙◌, arith, Bool}
+use Rattle.std.proofs.lemmas.List.{length-map}
 use Rattle.std.specs.Prelude.{Option, ◌⊎◌}
 use Rattle.std.specs.List.{list_any}
 use Rattle.gate_ports.specs.Faults.{NeverFalls}
 use Rattle.gate_ports.specs.Names.{Texts}
 use Rattle.limit_table.specs.declared.limits.Limits.{Limits}
+use Rattle.risk_board.specs.declared.hand.Line.{Line}
 use Rattle.risk_journal.specs.declared.acts.Act.{Act}
 use Rattle.risk_journal.specs.declared.acts.End.{End}
 use Rattle.risk_journal.specs.TotalsText.{status_line}
@@ -17,13 +19,14 @@ use Rattle.gate_files.specs.Stages.{Went}
 use Rattle.gate_files.specs.Stops.{HasCounted}
 use Rattle.gate_files.specs.Told.{IsTold}
 use Rattle.session_tasks.specs.Did.{HaveDone}
+use Rattle.session_tasks.specs.Kept.{HasKept}
 use Rattle.session_tasks.specs.Ways.{SessionsWent, WordsWent}
 use Rattle.session_tasks.proofs.RanSessions.{have_ran, shown, silent, told_bytes}
 use Rattle.session_tasks.proofs.StagesOfRun.{beside, memory_or_run, ran_beside, ran_earlier, told_so}
 use Rattle.session_tasks.proofs.StagesOfRun.{went_behind, words_told}
-use Rattle.cross_guard.specs.Told.{Placing}
+use Rattle.cross_guard.specs.Told.{Placing, cross_trees, with_places}
 use Rattle.cross_command.specs.Crossed.{CrossWent, HasCrossed}
-use Rattle.cross_command.specs.Finish.{HaveEnded, HaveStood, all_with_places}
+use Rattle.cross_command.specs.Finish.{ArePlaced, HasAnswer, HaveEnded, HaveStood, all_with_places}
 use Rattle.cross_command.specs.Rules.{follows, stops}
 use Rattle.cross_command.proofs.ClearHistories.{ClearLaws, is_history}
 use Rattle.cross_command.proofs.Doing.{by_causes}
@@ -153,3 +156,38 @@ cross_told run t0 r0 w0 t1 r1 w1 text n held held_after faults faults_after answ
     answer
     (λ is own. crossed_told run t0 r0 w0 t1 r1 w1 text n held held_after faults faults_after answer
     is own) memory did told
+
+max_most : (a b most : ℕ) → a ≤ most → b ≤ most → max a b ≤ most
+max_most a b most first second = omega arith
+
+-- there is a tree for each symbol, and one where there is none
+pub few_lines : (limits : Limits) (acts placed : List (List Act)) (lines : List (List Line))
+    → ArePlaced limits acts placed lines → length limits.symbols ≤ 400 → length lines < 2 ^ 32
+few_lines limits acts placed lines are few =
+    omega (arith, are.legal.count, max_most (length limits.symbols) 1 400 few (omega arith))
+
+-- as many sessions have acts with places as without
+pub placed_many : (limits : Limits) (acts placed : List (List Act)) (lines : List (List Line))
+    → ArePlaced limits acts placed lines → length placed ≡ length acts
+placed_many limits acts placed lines are =
+    ap length are.placed_are ∙ length-map acts (with_places are.place)
+
+-- sessions whose journal was kept stand in it
+pub has_stood : (limits : Limits) (run : RunWords) (before after : PortsValue)
+    (acts placed : List (List Act)) (ends said : List End) (lines : List (List Line))
+    (objects : List ObjectsValue) (text : List ℕ) (n : ℕ) (refused : Bool)
+    → ArePlaced limits acts placed lines
+    → HasKept run before after placed lines objects refused → said ≡ ends
+    → (n ≡ 8) ⊎ HasAnswer said refused text n
+    → (n ≡ 8) ⊎ HaveStood limits run before after acts ends objects text n
+has_stood limits run before after acts placed ends said lines objects text n refused are kept same
+    (inl memory) = inl memory
+has_stood limits run before after acts placed ends said lines objects text n refused are kept same
+    (inr answer) = inr (record {
+      placed = placed;
+      lines = lines;
+      refused = refused;
+      placed_are = are;
+      kept = kept;
+      answer = subst (λ (e : List End). HasAnswer e refused text n) same answer;
+    })

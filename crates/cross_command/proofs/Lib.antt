@@ -1,4 +1,5 @@
 pub mod Doing
+pub mod ReadyTasks
 pub mod PlacedCalls
 pub mod Replays
 pub mod ClearHistories

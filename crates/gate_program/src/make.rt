@@ -14,7 +14,7 @@ use crate::command::{ready_for, run_opened};
 use crate::load::{create_sessions, input_names, no_screens};
 use crate::told::Told;
 use fold_law::Memory;
-use gate_files::{Answer, Run, Status, Sure, limits_from};
+use gate_files::{Answer, OutputFiles, OutputFolder, Run, Status, Sure, limits_from};
 use gate_ports::{Folder, Gate};
 use limit_table::Limits;
 use make_load::{Asked, Counts, load_limits_are_a_file, loads_are_whole, make_load};
@@ -59,7 +59,11 @@ fn run_load<R: Threads + Sync, D: Folder, G: Gate>(
     admitted_stays_within();
     a_history_admits_what_sessions_do();
     loads_are_whole();
-    let Ok(ready) = ready_for(alloc, "load", files.len()) else {
+    let out = OutputFolder {
+        name: "load",
+        files: OutputFiles::Run,
+    };
+    let Ok(ready) = ready_for(alloc, out, files.len()) else {
         return Answer::Stopped(Status::Memory);
     };
     let Ok(names) = input_names(alloc, &ready.names.sessions) else {
@@ -70,7 +74,7 @@ fn run_load<R: Threads + Sync, D: Folder, G: Gate>(
     };
     let run = Run {
         limits: "",
-        out: "load",
+        out,
         sessions: &names,
     };
     match create_sessions(alloc, &run, &ready.names.sessions, files, folder) {
