@@ -19,8 +19,7 @@ use Rattle.gate_files.specs.Early.{KeepsOrFronts, MayEmpty, AreEmptied, LeavesEm
 use Rattle.gate_files.specs.Objects.{ObjectsValue, AreFresh, ChangesOutputs, HasCreated, HasClosed}
 use Rattle.gate_files.specs.Objects.{EachHolds}
 use Rattle.gate_files.proofs.Lists.{there_is}
-use Rattle.gate_files.proofs.OutputNames.{apart_from_all, venues_apart, venue_isnt_client}
-use Rattle.gate_files.proofs.OutputNames.{bytes_eq-cancel}
+use Rattle.gate_files.proofs.OutputNames.{apart_from_all, venues_apart, venue_isnt_client, journal_isnt_client, journal_isnt_venue}
 
 -- the sink was empty and got these bytes: it holds them
 pub holds_appended : (held held_after : Option (List ℕ)) (text own : List ℕ) → held ≡ Some []
@@ -75,7 +74,10 @@ on_err_always (Err fault) p = p
 
 -- the journal's name is none of the sessions' outputs
 journal_apart : (out : FolderWords) (count : ℕ) → IsApart out count (journal_name out)
-journal_apart out count session below = (bytes_eq-cancel out _ _, bytes_eq-cancel out _ _)
+journal_apart out count session below = (
+  journal_isnt_venue out session,
+  journal_isnt_client out session,
+)
 
 -- where the sessions' outputs alone changed before, the journal's text is as it was, or a front
 pub front_behind : (out : FolderWords) (count : ℕ) (before now after : Option Texts) (bytes : List ℕ)

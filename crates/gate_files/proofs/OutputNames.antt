@@ -73,6 +73,11 @@ mark_isnt_journal : (f : OutputFiles) (i : ℕ) (ending : List ℕ)
 mark_isnt_journal files.Run i ending = refl
 mark_isnt_journal files.Cross i ending = refl
 
+journal_isnt_mark : (f : OutputFiles) (i : ℕ) (ending : List ℕ)
+    → bytes_eq (journal_file f) (session_mark i ++ ending) ≡ false
+journal_isnt_mark files.Run i ending = refl
+journal_isnt_mark files.Cross i ending = refl
+
 pub venues_apart : (out : FolderWords) (i j : ℕ) → i ≢ j
     → bytes_eq (venue_name out i) (venue_name out j) ≡ false
 venues_apart out i j apart =
@@ -106,6 +111,18 @@ pub client_isnt_journal : (out : FolderWords) (i : ℕ)
 client_isnt_journal out i =
     bytes_eq-cancel out.name _ (journal_file out.files)
     ∙ mark_isnt_journal out.files i client_ending
+
+pub journal_isnt_venue : (out : FolderWords) (i : ℕ)
+    → bytes_eq (journal_name out) (venue_name out i) ≡ false
+journal_isnt_venue out i =
+    bytes_eq-cancel out.name (journal_file out.files) _
+    ∙ journal_isnt_mark out.files i (venue_ending out.files)
+
+pub journal_isnt_client : (out : FolderWords) (i : ℕ)
+    → bytes_eq (journal_name out) (client_name out i) ≡ false
+journal_isnt_client out i =
+    bytes_eq-cancel out.name (journal_file out.files) _
+    ∙ journal_isnt_mark out.files i client_ending
 
 none_of_three : (b c r : Bool) → (b || (c || r)) ≡ false → (b ≡ false) × (c ≡ false) × (r ≡ false)
 none_of_three false false false is = (refl, refl, refl)
