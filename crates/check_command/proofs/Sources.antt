@@ -110,8 +110,8 @@ module _ {S : Type 0} (left name : S → Option (List ℕ)) (faults : S → ℕ)
       → AreGivenBack faults names before after (take (place + 1) sources)
   one_given_back names before now after sources place one own at own_is given texts cause writes =
       let below : place < length sources = slice_get_within sources place one at in
-      let count : length (take place sources) ≡ place = omega (arith, length-take place sources, below)
-      in
+      let count : length (take place sources) ≡ place =
+      omega (arith, length-take place sources, below) in
       let same : after.texts ≡ before.texts = texts ∙ given.texts in
       let named : HasNamedCause now.read_faults after.read_faults (name_in names place)
       (faults one ≢ 0) = subst (λ (n : List ℕ). HasNamedCause now.read_faults after.read_faults n
@@ -126,7 +126,11 @@ module _ {S : Type 0} (left name : S → Option (List ℕ)) (faults : S → ℕ)
         };
         texts = same;
         causes = λ other x is some. elim (pushed_at (take place sources) one other x is) [
-          | inl earlier ↦ omega (arith, given.causes other x earlier some, cause.later (name_in names other))
+          | inl earlier ↦ omega (
+            arith,
+            given.causes other x earlier some,
+            cause.later (name_in names other),
+          )
           | inr last ↦
               let here : other ≡ place = last.0 ∙ count in
               subst (λ (n : ℕ). Rose (before.read_faults (name_in names n))

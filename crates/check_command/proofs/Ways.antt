@@ -1,6 +1,8 @@
 -- The ways of a check, as its stages come one behind another.
-use Rattle.std.proofs.Common.{◌≡◌, ◌≢◌, ℕ, ◌+◌, ◌<◌, ◌≤◌, List, [], length, map, refl, sym, ap, ◌∙◌, subst}
-use Rattle.std.proofs.Common.{arith, inl, inr, Bool, true, false, ◌&&◌, String, Global, string_bytes}
+use Rattle.std.proofs.Common.{◌≡◌, ℕ, ◌+◌, ◌≤◌, List, [], ◌∷◌, length, map, refl, sym, ap}
+use Rattle.std.proofs.Common.{◌∙◌, subst}
+use Rattle.std.proofs.Common.{arith, inl, inr, Bool, true, false, ◌&&◌, String, Global}
+use Rattle.std.proofs.Common.{string_bytes}
 use Rattle.std.proofs.lemmas.Bool.Decides.{nat_tests}
 use Rattle.std.proofs.lemmas.List.{length-map}
 use Rattle.std.proofs.lemmas.Option.{slice_get_within}
@@ -15,14 +17,13 @@ use Rattle.gate_files.specs.Ports.{PortsValue}
 use Rattle.gate_files.specs.Stages.{HasFront, HasLimitsFault, IsUnread, Went}
 use Rattle.gate_files.specs.Statuses.{number_of, told_text, answer_number, answer_text}
 use Rattle.gate_files.specs.Stops.{HasCounted, HasLimits}
-use Rattle.gate_files.specs.Told.{IsTold}
 use Rattle.gate_files.specs.Words.{CheckWords, is_check, is_word, are_distinct, session_most}
-use Rattle.gate_files.proofs.Chains.{rose_from, rose_is_some, zero_stands}
+use Rattle.gate_files.proofs.Chains.{rose_from, rose_is_some}
 use Rattle.limit_table.specs.Counted.{counted_for}
 use Rattle.limit_table.specs.declared.limits.Limits.{Limits}
 use Rattle.screen_kit.specs.Screens.{ScreenValue}
 use Rattle.journal_check.specs.Answers.{AreTold}
-use Rattle.journal_check.specs.Faults.{Case, case_of}
+use Rattle.journal_check.specs.Faults.{Case, case_of, IsFirstFault}
 use Rattle.journal_check.specs.Judging.{IsAnswerTo, StopsAtSource}
 use Rattle.journal_check.specs.declared.judging.Checked.{Checked}
 use Rattle.journal_check.specs.declared.judging.Checked.TheVariants as checked
@@ -32,7 +33,7 @@ use Rattle.check_command.specs.Gate.{FilesStopped, FilesJudged, CheckWent}
 use Rattle.check_command.specs.Inputs.{name_in, AreNew, AreGivenBack, HasUnopened}
 use Rattle.check_command.specs.Verdicts.{IsVerdict, IsCaseAt, IsRightBefore, IsAnswerFor}
 use Rattle.check_command.specs.Verdicts.Verdict.{Lawful, Faulty}
-use Rattle.check_command.proofs.Cases.{IsFrontOf, all_told, case_at, lawful_whole, fault_whole, right_before}
+use Rattle.check_command.proofs.Cases.{all_told, case_at, lawful_whole, fault_whole, right_before}
 
 -- a folder beside a standard output that got this text
 abbrev pub shown : Option Texts → (List ℕ → ℕ) → (List ℕ → ℕ) → List ℕ → PortsValue
@@ -221,7 +222,8 @@ module _ {S : Type 0} (left name : S → Option (List ℕ)) (faults : S → ℕ)
       (answer_number answer)
   judged t0 r0 w0 t1 r1 w1 t2 r2 w2 said answer read new says stops went given same (inl memory) =
       inl memory
-  judged t0 r0 w0 t1 r1 w1 t2 r2 w2 checked.Yes answer read new says stops went given same (inr is) =
+  judged t0 r0 w0 t1 r1 w1 t2 r2 w2 checked.Yes answer read new says stops went given same
+      (inr is) =
       inr (inr (inr (record {
         limits = limits;
         limits_are = read.limits_are;

@@ -34,9 +34,9 @@ pub record HasUnopenedInput (check : CheckWords) (before after : PortsValue) (st
     pub texts : after.texts ≡ before.texts
     pub told : Tells before after read_fault_text 5 status
 
--- A session could not be read, and the journal has no fault before its acts: where the folder tells its
--- texts, none of the first four kinds of fault applies, and the acts of each session before it are those
--- of its input.
+-- A session could not be read, and the journal has no fault before its acts: where the folder tells
+-- its texts, none of the first four kinds of fault applies, and the acts of each session before it
+-- are those of its input.
 pub record HasUncheckedSession (check : CheckWords) (sets : List (List ScreenValue))
     (before after : PortsValue) (status : ℕ) : Type 0 where
   pub limits : Limits

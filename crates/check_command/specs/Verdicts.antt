@@ -1,5 +1,6 @@
 -- Verdicts on the files of a check, and what is told of them.
-use Rattle.std.specs.Prelude.{◌≡◌, ℕ, ◌<◌, List, [], ◌∷◌, ◌++◌, codes, decimal, map, Some, slice_get}
+use Rattle.std.specs.Prelude.{◌≡◌, ℕ, ◌<◌, List, [], ◌∷◌, ◌++◌, codes, decimal, map, Some}
+use Rattle.std.specs.Prelude.{slice_get}
 use Rattle.gate_ports.specs.Names.{Texts}
 use Rattle.gate_files.specs.Told.{read_fault_text}
 use Rattle.gate_files.specs.Words.{CheckWords}
@@ -31,14 +32,14 @@ verdict_text Lawful = codes "LAWFUL" ++ 10 ∷ []
 verdict_text (Faulty kind row) =
     codes "check fault " ++ decimal kind ++ codes " row " ++ decimal row ++ 10 ∷ []
 
--- The verdict is that on the case: lawful where no kind of fault applies, with what that is worth; and
--- else the fault of the first kind that applies.
+-- The verdict is that on the case: lawful where no kind of fault applies, with what that is worth;
+-- and else the fault of the first kind that applies.
 abbrev pub IsVerdict : Case → Verdict → Type 0
 IsVerdict case Lawful = IsLawful case × IsWorth case
 IsVerdict case (Faulty kind row) = IsFirstFault case kind row
 
--- What is judged is these limits, the whole text of the journal, the text of each session, and these
--- sets of screens.
+-- What is judged is these limits, the whole text of the journal, the text of each session, and
+-- these sets of screens.
 pub record IsCaseAt (texts : Texts) (check : CheckWords) (limits : Limits)
     (sets : List (List ScreenValue)) (case : Case) : Type 0 where
   pub limits_are : case.limits ≡ limits
@@ -46,8 +47,8 @@ pub record IsCaseAt (texts : Texts) (check : CheckWords) (limits : Limits)
   pub sessions_are : map texts check.sessions ≡ map (λ bytes. Some bytes) case.sessions
   pub screens_are : case.screens ≡ sets
 
--- The text is a journal, none of the first four kinds of fault applies, and the acts of each session
--- before this one are those of its input.
+-- The text is a journal, none of the first four kinds of fault applies, and the acts of each
+-- session before this one are those of its input.
 pub record IsRightBefore (case : Case) (session : ℕ) : Type 0 where
   pub acts : List (List Act)
   pub lines : List (List Line)

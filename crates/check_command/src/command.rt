@@ -40,18 +40,23 @@ fn judge_files<D: Folder>(
         Ok(sources) => sources,
         Err(status) => return Answer::Stopped(status),
     };
-    let CheckDone { answer, sources } =
-        judge(alloc, &files.limits, &files.journal, sources, screens);
+    let CheckDone { answer, sources } = judge(
+        alloc,
+        &files.limits,
+        &files.journal,
+        sources,
+        screens,
+    );
     give_back(check.sessions, sources, folder);
     answer_to(alloc, answer)
 }
 
-/// Does a check, but for what it tells: reads the limit file and the journal, opens the sessions, judges
-/// the journal by them, and gives them back.
+/// Does a check, but for what it tells: reads the limit file and the journal, opens the sessions,
+/// judges the journal by them, and gives them back.
 ///
 /// There is a set of screens for each session that a check may have: a session's is the one in its
-/// place. The statuses are 0 for a lawful journal, 7 for one with a fault, 3 for a limit file that is
-/// refused, 5 for a file that can't be read, and 8 for want of memory.
+/// place. The statuses are 0 for a lawful journal, 7 for one with a fault, 3 for a limit file that
+/// is refused, 5 for a file that can't be read, and 8 for want of memory.
 pub fn check_words<D: Folder>(
     alloc: Global,
     check: &Check,

@@ -1,5 +1,5 @@
-//! The command that judges a journal by files: the limit file, the journal and the sessions are read, the
-//! journal is judged, and each file that was opened is given back.
+//! The command that judges a journal by files: the limit file, the journal and the sessions are
+//! read, the journal is judged, and each file that was opened is given back.
 //!
 //! What is judged, and how, is `journal_check`'s. What is answered is told by whoever calls.
 #![tactic(auto)]

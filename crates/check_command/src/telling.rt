@@ -10,7 +10,7 @@ use itoa::Buffer;
 use journal_check::{CheckFault, Checked};
 use std::alloc::Global;
 
-/// The answer to what a judge says, with its text. Where memory is wanting for the text, it is that.
+/// The answer to what a judge says, with its text. Where memory is wanting for that, it says so.
 pub(crate) fn answer_to(alloc: Global, said: Checked) -> Answer
     ensures { (answer_number result ≡ 8) ⊎ IsAnswerFor said result }
 {

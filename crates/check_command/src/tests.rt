@@ -1,5 +1,5 @@
-//! That with ample memory a check answers, and doesn't say that memory was wanting; and the two texts,
-//! byte for byte. Bytes of inputs have a bar for SOH.
+//! That with ample memory a check answers, and doesn't say that memory was wanting; and the two
+//! texts, byte for byte. Bytes of inputs have a bar for SOH.
 ghost use Rattle.std.specs.Prelude.{◌≡◌, length, IfOk};
 ghost use Rattle.gate_files.specs.Words.{session_most};
 
@@ -12,6 +12,9 @@ use journal_check::CheckFault;
 use screen_kit::Screen;
 use std::alloc::{AllocError, Global};
 use std::test::*;
+
+/// What is told of a lawful journal.
+const LAWFUL: &[u8] = b"LAWFUL\n";
 
 /// A fault, and what is told of it.
 const TEXTS: &[(CheckFault, &[u8])] = &[
@@ -64,8 +67,8 @@ line,0,0,1,1,1000\n\
 line,0,1,1,1,1000\n\
 line,0,2,1,1,1000\n";
 
-/// A check of a journal by a limit file and one session's input, of which some call may fail: the status,
-/// and what is told behind the journal.
+/// A check of a journal by a limit file and one session's input, where a call may fail: its status,
+/// and the text of a verdict.
 #[derive(Clone, Copy)]
 struct Row {
     name: &'static str,
@@ -83,7 +86,7 @@ const ROWS: &[Row] = &[
         journal: SENT,
         fails: None,
         status: 0,
-        told: b"LAWFUL\n",
+        told: LAWFUL,
     },
     Row {
         name: "another read",
@@ -228,7 +231,7 @@ fn checks_have_their_answers(rt: HostRuntime) -> Result<(), Fail> {
 fn verdicts_have_their_texts(rt: HostRuntime) -> Result<(), Fail> {
     let alloc = rt.alloc();
     let lawful = lawful_text(alloc).ok().ok_or("memory")?;
-    assert_eq!(rt; lawful.as_slice(), b"LAWFUL\n");
+    assert_eq!(rt; lawful.as_slice(), LAWFUL);
     for row in TEXTS {
         let text = fault_text(alloc, row.0).ok().ok_or("memory")?;
         assert_eq!(rt; text.as_slice(), row.1);

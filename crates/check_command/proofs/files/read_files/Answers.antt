@@ -1,5 +1,5 @@
 -- The limit file was read, and then the journal.
-use Rattle.std.proofs.Common.{List, ℕ, subst, ◌∙◌, ◌+◌}
+use Rattle.std.proofs.Common.{subst, ◌∙◌, ◌+◌}
 use Rattle.std.specs.Prelude.{Option}
 use Rattle.gate_ports.specs.Names.{Texts}
 use Rattle.gate_files.specs.CommandOf.{check_value}

@@ -1,8 +1,8 @@
-use Rattle.std.proofs.Common.{◌+◌, ℕ, length, arith, ◌∙◌, ap, sym, map, string_bytes, [], ◌∷◌}
+use Rattle.std.proofs.Common.{◌+◌, ℕ, length, arith, ◌∙◌, ap, map, string_bytes, [], ◌∷◌}
 use Rattle.std.proofs.Common.{length-append}
 use Rattle.std.proofs.lemmas.List.{length-map}
-use Rattle.gate_files.proofs.Folder.{went_on, went_nowhere}
-use Rattle.check_command.proofs.Sources.{name_at, none_new, one_more_new, new_own, unopened_at}
+use Rattle.gate_files.proofs.Folder.{went_on}
+use Rattle.check_command.proofs.Sources.{name_at, one_more_new, new_own, unopened_at}
 use Rattle.check_command.proofs.inputs.open_inputs.Goals as goal
 
 pub give_back-requires-clause-own : goal.give_back-requires-clause-own
