@@ -1,15 +1,12 @@
 -- Acts that differ in the places of their reads alone are as many, and end alike.
-use Rattle.std.proofs.Common.{◌≡◌, ℕ, ◌^◌, ◌<◌, List, [], ◌∷◌, ◌++◌, length, map, refl, sym, ap}
-use Rattle.std.proofs.Common.{◌∙◌, inl, inr, arith, Vec, Global}
-use Rattle.std.proofs.lemmas.List.{length-map}
-use Rattle.std.specs.Prelude.{◌⊎◌}
+use Rattle.std.proofs.Common.{◌≡◌, ℕ, List, [], ◌∷◌, ◌++◌, map, refl, sym, ap}
+use Rattle.std.proofs.Common.{◌∙◌, inl, inr}
 use Rattle.risk_journal.specs.declared.acts.Act.{Act}
-use Rattle.risk_journal.specs.declared.acts.Act.TheVariants.{Post, Read, Sent, Refused, Noted}
 use Rattle.risk_journal.specs.declared.acts.Act.TheVariants.{Ended}
 use Rattle.risk_journal.specs.declared.acts.End.{End}
-use Rattle.risk_journal.specs.ActLists.{placed_by, unplaced}
+use Rattle.risk_journal.specs.ActLists.{placed_by}
 use Rattle.gate_files.specs.Objects.{ObjectsValue, AreCounts}
-use Rattle.session_tasks.specs.Rules.{EndsAs, EndsWith}
+use Rattle.session_tasks.specs.Rules.{EndsAs}
 use Rattle.gate_files.proofs.Lists.{mapped_at}
 
 -- the last act stays with places

@@ -19,12 +19,6 @@ use Rattle.gate_files.proofs.Early.{front_behind}
 use Rattle.gate_files.proofs.OutputNames.{apart_from_all, venue_isnt_journal, client_isnt_journal}
 use Rattle.gate_files.proofs.Folder.{causes_later}
 
--- a text under its name, by equals
-pub kept_as : (before after : PortsValue) (name text own : List ℕ) (refused : Bool) → own ≡ text
-    → IsKept before after name own refused → IsKept before after name text refused
-kept_as before after name text own refused same kept =
-    subst (λ (bytes : List ℕ). IsKept before after name bytes refused) same kept
-
 journal_of : (run : RunWords) (before closed after : PortsValue) (acts : List (List Act))
     (lines : List (List Line)) (name : List ℕ) (refused : Bool) (count : ℕ)
     → name ≡ journal_name run.out → Went before closed

@@ -1,5 +1,5 @@
 -- The numbers from one on.
-use Rattle.std.proofs.Common.{◌≡◌, ℕ, zero, suc, ◌+◌, ◌<◌, ◌≤◌, List, [], ◌∷◌, ◌++◌, ap, ◌∙◌, arith, subst, sym}
+use Rattle.std.proofs.Common.{◌≡◌, ℕ, zero, suc, ◌+◌, ◌<◌, ◌≤◌, List, [], ◌∷◌, ◌++◌, ap, ◌∙◌, add-one, arith, subst, sym}
 use Rattle.std.specs.List.{AllByRecursion, range_with_len}
 
 -- one number more stands at the end
@@ -9,6 +9,12 @@ range_more a (suc n) =
     let next : a + 1 + n ≡ a + suc n = omega arith in
     ap (λ (l : List ℕ). a ∷ l)
     (range_more (a + 1) n ∙ ap (λ (m : ℕ). range_with_len (a + 1) n ++ m ∷ []) next)
+
+-- the same from 0 on
+pub numbers_more : (n : ℕ) → range_with_len 0 (n + 1) ≡ range_with_len 0 n ++ n ∷ []
+numbers_more n =
+    ap (range_with_len 0) (add-one n) ∙ range_more 0 n
+    ∙ ap (λ (m : ℕ). range_with_len 0 n ++ m ∷ []) (omega arith)
 
 -- what holds of each number of a range holds of all
 all_range : (P : ℕ → Type 0) (a n : ℕ) → ((k : ℕ) → a ≤ k → k < a + n → P k)

@@ -1,5 +1,5 @@
 -- How many sessions a run has.
-use Rattle.std.proofs.Common.{◌≡◌, ℕ, ◌≤◌, List, ◌∷◌, length, refl}
+use Rattle.std.proofs.Common.{ℕ, ◌≤◌, ◌∷◌, length, refl}
 use Rattle.std.proofs.Common.{arith, Bool, true, false, ◌&&◌}
 use Rattle.std.proofs.lemmas.Bool.Decides.{nat_tests}
 use Rattle.std.specs.Prelude.{IsTrue, nat_le, not}

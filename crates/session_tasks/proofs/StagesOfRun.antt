@@ -1,5 +1,5 @@
 -- The ways of a command that runs sessions, as its stages come one behind another.
-use Rattle.std.proofs.Common.{◌≡◌, ◌≢◌, ℕ, List, [], refl, subst, length}
+use Rattle.std.proofs.Common.{◌≡◌, ◌≢◌, ℕ, List, [], refl, subst}
 use Rattle.std.proofs.Common.{◌∙◌, inl, inr, Bool, true, false}
 use Rattle.std.specs.Prelude.{Option, Some, ◌⊎◌}
 use Rattle.std.specs.List.{list_any}

@@ -1,5 +1,5 @@
 -- What sessions did with their inputs and outputs.
-use Rattle.std.specs.Prelude.{◌≡◌, ◌⊎◌, ℕ, List, length, Option, IfSome, slice_get, Some}
+use Rattle.std.specs.Prelude.{◌≡◌, ◌⊎◌, ℕ, List, length, IfSome, slice_get, Some}
 use Rattle.std.specs.Io.KnownBytes.{Appends, Consumes}
 use Rattle.gate_ports.specs.Faults.{Rose}
 use Rattle.risk_journal.specs.declared.acts.Act.{Act}

@@ -18,5 +18,5 @@ SessionsWent Ran run before after status =
 -- a command that came as far as its limit file, or behind it
 abbrev pub WordsWent : Outcome → RunWords → Outcome
 WordsWent Ran run before after status =
-    HasUnreadLimits run before after status ⊎ HasRefusedLimits run before after status
+    HasUnreadLimits run.limits before after status ⊎ HasRefusedLimits run.limits before after status
     ⊎ SessionsWent Ran run before after status

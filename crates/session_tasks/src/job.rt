@@ -46,11 +46,7 @@ pub struct Ready<'a, W, P, S, K> {
 
 impl<'a, W: Drop, P: Drop, S: Drop, K: Drop> Ready<'a, W, P, S, K> {
     /// Takes the memory for the sessions of a run with these limits.
-    pub fn of(
-        alloc: Global,
-        run: &Run<'a>,
-        limits: Limits,
-    ) -> Result<Ready<'a, W, P, S, K>, Memory>
+    pub fn of(alloc: Global, run: &Run<'a>, limits: Limits) -> Result<Ready<'a, W, P, S, K>, Memory>
         requires { IsTrue (is_run (run_value run.now)) }
         ensures job { IfOk result (λ ready. IsJob ready.job) }
         ensures run { IfOk result (λ ready. ready.job.run ≡ run.now) }

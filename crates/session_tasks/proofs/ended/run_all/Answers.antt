@@ -1,4 +1,4 @@
-use Rattle.std.proofs.Common.{ℕ, length, map, ap, sym, ◌∙◌, subst}
+use Rattle.std.proofs.Common.{ℕ, map, ap, sym, ◌∙◌, subst}
 use Rattle.session_tasks.specs.Tasks.{HasSpare}
 use Rattle.session_tasks.proofs.TasksBack.{zip_long}
 use Rattle.session_tasks.proofs.ended.run_all.Goals as goal
