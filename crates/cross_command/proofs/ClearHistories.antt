@@ -1,5 +1,5 @@
 -- What is admitted in the histories of a filter's trees.
-use Rattle.std.proofs.Common.{◌≡◌, ℕ, List, length, map, subst}
+use Rattle.std.proofs.Common.{ℕ, List, length, map, subst}
 use Rattle.std.proofs.lemmas.List.{length-map}
 use Rattle.fold_law.specs.Whole.{whole_of}
 use Rattle.limit_table.specs.declared.limits.Limits.{Limits}

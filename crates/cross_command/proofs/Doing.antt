@@ -1,5 +1,5 @@
 -- What is said of a session that was filtered is what a task is held to.
-use Rattle.std.proofs.Common.{◌≡◌, ℕ, List}
+use Rattle.std.proofs.Common.{◌≡◌, List}
 use Rattle.std.proofs.Common.{inl, inr}
 use Rattle.std.specs.Prelude.{◌⊎◌}
 use Rattle.gate_ports.specs.Faults.{Rose}

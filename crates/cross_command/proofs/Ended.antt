@@ -11,8 +11,6 @@ use Rattle.risk_board.specs.declared.hand.Line.{Line}
 use Rattle.risk_journal.specs.declared.acts.Act.{Act}
 use Rattle.risk_journal.specs.declared.acts.End.{End}
 use Rattle.risk_journal.specs.TotalsText.{status_line}
-use Rattle.gate_files.specs.declared.words.Run.{Run}
-use Rattle.gate_files.specs.CommandOf.{run_value}
 use Rattle.gate_files.specs.Words.{RunWords}
 use Rattle.gate_files.specs.Ports.{PortsValue}
 use Rattle.gate_files.specs.Objects.{ObjectsValue, AreCounts, HasOpened}
@@ -22,11 +20,11 @@ use Rattle.gate_files.specs.Stops.{HasCounted}
 use Rattle.gate_files.specs.Told.{IsTold}
 use Rattle.session_tasks.specs.Did.{HaveDone}
 use Rattle.session_tasks.specs.Kept.{HasKept}
-use Rattle.session_tasks.specs.Ways.{SessionsWent, WordsWent}
+use Rattle.session_tasks.specs.Ways.{SessionsWent}
 use Rattle.session_tasks.proofs.RanSessions.{have_ran, shown, silent, told_bytes}
 use Rattle.session_tasks.proofs.StagesOfRun.{beside, memory_or_run, ran_beside, ran_earlier, told_so}
 use Rattle.session_tasks.proofs.StagesOfRun.{went_behind, words_told}
-use Rattle.cross_guard.specs.Told.{Placing, cross_trees, with_places}
+use Rattle.cross_guard.specs.Told.{Placing, with_places}
 use Rattle.cross_command.specs.Crossed.{CrossWent, HasCrossed}
 use Rattle.cross_command.specs.Finish.{ArePlaced, HasAnswer, HaveEnded, HaveStood, all_with_places}
 use Rattle.cross_command.specs.Rules.{follows, stops}
@@ -193,15 +191,3 @@ has_stood limits run before after acts placed ends said lines objects text n ref
       kept = kept;
       answer = subst (λ (e : List End). HasAnswer e refused text n) same answer;
     })
-
--- by equal limits, and words of one run
-pub ended_as : {S : Type 0} (faults : S → ℕ) (limits other : Limits) (run same : Run)
-    (before after : PortsValue) (objects : List ObjectsValue) (text : List ℕ) (n : ℕ)
-    → other ≡ limits → same ≡ run
-    → (n ≡ 8) ⊎ HaveEnded faults other (run_value same) before after objects text n
-    → (n ≡ 8) ⊎ HaveEnded faults limits (run_value run) before after objects text n
-ended_as faults limits other run same before after objects text n limits_are run_is ended =
-    subst (λ (l : Limits). (n ≡ 8)
-    ⊎ HaveEnded faults l (run_value run) before after objects text n) limits_are
-    (subst (λ (r : Run). (n ≡ 8)
-    ⊎ HaveEnded faults other (run_value r) before after objects text n) run_is ended)

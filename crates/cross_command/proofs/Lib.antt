@@ -4,3 +4,4 @@ pub mod PlacedCalls
 pub mod Replays
 pub mod ClearHistories
 pub mod Ended
+pub mod SameRuns

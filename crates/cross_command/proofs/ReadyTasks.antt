@@ -25,9 +25,9 @@ ready_each limits forest sessions pass (task ∷ tasks) own all = (
   ready_each limits forest sessions pass tasks own all.1,
 )
 
-pub all_ready : {A : Type 0} (limits : Limits) (open : CrossForest) (pass : A → PassValue)
-    (tasks : List A) (n : ℕ) → IsOpened limits n open → map pass tasks ≡ new_passes open.forest n
-    → AllByRecursion (λ t. IsReady limits open.forest (pass t)) tasks
-all_ready limits open pass tasks n opened are =
-    ready_each limits open.forest n pass tasks opened.forest
-    (each_fresh open.forest pass tasks n are)
+pub all_ready : {A : Type 0} (limits : Limits) (forest : CrossForest) (pass : A → PassValue)
+    (tasks : List A) (n : ℕ) → IsOpened limits n forest → map pass tasks ≡ new_passes forest.trees n
+    → AllByRecursion (λ t. IsReady limits forest.trees (pass t)) tasks
+all_ready limits forest pass tasks n opened are =
+    ready_each limits forest.trees n pass tasks opened.trees
+    (each_fresh forest.trees pass tasks n are)

@@ -171,16 +171,16 @@ did_calls (pass ∷ passes) =
     ap (λ (l : List (List Call)). pass.track.calls ∷ l) (did_calls passes)
 
 -- sessions that ran over a forest that was closed left this
-pub have_left : (limits : Limits) (open : CrossForest) (passes : List PassValue) (taken : Record)
-    (acts : List (List Act)) → HaveCalled limits open passes acts
-    → HasClosed open.forest.plan passes taken → HaveLeft (cross_trees limits) taken acts
-have_left limits open passes taken acts ran closed = record {
+pub have_left : (limits : Limits) (forest : CrossForest) (passes : List PassValue) (taken : Record)
+    (acts : List (List Act)) → HaveCalled limits forest passes acts
+    → HasClosed forest.trees.plan passes taken → HaveLeft (cross_trees limits) taken acts
+have_left limits forest passes taken acts ran closed = record {
   some = ran.some;
   lawful = closed.lawful;
-  trees_are = closed.trees ∙ ap (λ (p : Plan). p.trees) ran.opened.forest.plan;
+  trees_are = closed.trees ∙ ap (λ (p : Plan). p.trees) ran.opened.trees.plan;
   levels = subst (λ (l : ℕ). IsLeast (length acts) l)
-      (sym (closed.levels ∙ ap (λ (p : Plan). p.levels) ran.opened.forest.plan))
-      ran.opened.forest.least;
+      (sym (closed.levels ∙ ap (λ (p : Plan). p.levels) ran.opened.trees.plan))
+      ran.opened.trees.least;
   calls = ap (map (λ did. did.calls)) closed.passes_are ∙ did_calls passes ∙ ran.called;
 }
 

@@ -1,12 +1,12 @@
 -- The forest of a filter: what its sessions need of it, what they leave, and what a close gives.
-use Rattle.std.specs.Prelude.{◌≡◌, ℕ, ◌≤◌, List, [], length, map}
+use Rattle.std.specs.Prelude.{◌≡◌, ℕ, ◌≤◌, List, length, map}
 use Rattle.limit_table.specs.declared.limits.Limits.{Limits}
 use Rattle.risk_journal.specs.declared.acts.Act.{Act}
 use Rattle.risk_journal.specs.ActLists.{calls_of}
 use Rattle.stamp_word.specs.Places.{IsLeast}
 use Rattle.node_rule.specs.declared.view.Plan.{Plan}
 use Rattle.node_rule.specs.Standing.{Forested}
-use Rattle.f_array.specs.Passes.{PassValue, IsPassOf, IsSamePass}
+use Rattle.f_array.specs.Passes.{PassValue, IsSamePass}
 use Rattle.f_array.specs.Records.{AreAllOf, did_of}
 use Rattle.f_array.specs.declared.record.Record.{Record}
 use Rattle.trail_replay.specs.Fronts.{IsLawful}
@@ -16,9 +16,9 @@ use Rattle.cross_guard.specs.Told.{cross_trees}
 use Rattle.cross_command.specs.declared.forest.CrossForest.{CrossForest}
 
 -- the forest of these limits for so many sessions, with its keeper
-pub record IsOpened (limits : Limits) (sessions : ℕ) (open : CrossForest) : Type 0 where
-  pub forest : IsForestFor (cross_trees limits) sessions limits.quota open.forest
-  pub keeper : open.keeper ≡ open.forest
+pub record IsOpened (limits : Limits) (sessions : ℕ) (forest : CrossForest) : Type 0 where
+  pub trees : IsForestFor (cross_trees limits) sessions limits.quota forest.trees
+  pub keeper : forest.keeper ≡ forest.trees
 
 -- the forest is one of the limits, and this pass is of it and made no call
 pub record IsReady (limits : Limits) (forest : Forested) (pass : PassValue) : Type 0 where
@@ -32,11 +32,11 @@ pub record HasMade (pass after : PassValue) (acts : List Act) : Type 0 where
   pub calls : after.track.calls ≡ calls_of acts
 
 -- Sessions that ran over this forest, one or more: all passes are back, with the calls of the acts.
-pub record HaveCalled (limits : Limits) (open : CrossForest) (passes : List PassValue)
+pub record HaveCalled (limits : Limits) (forest : CrossForest) (passes : List PassValue)
     (acts : List (List Act)) : Type 0 where
   pub some : 1 ≤ length acts
-  pub opened : IsOpened limits (length acts) open
-  pub back : AreAllOf open.forest passes
+  pub opened : IsOpened limits (length acts) forest
+  pub back : AreAllOf forest.trees passes
   pub called : map (λ pass. pass.track.calls) passes ≡ map calls_of acts
 
 -- the lawful record of a forest of this plan, of what these passes did

@@ -23,9 +23,7 @@ use cross_guard::{
 };
 use f_array::Pass;
 use fold_law::Memory;
-use gate_files::{
-    Answer, Named, Opened, Run, Status, close_sessions, open_sessions, read_limits,
-};
+use gate_files::{Answer, Named, Opened, Run, Status, close_sessions, open_sessions, read_limits};
 use gate_ports::Folder;
 use limit_table::Limits;
 use session_tasks::{Ended, Finished, Job, Ready, keep, tasks_of};
@@ -35,7 +33,7 @@ use std::thread::Threads;
 /// Sessions that ran over a forest, before it is closed.
 #[derive(Drop)]
 struct Ran<S, K> {
-    open: CrossForest,
+    forest: CrossForest,
     ended: Ended<Pass<Cross>, S, K>,
 }
 
@@ -48,7 +46,7 @@ fn finish_run<R: Threads + Sync, D: Folder>(
     folder: &mut D,
 ) -> Answer
     requires job { IsJob job.now }
-    requires called { HaveCalled job.now.limits ran.open ran.ended.passes.items
+    requires called { HaveCalled job.now.limits ran.forest ran.ended.passes.items
         (map (λ own. own.items) ran.ended.acts.items) }
     requires act_count { length ran.ended.acts.items ≡ length job.now.run.sessions.now }
     requires object_count { length ran.ended.opened.items ≡ length job.now.run.sessions.now }
@@ -63,14 +61,14 @@ fn finish_run<R: Threads + Sync, D: Folder>(
         ran.ended.opened.items) (answer_text result) (answer_number result) }
 {
     job.limits.stand_in_a_file();
-    let Ran { open, ended } = ran;
+    let Ran { forest, ended } = ran;
     let Ended {
         passes,
         acts,
         ends,
         opened,
     } = ended;
-    let Ok(journal) = journal_after(rt, alloc, open, passes, acts) else {
+    let Ok(journal) = journal_after(rt, alloc, forest, passes, acts) else {
         close_sessions::<D, Named>(&job.run, &job.names.sessions, opened, folder);
         return Answer::Stopped(Status::Memory);
     };
@@ -100,8 +98,8 @@ fn cross_opened<R: Threads + Sync, D: Folder>(
     requires own { EachOwn (run_value ready.job.run) (D.texts folder.old)
         (map (objects_of D.In.left D.In.name D.In.faults D.Out.held D.Out.name D.Out.faults)
         opened.items) }
-    ensures { (answer_number result ≡ 8) ⊎ HaveEnded D.In.faults ready.job.limits
-        (run_value ready.job.run)
+    ensures { (answer_number result ≡ 8) ⊎ HaveEnded D.In.faults ready.entry.job.limits
+        (run_value ready.entry.job.run)
         (folder_of D.texts D.read_faults D.write_faults folder.old)
         (folder_of D.texts D.read_faults D.write_faults folder.new)
         (map (objects_of D.In.left D.In.name D.In.faults D.Out.held D.Out.name D.Out.faults)
@@ -112,11 +110,11 @@ fn cross_opened<R: Threads + Sync, D: Folder>(
         close_sessions::<D, Named>(&job.run, &job.names.sessions, opened, folder);
         return Answer::Stopped(Status::Memory);
     };
-    let Opening { open, passes } = opening;
+    let Opening { forest, passes } = opening;
     let tasks = tasks_of(passes, opened, room);
-    match run_sessions::<R, D::In, D::Out>(rt, alloc, &job.limits, &open, tasks) {
+    match run_sessions::<R, D::In, D::Out>(rt, alloc, &job.limits, &forest, tasks) {
         Ok(ended) => {
-            let ran = Ran { open, ended };
+            let ran = Ran { forest, ended };
             finish_run(rt, alloc, &job, ran, folder)
         }
         Err(opened) => {

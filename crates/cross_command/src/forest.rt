@@ -17,42 +17,41 @@ use trail_replay::closed_records_are_lawful;
 #[derive(Drop)]
 pub(crate) struct CrossForest {
     /// A tree for each symbol, and one where there is none.
-    pub forest: Forest<Cross>,
+    pub trees: Forest<Cross>,
     pub keeper: Keeper<Cross>,
 }
 
 /// A new forest, with the passes of its sessions, in their order.
 #[derive(Drop)]
 pub(crate) struct Opening {
-    pub open: CrossForest,
+    pub forest: CrossForest,
     pub passes: Vec<Pass<Cross>>,
 }
 
 /// Opens the forest of these limits for so many sessions.
 pub(crate) fn open_forest(alloc: Global, limits: &Limits, sessions: u32) -> Result<Opening, Memory>
     requires sessions { (1 ≤ sessions) × (sessions ≤ session_most) }
-    ensures forest { IfOk result (λ made. IsOpened limits.now sessions made.open) }
+    ensures forest { IfOk result (λ made. IsOpened limits.now sessions made.forest) }
     ensures passes { IfOk result (λ made.
-        made.passes.items ≡ new_passes made.open.forest sessions) }
+        made.passes.items ≡ new_passes made.forest.trees sessions) }
 {
     limits.stand_in_a_file();
-    let trees = (limits.symbols().len() as u32).max(1);
-    let shape = Shape::of(sessions, trees);
-    let (forest, keeper, passes) =
-        Forest::<Cross>::open(alloc, shape, sessions, limits.quota())?;
+    let count = (limits.symbols().len() as u32).max(1);
+    let shape = Shape::of(sessions, count);
+    let (trees, keeper, passes) = Forest::<Cross>::open(alloc, shape, sessions, limits.quota())?;
     Ok(Opening {
-        open: CrossForest { forest, keeper },
+        forest: CrossForest { trees, keeper },
         passes,
     })
 }
 
 /// Closes the forest, once all its passes are back.
-pub(crate) fn close_forest(open: CrossForest, passes: Vec<Pass<Cross>>) -> Result<Record, Memory>
-    requires keeper { open.keeper ≡ open.forest }
-    requires passes { AreAllOf open.forest passes.items }
-    ensures { IfOk result (λ taken. HasClosed open.forest.plan passes.items taken) }
+pub(crate) fn close_forest(forest: CrossForest, passes: Vec<Pass<Cross>>) -> Result<Record, Memory>
+    requires keeper { forest.keeper ≡ forest.trees }
+    requires passes { AreAllOf forest.trees passes.items }
+    ensures { IfOk result (λ taken. HasClosed forest.trees.plan passes.items taken) }
 {
     closed_records_are_lawful::<Cross>();
-    let CrossForest { forest, keeper } = open;
-    forest.close(keeper, passes)
+    let CrossForest { trees, keeper } = forest;
+    trees.close(keeper, passes)
 }

@@ -51,18 +51,18 @@ fn journal_of<R: Threads + Sync>(
 pub(crate) fn journal_after<R: Threads + Sync>(
     rt: &R,
     alloc: Global,
-    open: CrossForest,
+    forest: CrossForest,
     passes: Vec<Pass<Cross>>,
     acts: Vec<Vec<Act>>,
 ) -> Result<Journal, Memory>
     requires called { (limits : LimitsValue)
-        × HaveCalled limits open passes.items (map (λ own. own.items) acts.items) }
+        × HaveCalled limits forest passes.items (map (λ own. own.items) acts.items) }
     ensures { IfOk result (λ journal. (limits : LimitsValue)
-        → HaveCalled limits open passes.items (map (λ own. own.items) acts.items)
+        → HaveCalled limits forest passes.items (map (λ own. own.items) acts.items)
         → ArePlaced limits (map (λ own. own.items) acts.items)
         (map (λ own. own.items) journal.acts.items)
         (map (λ own. own.items) journal.lines.items)) }
 {
-    let taken = close_forest(open, passes)?;
+    let taken = close_forest(forest, passes)?;
     journal_of(rt, alloc, &taken, acts)
 }

@@ -49,8 +49,7 @@ pub(crate) const BUY_ANOTHER: &[u8] =
         60=20240102-10:00:00|";
 
 /// The sell is canceled.
-pub(crate) const CANCELED: &[u8] =
-    b"35=8|49=VENUE|56=GATE|34=1|52=20240102-10:00:00|11=a1|150=4|";
+pub(crate) const CANCELED: &[u8] = b"35=8|49=VENUE|56=GATE|34=1|52=20240102-10:00:00|11=a1|150=4|";
 
 /// The buy at the sell's price is refused.
 pub(crate) const REFUSAL: &[u8] =

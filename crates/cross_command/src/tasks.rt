@@ -26,10 +26,10 @@ use std::thread::Threads;
 fn run_task<S: Source, K: Sink>(
     alloc: Global,
     limits: &Limits,
-    forest: &Forest<Cross>,
+    trees: &Forest<Cross>,
     task: Task<Pass<Cross>, S, K>,
 ) -> TaskDone<Pass<Cross>, S, K>
-    requires { IsReady limits.now forest.now task.own }
+    requires { IsReady limits.now trees.now task.own }
     ensures made { HasMade task.own result.pass result.acts.items }
     ensures few { length result.acts.items < 2 ^ 32 }
     ensures done { (place : Placing)
@@ -42,7 +42,7 @@ fn run_task<S: Source, K: Sink>(
     let Opened { input, sinks } = opened;
     let Sinks { venue, client } = sinks;
     let session = own.number();
-    let hand = TreeHand::new(forest, own);
+    let hand = TreeHand::new(trees, own);
     let done = run_cross(alloc, session, limits, hand, input, venue, client);
     let CrossDone {
         hand,
@@ -72,15 +72,15 @@ pub(crate) fn run_sessions<R: Threads + Sync, S: Source + Send, K: Sink + Send>(
     rt: &R,
     alloc: Global,
     limits: &Limits,
-    open: &CrossForest,
+    forest: &CrossForest,
     tasks: Tasks<Pass<Cross>, Pass<Cross>, S, K>,
 ) -> Result<Ended<Pass<Cross>, S, K>, Vec<Opened<S, K>>>
     requires some { 1 ≤ length tasks.waiting.items }
-    requires opened { IsOpened limits.now (length tasks.waiting.items) open.now }
+    requires opened { IsOpened limits.now (length tasks.waiting.items) forest.now }
     requires passes { map (λ t. t.own) tasks.waiting.items
-        ≡ new_passes open.now.forest (length tasks.waiting.items) }
+        ≡ new_passes forest.now.trees (length tasks.waiting.items) }
     requires room { CanEnd tasks }
-    ensures called { IfOk result (λ ended. HaveCalled limits.now open.now ended.passes.items
+    ensures called { IfOk result (λ ended. HaveCalled limits.now forest.now ended.passes.items
         (map (λ own. own.items) ended.acts.items)) }
     ensures few { IfOk result (λ ended.
         AllByRecursion (λ own. length own < 2 ^ 32) (map (λ own. own.items) ended.acts.items)) }
@@ -92,9 +92,9 @@ pub(crate) fn run_sessions<R: Threads + Sync, S: Source + Send, K: Sink + Send>(
         (all_with_places place (map (λ own. own.items) ended.acts.items)) ended.ends.items) }
     ensures err { IfErr result (λ back. back.items ≡ map (λ t. t.opened) tasks.waiting.items) }
 {
-    let forest = &open.forest;
+    let trees = &forest.trees;
     let run = |task: Task<Pass<Cross>, S, K>| -> TaskDone<Pass<Cross>, S, K>
-        requires { IsReady limits.now forest.now task.own }
+        requires { IsReady limits.now trees.now task.own }
         ensures { HasMade task.own result.pass result.acts.items
             × (length result.acts.items < 2 ^ 32)
             × ((place : Placing)
@@ -102,6 +102,6 @@ pub(crate) fn run_sessions<R: Threads + Sync, S: Source + Send, K: Sink + Send>(
             (objects_of S.left S.name S.faults K.held K.name K.faults task.opened)
             (objects_of S.left S.name S.faults K.held K.name K.faults result.opened)
             (with_places place result.acts.items) result.end) }
-    { run_task(alloc, limits, forest, task) };
+    { run_task(alloc, limits, trees, task) };
     run_all(rt, alloc, tasks, &run)
 }

@@ -3,7 +3,8 @@
 
 use crate::cross_words;
 use crate::rows::{
-    BUY, BUY_ANOTHER, Frame, LIMITS, REFUSAL, ROWS, Row, SELL, Session, client_of, folder_of, passed_of, words_of,
+    BUY, BUY_ANOTHER, Frame, LIMITS, REFUSAL, ROWS, Row, SELL, Session, client_of, folder_of,
+    passed_of, words_of,
 };
 use gate_files::{Command, command_from, tell_answer};
 use gate_ports::{Fail as Failing, Folder, MemFolder, MemSink};
@@ -53,10 +54,18 @@ fn compare_session(
 ) -> Result<(), Fail> {
     let pass = format!(in alloc; "out/s{number:02}.pass")?;
     let passed = passed_of(alloc, session.frames)?;
-    assert_eq!(rt; folder.get(pass.as_str()), Some(passed.as_slice()), "{name}: {pass}");
+    assert_eq!(rt;
+        folder.get(pass.as_str()),
+        Some(passed.as_slice()),
+        "{name}: {pass}"
+    );
     let client = format!(in alloc; "out/s{number:02}.client")?;
     let told = client_of(alloc, session.client)?;
-    assert_eq!(rt; folder.get(client.as_str()), Some(told.as_slice()), "{name}: {client}");
+    assert_eq!(rt;
+        folder.get(client.as_str()),
+        Some(told.as_slice()),
+        "{name}: {client}"
+    );
     Ok(())
 }
 
@@ -66,12 +75,24 @@ fn compare<R: Threads + Sync + Abort>(rt: &R, alloc: Global, row: &Row) -> Resul
     let folder = folder_of(alloc, row.sessions)?;
     let done = done_over(rt, alloc, folder, row.sessions.len())?;
     assert_eq!(rt; done.status, 0, "{name}: the status");
-    assert_eq!(rt; done.told.bytes(), b"status 0\n".as_slice(), "{name}: what is told");
+    assert_eq!(rt;
+        done.told.bytes(),
+        b"status 0\n".as_slice(),
+        "{name}: what is told"
+    );
     for (number, session) in row.sessions.iter().enumerate() {
         compare_session(rt, alloc, name, number, session, &done.folder)?;
     }
-    assert_eq!(rt; done.folder.get("out/cross.csv"), Some(row.journal), "{name}: the journal");
-    assert_eq!(rt; done.folder.get("out/journal.csv"), None, "{name}: no other journal");
+    assert_eq!(rt;
+        done.folder.get("out/cross.csv"),
+        Some(row.journal),
+        "{name}: the journal"
+    );
+    assert_eq!(rt;
+        done.folder.get("out/journal.csv"),
+        None,
+        "{name}: no other journal"
+    );
     Ok(())
 }
 
@@ -105,7 +126,10 @@ fn is_passed(
         return Err("no output")?;
     };
     let whole = passed_of(alloc, frames)?;
-    assert!(rt; text.is_empty() || text == whole.as_slice(), "{pass}: all or none");
+    assert!(rt;
+        text.is_empty() || text == whole.as_slice(),
+        "{pass}: all or none"
+    );
     Ok(!text.is_empty())
 }
 
@@ -136,13 +160,62 @@ const ANOTHER: Session = Session {
 type Fault = (&'static str, Failing, &'static str, u8, &'static [u8], bool);
 
 const FAULTS: [Fault; 7] = [
-    ("the limits can't be opened", Failing::Open, "limits", 5, b"read fault\n", false),
-    ("a session can't be opened", Failing::Open, "session1", 5, b"read fault\n", false),
-    ("an output can't be made", Failing::Create, "out/s01.client", 6, b"write fault\n", false),
-    ("another can't", Failing::Create, "out/s00.pass", 6, b"write fault\n", false),
-    ("a session can't be read", Failing::Fetch, "session0", 5, b"status 5\n", true),
-    ("nothing can be passed", Failing::Give, "out/s01.pass", 6, b"status 6\n", true),
-    ("no journal can be made", Failing::Create, "out/cross.csv", 6, b"status 6\n", false),
+    (
+        "the limits can't be opened",
+        Failing::Open,
+        "limits",
+        5,
+        b"read fault\n",
+        false,
+    ),
+    (
+        "a session can't be opened",
+        Failing::Open,
+        "session1",
+        5,
+        b"read fault\n",
+        false,
+    ),
+    (
+        "an output can't be made",
+        Failing::Create,
+        "out/s01.client",
+        6,
+        b"write fault\n",
+        false,
+    ),
+    (
+        "another can't",
+        Failing::Create,
+        "out/s00.pass",
+        6,
+        b"write fault\n",
+        false,
+    ),
+    (
+        "a session can't be read",
+        Failing::Fetch,
+        "session0",
+        5,
+        b"status 5\n",
+        true,
+    ),
+    (
+        "nothing can be passed",
+        Failing::Give,
+        "out/s01.pass",
+        6,
+        b"status 6\n",
+        true,
+    ),
+    (
+        "no journal can be made",
+        Failing::Create,
+        "out/cross.csv",
+        6,
+        b"status 6\n",
+        false,
+    ),
 ];
 
 #[test]
@@ -162,9 +235,27 @@ fn one_failing_call_has_its_status(rt: HostRuntime) -> Result<(), Fail> {
 
 /// A limit file, what a session reads, the status and what is told.
 const STOPS: [(&str, &[u8], &[u8], u8, &[u8]); 3] = [
-    ("no limits", b"firm,,1000,,\n", b"", 3, b"limits fault 1 row 1\n"),
-    ("an input that is cut", LIMITS, b"8=FIX.4.4\x019=5", 4, b"status 4\n"),
-    ("an input that is broken", LIMITS, b"8=FIX.4.2\x01", 4, b"status 4\n"),
+    (
+        "no limits",
+        b"firm,,1000,,\n",
+        b"",
+        3,
+        b"limits fault 1 row 1\n",
+    ),
+    (
+        "an input that is cut",
+        LIMITS,
+        b"8=FIX.4.4\x019=5",
+        4,
+        b"status 4\n",
+    ),
+    (
+        "an input that is broken",
+        LIMITS,
+        b"8=FIX.4.2\x01",
+        4,
+        b"status 4\n",
+    ),
 ];
 
 #[test]
@@ -185,11 +276,31 @@ fn limits_and_inputs_have_their_status(rt: HostRuntime) -> Result<(), Fail> {
 const WORDS: [(&str, &[&str], bool); 7] = [
     ("one session", &["cross", "limits", "out", "a"], true),
     ("no session", &["cross", "limits", "out"], false),
-    ("two equal sessions", &["cross", "limits", "out", "a", "a"], false),
-    ("limits that are the journal", &["cross", "out/cross.csv", "out", "a"], false),
-    ("a session that is an output", &["cross", "limits", "out", "a", "out/s00.pass"], false),
-    ("a session that is a run's output", &["cross", "limits", "out", "out/s00.venue"], true),
-    ("a word with a dash", &["cross", "limits", "-out", "a"], false),
+    (
+        "two equal sessions",
+        &["cross", "limits", "out", "a", "a"],
+        false,
+    ),
+    (
+        "limits that are the journal",
+        &["cross", "out/cross.csv", "out", "a"],
+        false,
+    ),
+    (
+        "a session that is an output",
+        &["cross", "limits", "out", "a", "out/s00.pass"],
+        false,
+    ),
+    (
+        "a session that is a run's output",
+        &["cross", "limits", "out", "out/s00.venue"],
+        true,
+    ),
+    (
+        "a word with a dash",
+        &["cross", "limits", "-out", "a"],
+        false,
+    ),
 ];
 
 #[test]

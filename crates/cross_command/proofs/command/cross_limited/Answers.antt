@@ -1,34 +1,33 @@
-use Rattle.std.proofs.Common.{◌∙◌, sym, ap, subst, string_bytes, length}
+use Rattle.std.proofs.Common.{◌∙◌, sym, string_bytes}
 use Rattle.std.proofs.lemmas.List.{length-map}
-use Rattle.gate_files.specs.declared.words.Run.{Run}
 use Rattle.gate_files.specs.CommandOf.{run_value}
-use Rattle.gate_files.specs.Names.{AreNames}
-use Rattle.gate_files.specs.Objects.{objects_of, EachOwn}
-use Rattle.session_tasks.specs.Tasks.{HasRoom}
+use Rattle.gate_files.specs.Objects.{objects_of}
 use Rattle.session_tasks.proofs.StagesOfRun.{counted_as, unopened}
 use Rattle.cross_command.specs.Crossed.{HasCrossed}
 use Rattle.cross_command.proofs.ClearHistories.{ClearLaws}
-use Rattle.cross_command.proofs.Ended.{ended_as, ended_went}
+use Rattle.cross_command.proofs.Ended.{ended_went}
+use Rattle.cross_command.proofs.SameRuns.{ended_as, many_as, names_as, own_as, room_as}
 use Rattle.cross_command.proofs.command.cross_limited.Goals as goal
 
 pub open_sessions-requires-clause-names : goal.open_sessions-requires-clause-names
 open_sessions-requires-clause-names g c κs within =
-    subst (λ (r : Run). AreNames (run_value r).out (length r.sessions.now) _)
-    c.in-Ok.ensures.run c.in-Ok.ensures.job.names
+    names_as c.args.run.now c.in-Ok.ready.job.run c.in-Ok.ensures.run
+    c.in-Ok.ready.job.names.sessions.items c.deref.result.now c.deref.ensures.value
+    c.in-Ok.ensures.job.names
 
 pub cross_opened-requires-clause-room : goal.cross_opened-requires-clause-room
 cross_opened-requires-clause-room g c κs within =
-    subst (λ (r : Run). HasRoom (length r.sessions.now) _) (sym c.in-Ok.ensures.run)
+    room_as c.args.run.now c.in-Ok.ready.job.run c.in-Ok.ensures.run c.in-Ok.ready.room
     c.in-Ok.ensures.room
 
 pub cross_opened-requires-clause-many : goal.cross_opened-requires-clause-many
 cross_opened-requires-clause-many g c κs within =
+    many_as c.args.run.now c.in-Ok.ready.job.run c.in-Ok.ensures.run _
     c.in-Ok-open_sessions.ensures.many
-    ∙ ap (λ (r : Run). length r.sessions.now) (sym c.in-Ok.ensures.run)
 
 pub cross_opened-requires-clause-own : goal.cross_opened-requires-clause-own
 cross_opened-requires-clause-own g c κs within =
-    subst (λ (r : Run). EachOwn (run_value r) _ _) (sym c.in-Ok.ensures.run)
+    own_as c.args.run.now c.in-Ok.ready.job.run c.in-Ok.ensures.run _ _
     c.in-Ok-open_sessions.ensures.ok.own
 
 pub returns-in-Ok-open_sessions : goal.returns-in-Ok-open_sessions
@@ -49,8 +48,9 @@ returns-in-Ok-open_sessions g c =
     (counted_as _ _ _ _ _ (sym (length-map c.args.run.now.sessions.now string_bytes))
     c.requires.limits)
     laws
-    (ended_as g.D.In.Source.faults c.args.limits _ c.args.run.now _ _ _ _ _ _
-    c.in-Ok.ensures.limits c.in-Ok.ensures.run c.cross_opened.ensures)
+    (ended_as c.args.run.now c.in-Ok.ready.job.run c.in-Ok.ensures.run g.D.In.Source.faults
+    c.args.limits c.in-Ok.ready.job.limits _ _ _ _ _ c.in-Ok.ensures.limits
+    c.cross_opened.ensures)
 
 pub returns-in-Err-open_sessions : goal.returns-in-Err-open_sessions
 returns-in-Err-open_sessions g c =

@@ -16,7 +16,7 @@ use Rattle.cross_command.proofs.command.cross_opened.Goals as goal
 pub tasks_of-tasks-requires-clause-many : goal.tasks_of-tasks-requires-clause-many
 tasks_of-tasks-requires-clause-many g c =
     ap length c.in-Ok.ensures.passes
-    ∙ length-new_passes c.in-Ok.opening.open.forest (length c.args.ready.job.run.sessions.now)
+    ∙ length-new_passes c.in-Ok.opening.forest.trees (length c.args.ready.job.run.sessions.now)
     ∙ sym c.requires.many
 
 pub tasks_of-tasks-requires-clause-room : goal.tasks_of-tasks-requires-clause-room
@@ -41,7 +41,7 @@ run_sessions-requires-clause-opened g c κs within =
       ap length c.tasks_of-tasks.ensures.opened,
       length-map c.tasks_of-tasks.result.waiting.items (λ t. t.opened),
     ) in
-    subst (λ (n : ℕ). IsOpened c.args.ready.job.limits n c.in-Ok.opening.open) as_many
+    subst (λ (n : ℕ). IsOpened c.args.ready.job.limits n c.in-Ok.opening.forest) as_many
     c.in-Ok.ensures.forest
 
 pub finish_run-requires-clause-act_count : goal.finish_run-requires-clause-act_count

@@ -1,8 +1,7 @@
-use Rattle.std.proofs.Common.{ℕ, map, ◌∙◌, sym, ap, length, subst, arith}
+use Rattle.std.proofs.Common.{ap, arith}
 use Rattle.std.proofs.lemmas.List.{length-map}
 use Rattle.limit_table.proofs.Held.{held_symbols}
 use Rattle.gate_files.specs.CommandOf.{run_value}
-use Rattle.cross_guard.specs.Told.{with_places}
 use Rattle.cross_command.proofs.Ended.{few_lines, has_stood, placed_many}
 use Rattle.cross_command.proofs.command.finish_run.Goals as goal
 
@@ -32,6 +31,7 @@ keep-requires-clause-act_count g c κs within = omega (
 
 pub returns-in-Ok-keep : goal.returns-in-Ok-keep
 returns-in-Ok-keep g c =
-    has_stood c.args.job.now.limits (run_value c.args.job.now.run) _ _ _ _ _ _ _ _ _ _ _
+    has_stood c.args.job.now.limits (run_value c.args.job.now.run) _ _ _ _
+    c.args.ran.ended.ends.items _ _ _ _ _ _
     (c.in-Ok.ensures c.args.job.now.limits c.requires.called) c.in-Ok-keep.ensures.kept
-    c.in-Ok-keep.ensures.ends c.answer_after.ensures
+    (ap (λ ends. ends.items) c.in-Ok-keep.ensures.ends) c.answer_after.ensures

@@ -1,8 +1,6 @@
 use Rattle.std.proofs.Common.{◌≡◌, ◌^◌, ◌<◌, ℕ, length, map, ap, sym, ◌∙◌, subst, arith, List}
 use Rattle.std.proofs.lemmas.List.{length-map}
 use Rattle.std.specs.List.{AllByRecursion}
-use mir.Syntax.{of_param}
-use Rattle.fork_all.proofs.Bounded.{all_with, nothing_left}
 use Rattle.risk_journal.specs.declared.acts.Act.{Act}
 use Rattle.risk_journal.specs.ActLists.{calls_of}
 use Rattle.node_rule.specs.declared.view.Plan.{Plan}
@@ -17,16 +15,10 @@ use Rattle.cross_command.specs.Rules.{follows, stops}
 use Rattle.cross_command.proofs.ReadyTasks.{all_ready}
 use Rattle.cross_command.proofs.tasks.run_sessions.Goals as goal
 
--- the closure's call asks for what is asked of its type parameters, besides what it says itself
 pub run_all-requires-clause-ready : goal.run_all-requires-clause-ready
 run_all-requires-clause-ready g c κs within =
-    all_with _ _ c.args.tasks.waiting.items
-    (all_ready c.args.limits.now c.args.open.now (λ t. t.own) c.args.tasks.waiting.items
-    (length c.args.tasks.waiting.items) c.requires.opened c.requires.passes) (
-      record { owned = search; leaving = λ k. nothing_left (k (of_param 0)) },
-      record { owned = search; leaving = λ k. nothing_left (k (of_param 1)) },
-      search,
-    )
+    all_ready c.args.limits.now c.args.forest.now (λ t. t.own) c.args.tasks.waiting.items
+    (length c.args.tasks.waiting.items) c.requires.opened c.requires.passes
 
 pub returns-clause-called : goal.returns-clause-called
 returns-clause-called g c = ok_more c.run_all.result _ _ c.run_all.ensures.ok (λ ended ran.
@@ -37,14 +29,14 @@ returns-clause-called g c = ok_more c.run_all.result _ _ c.run_all.ensures.ok (�
     ap length apart.acts ∙ length-map done (λ d. d.acts.items) ∙ zip_long _ tasks done zipped in
     record {
       some = omega (arith, count, c.requires.some);
-      opened = subst (λ (n : ℕ). IsOpened c.args.limits.now n c.args.open.now) (sym count)
+      opened = subst (λ (n : ℕ). IsOpened c.args.limits.now n c.args.forest.now) (sym count)
           c.requires.opened;
-      back = subst (AreAllOf c.args.open.now.forest) (sym apart.passes)
-          (all_back _ (λ t. t.own) (λ d. d.pass) (λ t d one. one.0.same) tasks done zipped
-          c.args.open.now.forest (length tasks) c.requires.passes
-          (ap (λ (p : Plan). p.sessions) c.requires.opened.forest.plan));
+      back = subst (AreAllOf c.args.forest.now.trees) (sym apart.passes)
+          (all_back _ (λ t. t.own) (λ d. d.pass) (λ t d one. one.1.0.same) tasks done zipped
+          c.args.forest.now.trees (length tasks) c.requires.passes
+          (ap (λ (p : Plan). p.sessions) c.requires.opened.trees.plan));
       called = ap (map (λ pass. pass.track.calls)) apart.passes
-          ∙ calls_back _ (λ d. d.pass) (λ d. d.acts.items) calls_of (λ t d one. one.0.calls)
+          ∙ calls_back _ (λ d. d.pass) (λ d. d.acts.items) calls_of (λ t d one. one.1.0.calls)
           tasks done zipped
           ∙ ap (map calls_of) (sym apart.acts);
     })
@@ -53,7 +45,7 @@ pub returns-clause-few : goal.returns-clause-few
 returns-clause-few g c = ok_more c.run_all.result _ _ c.run_all.ensures.ok (λ ended ran.
     let (done, zipped, apart) = ran in
     subst (AllByRecursion (λ own. length own < 2 ^ 32)) (sym apart.acts)
-    (each_back _ (λ own. length own < 2 ^ 32) (λ d. d.acts.items) (λ t d one. one.1)
+    (each_back _ (λ own. length own < 2 ^ 32) (λ d. d.acts.items) (λ t d one. one.1.1)
     c.args.tasks.waiting.items done zipped))
 
 pub returns-clause-done : goal.returns-clause-done
@@ -63,7 +55,7 @@ returns-clause-done g c = ok_more c.run_all.result _ _ c.run_all.ensures.ok (λ 
     let (done, zipped, apart) = ran in
     have_done _ (follows c.args.limits.now) (stops c.args.limits.now) (λ t. f t.opened)
     (λ d. f d.opened) (λ d. with_places place d.acts.items) (λ d. d.end)
-    c.args.tasks.waiting.items done (λ session t d at one. one.2 place) zipped _ _ _
+    c.args.tasks.waiting.items done (λ session t d at one. one.1.2 place) zipped _ _ _
     (ap (map f) apart.opened ∙ mapped_twice f (λ d. d.opened) done)
     (ap (map (with_places place)) apart.acts
     ∙ mapped_twice (with_places place) (λ d. d.acts.items) done)

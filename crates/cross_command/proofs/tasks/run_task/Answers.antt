@@ -1,5 +1,4 @@
 use Rattle.session_tasks.proofs.EndsAlike.{end_placed}
-use Rattle.gate_files.specs.Objects.{objects_of}
 use Rattle.cross_command.proofs.Doing.{has_done}
 use Rattle.cross_command.proofs.tasks.run_task.Goals as goal
 
