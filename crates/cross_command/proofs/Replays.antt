@@ -153,15 +153,15 @@ pub behind_none : {A : Type 0} (f : ℕ → A) (trees : ℕ) (start end : List A
 behind_none f trees start end none is = is ∙ ap (λ own. own ++ list_below f trees) none
 
 -- in the terms of what a replay gives
-pub histories_told : (trees : ℕ) (placed acts : List (List Act)) (lines : List (List Line))
-    (told places : List (List ℕ)) (own : List (List Line)) → told ≡ places
-    → placed ≡ map (map (placed_by (place_in told))) acts → lines ≡ own
-    → AreHistories trees acts (map (map (placed_by (place_in places))) acts) own
-    → AreHistories trees acts placed lines
-histories_told trees placed acts lines told places own same are_placed are_lines histories =
-    subst (λ all. AreHistories trees acts all lines)
+pub histories_told : (trees : ℕ) (now acts : List (List Act)) (rows : List (List Line))
+    (told known : List (List ℕ)) (own : List (List Line)) → told ≡ known
+    → now ≡ map (map (placed_by (place_in told))) acts → rows ≡ own
+    → AreHistories trees acts (map (map (placed_by (place_in known))) acts) own
+    → AreHistories trees acts now rows
+histories_told trees now acts rows told known own same are_placed are_lines histories =
+    subst (λ all. AreHistories trees acts all rows)
     (sym (are_placed ∙ ap (λ p. map (map (placed_by (place_in p))) acts) same))
-    (subst (AreHistories trees acts (map (map (placed_by (place_in places))) acts)) (sym are_lines)
+    (subst (AreHistories trees acts (map (map (placed_by (place_in known))) acts)) (sym are_lines)
     histories)
 
 did_calls : (passes : List PassValue)
@@ -185,9 +185,9 @@ have_left limits forest passes taken acts ran closed = record {
 }
 
 -- the histories of the limits' trees
-pub are_placed : (limits : Limits) (acts placed : List (List Act)) (lines : List (List Line))
-    → AreHistories (cross_trees limits) acts placed lines → ArePlaced limits acts placed lines
-are_placed limits acts placed lines own = record {
+pub are_placed : (limits : Limits) (acts now : List (List Act)) (rows : List (List Line))
+    → AreHistories (cross_trees limits) acts now rows → ArePlaced limits acts now rows
+are_placed limits acts now rows own = record {
   place = own.place;
   placed_are = own.placed_are;
   legal = record { count = own.count; legal = own.legal };

@@ -69,6 +69,30 @@ fn compare_session(
     Ok(())
 }
 
+/// Compares what a filter wrote with its row.
+fn compare_outputs(
+    rt: &impl Abort,
+    alloc: Global,
+    row: &Row,
+    folder: &MemFolder,
+) -> Result<(), Fail> {
+    let name = row.name;
+    for (number, session) in row.sessions.iter().enumerate() {
+        compare_session(rt, alloc, name, number, session, folder)?;
+    }
+    assert_eq!(rt;
+        folder.get("out/cross.csv"),
+        Some(row.journal),
+        "{name}: the journal"
+    );
+    assert_eq!(rt;
+        folder.get("out/journal.csv"),
+        None,
+        "{name}: no other journal"
+    );
+    Ok(())
+}
+
 /// Filters the sessions of a row, and compares.
 fn compare<R: Threads + Sync + Abort>(rt: &R, alloc: Global, row: &Row) -> Result<(), Fail> {
     let name = row.name;
@@ -80,20 +104,7 @@ fn compare<R: Threads + Sync + Abort>(rt: &R, alloc: Global, row: &Row) -> Resul
         b"status 0\n".as_slice(),
         "{name}: what is told"
     );
-    for (number, session) in row.sessions.iter().enumerate() {
-        compare_session(rt, alloc, name, number, session, &done.folder)?;
-    }
-    assert_eq!(rt;
-        done.folder.get("out/cross.csv"),
-        Some(row.journal),
-        "{name}: the journal"
-    );
-    assert_eq!(rt;
-        done.folder.get("out/journal.csv"),
-        None,
-        "{name}: no other journal"
-    );
-    Ok(())
+    compare_outputs(rt, alloc, row, &done.folder)
 }
 
 #[test]
