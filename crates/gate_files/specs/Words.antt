@@ -93,8 +93,8 @@ run_of limits out sessions =
     let run : RunWords = record { limits = limits; out = out; sessions = sessions } in
     if is_run run then Some (Run run) else None
 
--- A check has no empty word and none with a leading dash, and one session to the most, no two of them
--- equal.
+-- A check has no empty word and none with a leading dash, and one session to the most, no two of
+-- them equal.
 abbrev pub is_check : CheckWords → Bool
 is_check check =
     let count = length check.sessions in
