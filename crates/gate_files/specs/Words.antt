@@ -133,8 +133,8 @@ cross_of limits out sessions =
     let run = run_words files.Cross limits out sessions in
     if is_run run then Some (Cross run) else None
 
--- A check has no empty word and none with a leading dash, and one session to the most, no two of them
--- equal.
+-- A check has no empty word and none with a leading dash, and one session to the most, no two of
+-- them equal.
 abbrev pub is_check : CheckWords → Bool
 is_check check =
     let count = length check.sessions in

@@ -15,8 +15,8 @@ pub fn whole_inputs_are_done()
         → (status ≡ 0) ⊎ (status ≡ 8) }
 {}
 
-/// A check in which nothing failed that was read or written ends with 0 or 7 by its journal, or with
-/// 3 by its limit file, unless memory was wanting (8), whatever its screens are.
+/// A check in which nothing failed that was read or written ends with 0 or 7 by its journal, or
+/// with 3 by its limit file, unless memory was wanting (8), whatever its screens are.
 pub fn unfailing_checks_are_judged()
     ensures { (words : List (List ℕ)) (sets : List (List ScreenValue))
         (before after : PortsValue) (status : ℕ)
