@@ -12,8 +12,8 @@ use Rattle.cross_guard.specs.Laws.{NeverCross}
 use Rattle.cross_guard.specs.Standings.{AdmitsOwn, StaysClear}
 use Rattle.cross_command.specs.History.{AreLegalLines, IsHistory}
 
--- What is admitted in a legal history stays clear, and so no two admitted orders cross. In any legal
--- history it is what the sessions' own events admit.
+-- What is admitted in a legal history stays clear, and so no two admitted orders cross. In any
+-- legal history it is what the sessions' own events admit.
 pub record ClearLaws : Type 0 where
   pub clear : (components : ℕ) (lines : List Line) (events : List (List Event))
       → IsLegal (whole_of cross_join 0) 0 components lines events

@@ -1,5 +1,6 @@
 -- Sessions that were filtered and closed, and what the command came to with them.
-use Rattle.std.proofs.Common.{◌≡◌, ℕ, ◌^◌, ◌<◌, ◌≤◌, List, [], length, map, max, refl, sym, ap, subst}
+use Rattle.std.proofs.Common.{◌≡◌, ℕ, ◌^◌, ◌<◌, ◌≤◌, List, [], length, map, max, refl, sym, ap}
+use Rattle.std.proofs.Common.{subst}
 use Rattle.std.proofs.Common.{inl, inr, ◌∙◌, arith, Bool}
 use Rattle.std.proofs.lemmas.List.{length-map}
 use Rattle.std.specs.Prelude.{Option, ◌⊎◌}
@@ -22,7 +23,8 @@ use Rattle.session_tasks.specs.Did.{HaveDone}
 use Rattle.session_tasks.specs.Kept.{HasKept}
 use Rattle.session_tasks.specs.Ways.{SessionsWent}
 use Rattle.session_tasks.proofs.RanSessions.{have_ran, shown, silent, told_bytes}
-use Rattle.session_tasks.proofs.StagesOfRun.{beside, memory_or_run, ran_beside, ran_earlier, told_so}
+use Rattle.session_tasks.proofs.StagesOfRun.{beside, memory_or_run, ran_beside, ran_earlier}
+use Rattle.session_tasks.proofs.StagesOfRun.{told_so}
 use Rattle.session_tasks.proofs.StagesOfRun.{went_behind, words_told}
 use Rattle.cross_guard.specs.Told.{Placing, with_places}
 use Rattle.cross_command.specs.Crossed.{CrossWent, HasCrossed}

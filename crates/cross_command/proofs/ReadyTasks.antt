@@ -11,7 +11,8 @@ use Rattle.cross_guard.specs.Told.{cross_trees}
 use Rattle.cross_command.specs.declared.forest.CrossForest.{CrossForest}
 use Rattle.cross_command.specs.Forest.{IsOpened, IsReady}
 
-ready_each : {A : Type 0} (limits : Limits) (forest : Forested) (sessions : ℕ) (pass : A → PassValue)
+ready_each : {A : Type 0} (limits : Limits) (forest : Forested) (sessions : ℕ)
+    (pass : A → PassValue)
     (tasks : List A) → IsForestFor (cross_trees limits) sessions limits.quota forest
     → AllByRecursion (λ t. IsFresh forest (pass t)) tasks
     → AllByRecursion (λ t. IsReady limits forest (pass t)) tasks

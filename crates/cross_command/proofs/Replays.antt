@@ -61,7 +61,8 @@ same_events place at tree passes own acts calls same each =
     split [] = refl
     split (did ∷ all) = ap (λ more. events_of_calls at tree did.calls ∷ more) (split all)
 
-    each_of : (all : List (List Act)) → map (events_of_calls at tree) (map calls_of all) ≡ map own all
+    each_of : (all : List (List Act)) → map (events_of_calls at tree) (map calls_of all)
+        ≡ map own all
     each_of [] = refl
     each_of (one ∷ all) =
         ap (λ e. e ∷ map (events_of_calls at tree) (map calls_of all))
@@ -74,8 +75,8 @@ placed_twice : (f : Act → Act) (own : List Act → List Event) (acts : List (L
 placed_twice f own [] = refl
 placed_twice f own (one ∷ acts) = ap (λ more. own (map f one) ∷ more) (placed_twice f own acts)
 
--- What is known of the histories of a lawful record: each tree's lines and places are legal, and the
--- leaves of the least tree are as many as the components.
+-- What is known of the histories of a lawful record: each tree's lines and places are legal, and
+-- the leaves of the least tree are as many as the components.
 pub record HistoryLaws : Type 0 where
   pub legal : (taken : Record) (tree : ℕ) → IsLawful 0 cross_cap cross_join taken
       → tree < taken.shape.trees

@@ -15,9 +15,9 @@ use Rattle.session_tasks.specs.Ways.{WordsWent}
 use Rattle.cross_command.specs.Rules.{follows, stops}
 use Rattle.cross_command.specs.History.{IsHistory}
 
--- The sessions were filtered, with the limits that count for so many: each did what its end says, all
--- together have one legal history of each symbol in which admitted orders never cross, the journal tells
--- it, and standard output the status.
+-- The sessions were filtered, with the limits that count for so many: each did what its end says,
+-- all together have one legal history of each symbol in which admitted orders never cross, the
+-- journal tells it, and standard output the status.
 pub record HasCrossed (run : RunWords) (before after : PortsValue) (status : ℕ) : Type 0 where
   pub limits : Limits
   pub inputs : List (List ℕ)

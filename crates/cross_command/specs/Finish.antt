@@ -43,8 +43,8 @@ pub record HaveStood (limits : Limits) (run : RunWords) (before after : PortsVal
   pub kept : HasKept run before after placed lines objects refused
   pub answer : HasAnswer ends refused text status
 
--- The sessions that were opened ran over a forest of their own, were closed, and stand in the journal,
--- with the lines of each tree.
+-- The sessions that were opened ran over a forest of their own, were closed, and stand in the
+-- journal, with the lines of each tree.
 pub record HaveEnded {S : Type 0} (faults : S → ℕ) (limits : Limits) (run : RunWords)
     (before after : PortsValue) (objects : List ObjectsValue) (text : List ℕ) (status : ℕ) : Type 0
   where

@@ -46,8 +46,8 @@ pub record HasClosed (plan : Plan) (passes : List PassValue) (taken : Record) : 
   pub trees : taken.shape.trees ≡ plan.trees
   pub passes_are : taken.passes.items ≡ map did_of passes
 
--- What sessions left: a lawful record of so many trees, with the least leaves for so many sessions, and
--- the acts, which are the calls of their passes.
+-- What sessions left: a lawful record of so many trees, with the least leaves for so many sessions,
+-- and the acts, which are the calls of their passes.
 pub record HaveLeft (trees : ℕ) (taken : Record) (acts : List (List Act)) : Type 0 where
   pub some : 1 ≤ length acts
   pub lawful : IsLawful 0 cross_cap cross_join taken

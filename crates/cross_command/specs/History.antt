@@ -19,10 +19,10 @@ pub record AreLegalLines (limits : Limits) (acts : List (List Act)) (lines : Lis
       → IsLegal (whole_of cross_join 0) 0 (components_of (length acts)) own
       (map (events_of tree) acts)
 
--- Each symbol's tree has one legal history, and so has the one tree where there is no symbol. At each
--- place of it what the sessions have admitted is clear: its highest buy is below its lowest sell, and so
--- any buy's price that one session has admitted is below any sell's that the same or another one has.
--- What is admitted is what the sessions' own acts admit.
+-- Each symbol's tree has one legal history, and so has the one tree where there is no symbol. At
+-- each place of it what the sessions have admitted is clear: its highest buy is below its lowest
+-- sell, and so any buy's price that one session has admitted is below any sell's that the same or
+-- another one has. What is admitted is what the sessions' own acts admit.
 pub record IsHistory (limits : Limits) (acts : List (List Act)) (lines : List (List Line)) : Type 0
   where
     pub trees : length lines ≡ cross_trees limits

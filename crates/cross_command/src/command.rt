@@ -154,10 +154,10 @@ fn cross_limited<R: Threads + Sync, D: Folder>(
     }
 }
 
-/// Filters the sessions of a run, side by side: of the orders of all of them that rest at the venue no
-/// buy crosses a sell. What may go on to the venue and what answers the clients are written in the
-/// folder of outputs, and the journal behind them. What is told is the line of the status, or why there
-/// was no run.
+/// Filters the sessions of a run, side by side: of the orders of all of them that rest at the venue
+/// no buy crosses a sell. What may go on to the venue and what answers the clients are written in
+/// the folder of outputs, and the journal behind them. What is told is the line of the status, or
+/// why there was no run.
 pub fn cross_words<R: Threads + Sync, D: Folder>(
     rt: &R,
     alloc: Global,

@@ -1,4 +1,5 @@
-//! The forest of a filter, over which all its sessions post and read, and the passes of the sessions.
+//! The forest of a filter, over which all its sessions post and read, and the passes of the
+//! sessions.
 ghost use Rattle.std.specs.Prelude.{◌≡◌, ◌≤◌, IfOk};
 ghost use Rattle.f_array.specs.Passes.{new_passes};
 ghost use Rattle.f_array.specs.Records.{AreAllOf};

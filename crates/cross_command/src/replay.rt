@@ -18,8 +18,8 @@ use trail_replay::{
     Histories, add_histories, components_are_leaves, histories_are_legal_by_places,
 };
 
-/// Replays each tree of a record, side by side, and sets the place of each read to that of its stamp
-/// in its tree.
+/// Replays each tree of a record, side by side, and sets the place of each read to that of its
+/// stamp in its tree.
 fn journal_of<R: Threads + Sync>(
     rt: &R,
     alloc: Global,

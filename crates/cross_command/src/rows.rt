@@ -1,5 +1,5 @@
-//! What sessions of the tests read, and what a filter gives for it, as rows of tables. Bytes of a body
-//! have a bar for SOH; BodyLength and CheckSum of a frame are made here.
+//! What sessions of the tests read, and what a filter gives for it, as rows of tables. Bytes of a
+//! body have a bar for SOH; BodyLength and CheckSum of a frame are made here.
 
 use gate_ports::{Folder, MemFolder};
 use itoa::Buffer;

@@ -21,8 +21,8 @@ use session_tasks::{Ended, Task, TaskDone, Tasks, run_all};
 use std::alloc::Global;
 use std::thread::Threads;
 
-/// Filters a session over its hand on the forest, and gives its pass back. Whatever places its reads
-/// get, it did what it is held to.
+/// Filters a session over its hand on the forest, and gives its pass back. Whatever places its
+/// reads get, it did what it is held to.
 fn run_task<S: Source, K: Sink>(
     alloc: Global,
     limits: &Limits,
@@ -66,8 +66,8 @@ fn run_task<S: Source, K: Sink>(
     }
 }
 
-/// Filters each session over this forest, all side by side. There is room for what they leave. Where
-/// memory is wanting none is run, and the objects are given back.
+/// Filters each session over this forest, all side by side. There is room for what they leave.
+/// Where memory is wanting none is run, and the objects are given back.
 pub(crate) fn run_sessions<R: Threads + Sync, S: Source + Send, K: Sink + Send>(
     rt: &R,
     alloc: Global,

@@ -1,5 +1,5 @@
-//! Filters over a folder in memory, byte by byte, and those that stop. No clause says what a worked row
-//! gives, nor that memory isn't wanting.
+//! Filters over a folder in memory, byte by byte, and those that stop. No clause says what a worked
+//! row gives, nor that memory isn't wanting.
 
 use crate::cross_words;
 use crate::rows::{
@@ -166,8 +166,8 @@ const ANOTHER: Session = Session {
     client: &[],
 };
 
-/// A call that fails in a filter of two sessions in two symbols, the status, what is told, and whether the journal
-/// stands.
+/// A call that fails in a filter of two sessions in two symbols, the status, what is told, and
+/// whether the journal stands.
 type Fault = (&'static str, Failing, &'static str, u8, &'static [u8], bool);
 
 const FAULTS: [Fault; 7] = [

@@ -19,7 +19,8 @@ use Rattle.gate_files.specs.Early.{KeepsOrFronts, MayEmpty, AreEmptied, LeavesEm
 use Rattle.gate_files.specs.Objects.{ObjectsValue, AreFresh, ChangesOutputs, HasCreated, HasClosed}
 use Rattle.gate_files.specs.Objects.{EachHolds}
 use Rattle.gate_files.proofs.Lists.{there_is}
-use Rattle.gate_files.proofs.OutputNames.{apart_from_all, venues_apart, venue_isnt_client, journal_isnt_client, journal_isnt_venue}
+use Rattle.gate_files.proofs.OutputNames.{apart_from_all, venues_apart, venue_isnt_client}
+use Rattle.gate_files.proofs.OutputNames.{journal_isnt_client, journal_isnt_venue}
 
 -- the sink was empty and got these bytes: it holds them
 pub holds_appended : (held held_after : Option (List ℕ)) (text own : List ℕ) → held ≡ Some []

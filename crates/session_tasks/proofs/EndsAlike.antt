@@ -11,7 +11,8 @@ use Rattle.gate_files.proofs.Lists.{mapped_at}
 
 -- the last act stays with places
 ends_placed : (place : ℕ → ℕ → ℕ) (front : List Act) (end : End)
-    → map (placed_by place) (front ++ Ended end ∷ []) ≡ map (placed_by place) front ++ Ended end ∷ []
+    → map (placed_by place) (front ++ Ended end ∷ [])
+    ≡ map (placed_by place) front ++ Ended end ∷ []
 ends_placed place [] end = refl
 ends_placed place (act ∷ front) end =
     ap (λ (l : List Act). placed_by place act ∷ l) (ends_placed place front end)

@@ -12,7 +12,8 @@ use Rattle.gate_files.specs.Joined.{joined}
 use Rattle.session_tasks.specs.Pieces.{bytes_in, HasRows, IsWritten}
 
 -- what the results of tasks are, by what their items are
-pub zipped_map : {A B C D : Type 0} (R : A → B → Type 0) (before : A → C) (after : B → D) (f : C → D)
+pub zipped_map : {A B C D : Type 0} (R : A → B → Type 0) (before : A → C) (after : B → D)
+    (f : C → D)
     → ((x : A) (y : B) → R x y → after y ≡ f (before x))
     → (xs : List A) (ys : List B) → AllZip R xs ys → map after ys ≡ map f (map before xs)
 zipped_map R before after f each [] [] all = refl
@@ -53,7 +54,8 @@ module _ {Y : Type 0} (rows : ℕ × List Y → List ℕ) (lists : List (List Y)
       λ k. rows (a, first k) ++ rest k
 
   -- pieces that were written of all numbers are the rows of all lists
-  pub rows_of_all : {E : Type 0} (n : ℕ) (written : List (Result (Vec ℕ Global) E)) → length lists ≡ n
+  pub rows_of_all : {E : Type 0} (n : ℕ) (written : List (Result (Vec ℕ Global) E))
+      → length lists ≡ n
       → AllZip (HasRows rows lists) (range_with_len 0 n) written
       → AllByRecursion IsWritten written
       → flat_map bytes_in written ≡ flat_map rows (enumerate_from 0 lists)

@@ -254,7 +254,8 @@ are_inputs run (Some texts) objects same each =
     ap texts (sym named)
     ∙ text_is texts (session_name run session) own.left new.opened.0 new.opened.1)
 
-pub keeps_others : (run : RunWords) (count : ℕ) (t0 t1 t2 : Option Texts) → count ≡ length run.sessions
+pub keeps_others : (run : RunWords) (count : ℕ) (t0 t1 t2 : Option Texts)
+    → count ≡ length run.sessions
     → ChangesOutputs run.out count t0 t1
     → IfSome t1 (λ mid. IfSome t2 (λ new. (name : List ℕ)
     → is_among name (output_names run.out (length run.sessions)) ≡ false → new name ≡ mid name))

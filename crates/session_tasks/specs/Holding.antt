@@ -7,8 +7,8 @@ use Rattle.gate_files.specs.Words.{RunWords, venue_name, client_name}
 use Rattle.gate_files.specs.Ports.{PortsValue, ReadRose, WriteRose, OutputRose, session_name}
 use Rattle.session_tasks.specs.Rules.{InputRule, EarlyRule, EndsWith}
 
--- A session whose end is by its bytes: its acts and both its outputs follow its input, where the folder
--- tells its texts.
+-- A session whose end is by its bytes: its acts and both its outputs follow its input, where the
+-- folder tells its texts.
 abbrev pub FollowsText : InputRule → PortsValue → RunWords → ℕ → List ℕ → List Act → End → Type 0
 FollowsText Input after run session bytes acts end =
     IfSome after.texts (λ texts. (venue : List ℕ) × (client : List ℕ)
@@ -16,9 +16,9 @@ FollowsText Input after run session bytes acts end =
     × (texts (client_name run.out session) ≡ Some client)
     × Input bytes acts end venue client)
 
--- A session that a fault ended: its acts and both its outputs follow what was fetched, the first bytes
--- of its input, and where a sink failed its output's name had a failed write, where the folder tells its
--- texts.
+-- A session that a fault ended: its acts and both its outputs follow what was fetched, the first
+-- bytes of its input, and where a sink failed its output's name had a failed write, where the
+-- folder tells its texts.
 abbrev pub StopsText : EarlyRule → PortsValue → PortsValue → RunWords → ℕ → List ℕ → List Act → End
     → Type 0
 StopsText Early before after run session bytes acts end =

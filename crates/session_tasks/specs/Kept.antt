@@ -24,8 +24,8 @@ abbrev pub HasJournal : PortsValue → PortsValue → RunWords → List (List Ac
 HasJournal before after run acts lines refused =
     IsKept before after (journal_name run.out) (journal_text acts lines) refused
 
--- The outputs and the journal are written, and names that are no outputs keep their texts, where the
--- folder tells its texts.
+-- The outputs and the journal are written, and names that are no outputs keep their texts, where
+-- the folder tells its texts.
 pub record AreWritten (run : RunWords) (before after : Option Texts) (objects : List ObjectsValue)
     : Type 0 where
   pub tells : before ≡ None → after ≡ None

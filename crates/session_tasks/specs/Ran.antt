@@ -19,8 +19,8 @@ abbrev pub AreInputs : Option Texts → List (List ℕ) → List (List ℕ) → 
 AreInputs told names inputs =
     IfSome told (λ texts. map texts names ≡ map (λ bytes. Some bytes) inputs)
 
--- The sessions were run: each did, over its input, what it is held to by its end, and the journal tells
--- it.
+-- The sessions were run: each did, over its input, what it is held to by its end, and the journal
+-- tells it.
 pub record HaveRan (Input : ℕ → InputRule) (Early : ℕ → EarlyRule) (run : RunWords)
     (before after : PortsValue) (inputs : List (List ℕ)) (acts : List (List Act)) (ends : List End)
     (lines : List (List Line)) (refused : Bool) : Type 0 where

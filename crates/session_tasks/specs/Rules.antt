@@ -5,13 +5,13 @@ use Rattle.risk_journal.specs.declared.acts.Act.TheVariants.{Ended}
 use Rattle.risk_journal.specs.declared.acts.End.{End}
 use Rattle.risk_journal.specs.declared.acts.End.TheVariants as ending
 
--- of the bytes of an input, what a session that they end did and wrote: its acts, its end, what goes on
--- to the venue, and what the client gets
+-- of the bytes of an input, what a session that they end did and wrote: its acts, its end, what
+-- goes on to the venue, and what the client gets
 abbrev pub InputRule : Type 1
 InputRule = List ℕ → List Act → End → List ℕ → List ℕ → Type 0
 
--- the same of what was fetched, for a session that a fault ended, with what is said of a sink to the
--- venue that failed, and of one to the client
+-- the same of what was fetched, for a session that a fault ended, with what is said of a sink to
+-- the venue that failed, and of one to the client
 abbrev pub EarlyRule : Type 1
 EarlyRule = List ℕ → List Act → End → List ℕ → List ℕ → Type 0 → Type 0 → Type 0
 

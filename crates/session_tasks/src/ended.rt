@@ -103,8 +103,8 @@ fn taken_apart<P: Drop, S: Drop, K: Drop>(
     ended
 }
 
-/// Runs each task, all side by side, and takes apart what they left. There is room for it. Where memory
-/// is wanting none is run, and the objects are given back.
+/// Runs each task, all side by side, and takes apart what they left. There is room for it. Where
+/// memory is wanting none is run, and the objects are given back.
 pub fn run_all<
     R: Threads + Sync,
     W: Send + Drop,

@@ -11,8 +11,8 @@ use gate_files::{Names, Run, names_in};
 use limit_table::Limits;
 use std::alloc::Global;
 
-/// A run that may begin: its words, the limits that count for so many sessions, and the names of its
-/// outputs.
+/// A run that may begin: its words, the limits that count for so many sessions, and the names of
+/// its outputs.
 #[derive(Drop)]
 pub struct Job<'a> {
     pub run: Run<'a>,

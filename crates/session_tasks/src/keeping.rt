@@ -61,7 +61,8 @@ fn write_journal<R: Threads + Sync, D: Folder>(
     }
 }
 
-/// Gives the inputs of sessions that have ended back, closes their outputs, and writes their journal.
+/// Gives the inputs of sessions that have ended back, closes their outputs, and writes their
+/// journal.
 pub fn keep<R: Threads + Sync, D: Folder, I: Inputs<D>>(
     rt: &R,
     alloc: Global,

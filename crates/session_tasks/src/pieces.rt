@@ -1,5 +1,5 @@
-//! The text of a journal in pieces: its first row, the rows of each session, and those of each tree.
-//! The pieces are written side by side.
+//! The text of a journal in pieces: its first row, the rows of each session, and those of each
+//! tree. The pieces are written side by side.
 ghost use Rattle.std.specs.Prelude.{◌≡◌, ◌^◌, ◌<◌, ◌++◌, length, map, IfOk, OnOk};
 ghost use Rattle.std.specs.List.{AllZip, AllByRecursion, flat_map, range_with_len};
 ghost use Rattle.risk_journal.specs.JournalText.{header_text, journal_text, session_text};
