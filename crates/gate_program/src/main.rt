@@ -7,6 +7,8 @@ mod agreeing;
 mod check_tests;
 mod command;
 mod completeness;
+#[cfg(test)]
+mod cross_tests;
 mod ended;
 #[cfg(test)]
 mod fault_tests;
