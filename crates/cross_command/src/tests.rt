@@ -47,7 +47,6 @@ fn done_over<R: Threads + Sync>(
 fn compare_session(
     rt: &impl Abort,
     alloc: Global,
-    name: &str,
     number: usize,
     session: &Session,
     folder: &MemFolder,
@@ -57,14 +56,14 @@ fn compare_session(
     assert_eq!(rt;
         folder.get(pass.as_str()),
         Some(passed.as_slice()),
-        "{name}: {pass}"
+        "{pass}"
     );
     let client = format!(in alloc; "out/s{number:02}.client")?;
     let told = client_of(alloc, session.client)?;
     assert_eq!(rt;
         folder.get(client.as_str()),
         Some(told.as_slice()),
-        "{name}: {client}"
+        "{client}"
     );
     Ok(())
 }
@@ -78,7 +77,7 @@ fn compare_outputs(
 ) -> Result<(), Fail> {
     let name = row.name;
     for (number, session) in row.sessions.iter().enumerate() {
-        compare_session(rt, alloc, name, number, session, folder)?;
+        compare_session(rt, alloc, number, session, folder)?;
     }
     assert_eq!(rt;
         folder.get("out/cross.csv"),

@@ -41,9 +41,9 @@ fn calls<R: Threads + Sync + Abort>(
     alloc: Global,
     words: &[&str],
     folder: &mut MemFolder,
-    status: u8,
-    told: &[u8],
+    wanted: (u8, &[u8]),
 ) -> Result<(), Fail> {
+    let (status, told) = wanted;
     let words = words_of(alloc, words)?;
     let mut out = MemSink::new(alloc, 100, Vec::new(alloc));
     let answered = gate(
@@ -85,12 +85,12 @@ fn what_a_filter_passes_can_be_run(rt: HostRuntime) -> Result<(), Fail> {
     ];
     folder.put("session", bytes_of(alloc, &orders)?)?;
     let filter = ["cross", "limits", "out", "session"];
-    calls(&rt, alloc, &filter, &mut folder, 0, b"status 0\n")?;
+    calls(&rt, alloc, &filter, &mut folder, (0, b"status 0\n"))?;
     let passed = [Piece::Whole(SELL), Piece::Whole(BUY_BELOW)];
     has(&rt, alloc, &folder, "out/s00.pass", &passed)?;
     let run = ["run", "limits", "sent", "out/s00.pass"];
     let told = b"session 0 whole sent 2 refused 0 noted 0\n";
-    calls(&rt, alloc, &run, &mut folder, 0, told)?;
+    calls(&rt, alloc, &run, &mut folder, (0, told))?;
     has(&rt, alloc, &folder, "sent/s00.venue", &SENT)
 }
 
@@ -108,7 +108,7 @@ fn filters_that_stop_have_their_status(rt: HostRuntime) -> Result<(), Fail> {
     for (words, status, told) in &STOPS {
         let mut folder = MemFolder::new(alloc, 100);
         folder.put("limits", Vec::from_slice(alloc, LARGE)?)?;
-        calls(&rt, alloc, words, &mut folder, *status, told)?;
+        calls(&rt, alloc, words, &mut folder, (*status, told))?;
         assert_eq!(rt; folder.get("out/cross.csv"), None, "no journal");
     }
     Ok(())
