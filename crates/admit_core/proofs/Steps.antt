@@ -43,6 +43,10 @@ set_at lasts tree place value below = by_test (tree == place) refl
 not_below : (tree count : ℕ) → tree ≡ count → nat_lt tree count ≡ false
 not_below tree count is = grind (arith, nat_tests)
 
+-- a tree behind a number is none below it
+behind_not_below : (tree count : ℕ) → count < tree → nat_lt tree count ≡ false
+behind_not_below tree count behind = grind (arith, nat_tests)
+
 -- a call that a hand made, and one that it didn't
 made : (calls : List Call) (here : Bool) (one : Call) → here ≡ true
     → calls ++ one ∷ [] ≡ calls ++ cond here (one ∷ []) []
@@ -153,6 +157,17 @@ module _ (sum halt : HandValue) (count quota : ℕ) (acts : List Act) (lasts : L
       (not_made sum.calls (nat_lt tree count) (call.Read tree stamp value)
       (not_below tree count same))
       (made halt.calls (tree == count) (call.Read 0 stamp value) (eq-eqb tree count same))
+      refl (λ t below. refl) step.capped
+
+  -- a read that another hand made
+  pub read_behind : (tree stamp place value : ℕ) → count < tree
+      → InStep sum halt count quota (acts ++ Read tree stamp place value ∷ []) lasts
+  read_behind tree stamp place value behind =
+      next (Read tree stamp place value) sum halt lasts step.sum_hand step.halt_hand
+      (not_made sum.calls (nat_lt tree count) (call.Read tree stamp value)
+      (behind_not_below tree count behind))
+      (not_made halt.calls (tree == count) (call.Read 0 stamp value)
+      (ne_eqb tree count (λ e. absurd (omega (arith, behind, e)))))
       refl (λ t below. refl) step.capped
 
   pub tripped : (index value : ℕ)

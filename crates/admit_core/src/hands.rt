@@ -174,6 +174,22 @@ impl<H: Hand, M: Hand> Hands<H, M> {
         self.read(self.halt_tree)
     }
 
+    /// Tells the read of a root behind the halt tree, which another hand made. Its place in the tree's
+    /// history is not known here, and told as 0.
+    pub fn tell_read(&mut self, tree: u32, seen: &Seen)
+        requires behind { self.old.halt_tree < tree }
+        requires room { 1 ≤ self.old.room }
+        ensures after { IsAfter H.SameOrigin M.SameOrigin self.old self.new 1 }
+        ensures acts { self.new.acts ≡ with_read tree (unplaced seen.now) self.old.acts }
+    {
+        self.acts.push_reserved(Act::Read {
+            tree,
+            stamp: seen.stamp,
+            place: 0,
+            value: seen.value,
+        });
+    }
+
     /// Tells an act that is no call.
     pub fn tell(&mut self, act: Act)
         requires no_call { IsNoCall act }

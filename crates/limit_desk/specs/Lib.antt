@@ -6,3 +6,4 @@ pub mod OneAnswer
 pub mod Posted
 pub mod Posting
 pub mod Trees
+pub mod DeskAsking

@@ -5,6 +5,7 @@
 //! smaller of each limit of the file and the one that it read.
 #![tactic(auto)]
 
+mod asking;
 mod hands;
 mod least;
 mod officer;
@@ -13,6 +14,7 @@ mod officer_run;
 mod reading;
 mod told;
 
+pub use asking::read_limit;
 pub use hands::DeskHands;
 pub use least::{Min, OPEN};
 pub use officer::{OfficerRow, OfficerTree, ROWS_MOST, read_officer};
