@@ -7,3 +7,5 @@ pub mod Posted
 pub mod Posting
 pub mod Trees
 pub mod DeskAsking
+pub mod DeskDecisions
+pub mod DeskSession
