@@ -1,4 +1,4 @@
-use Rattle.std.proofs.Common.{◌≡◌, ◌∙◌, ◌++◌, ◌∷◌, ◌+◌, [], sym, ap, refl, subst, true, arith}
+use Rattle.std.proofs.Common.{◌≡◌, ◌∙◌, ◌++◌, ◌∷◌, [], sym, ap, refl, subst, true, arith}
 use Rattle.std.proofs.Common.{if◌then◌else◌, length}
 use Rattle.std.specs.Result.{is_ok}
 use Rattle.risk_journal.specs.SparseTrees.{AreRising}
