@@ -11,11 +11,10 @@ with status 1 where a check doesn't say that its journal is lawful.
 """
 import os
 import statistics
-import sys
 import tempfile
 from dataclasses import dataclass
 
-from sessions import LOOKED_AT, Runs, memory_of, parser_of_load, spread, texts_of, timed
+from sessions import LOOKED_AT, Runs, measured_by, memory_of, spread, texts_of, timed
 
 LAWFUL = "LAWFUL"
 
@@ -64,11 +63,7 @@ def measure(gate, sessions, orders, runs):
 
 
 def main():
-    asked = parser_of_load().parse_args()
-    try:
-        seen = measure(asked.gate, asked.sessions, asked.orders, asked.runs)
-    except ValueError as wrong:
-        sys.exit(str(wrong))
+    seen = measured_by(measure)
     print(f"{seen.sessions} sessions of {seen.orders} orders: a run {spread(seen.runs)}, a check "
           f"{spread(seen.checks)}, {seen.times_as_long():.2f} times as long; at most "
           f"{seen.run_memory / 1e6:.1f} MB and {seen.check_memory / 1e6:.1f} MB, "

@@ -10,11 +10,10 @@ and the load of the machine. It ends with status 1 where a load isn't told as le
 import os
 import re
 import subprocess
-import sys
 import tempfile
 from dataclasses import dataclass
 
-from sessions import LOOKED_AT, memory_of, parser_of_load, size, spread, timed
+from sessions import LOOKED_AT, measured_by, memory_of, size, spread, timed
 
 # The number of which each load is made, and what its summary counts.
 NUMBER = 7
@@ -60,11 +59,7 @@ def measure(gate, sessions, orders, runs):
 
 
 def main():
-    asked = parser_of_load().parse_args()
-    try:
-        seen = measure(asked.gate, asked.sessions, asked.orders, asked.runs)
-    except ValueError as wrong:
-        sys.exit(str(wrong))
+    seen = measured_by(measure)
     print(f"{seen.sessions} sessions of {seen.orders} orders, {seen.messages:,} messages in "
           f"{seen.bytes:,} bytes: {spread(seen.seconds)}, at most {seen.memory / 1e6:.1f} MB, "
           f"{seen.reads:,} reads, {seen.written:,} bytes written; load {os.getloadavg()[0]:.1f}")

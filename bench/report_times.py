@@ -11,7 +11,7 @@ import sys
 import tempfile
 from dataclasses import dataclass
 
-from sessions import HERE, LOOKED_AT, Runs, memory_of, parser_of_load, spread, texts_of, timed
+from sessions import HERE, LOOKED_AT, Runs, measured_by, memory_of, spread, texts_of, timed
 
 REPORT = os.path.join(HERE, "..", "report")
 
@@ -43,8 +43,7 @@ def measure(gate, sessions, orders, runs):
 
 
 def main():
-    asked = parser_of_load().parse_args()
-    seen = measure(asked.gate, asked.sessions, asked.orders, asked.runs)
+    seen = measured_by(measure)
     print(f"{seen.sessions} sessions of {seen.orders} orders: a report {spread(seen.seconds)}, at "
           f"most {seen.memory / 1e6:.1f} MB, a table of {seen.table:,} bytes and a page of "
           f"{seen.page:,}; load {os.getloadavg()[0]:.1f}")

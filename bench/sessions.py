@@ -14,6 +14,7 @@ import os
 import re
 import statistics
 import subprocess
+import sys
 import tempfile
 import time
 from dataclasses import dataclass
@@ -158,6 +159,16 @@ def parser_of_load():
     parser.add_argument("--gate", default=PROGRAM)
     parser.add_argument("--runs", type=int, default=7)
     return parser
+
+
+def measured_by(measure):
+    """The figures of the load that the command line asks for. Where one can't be had, the end of the
+    program, with why."""
+    asked = parser_of_load().parse_args()
+    try:
+        return measure(asked.gate, asked.sessions, asked.orders, asked.runs)
+    except ValueError as wrong:
+        sys.exit(str(wrong))
 
 
 def arguments():
