@@ -19,17 +19,6 @@ module _ (last : ℕ) (acts : List (List Act)) (lines : List (List Line)) where
       (tree place : ℕ) (line : Line) → tree < count
       → slice_get (tree_lines tree lines) place ≡ Some line → ¬ (last < tree)
 
-  pub far_more : (count : ℕ) → NoneFar count
-      → ¬ ((last < count) × (0 < length (tree_lines count lines))) → NoneFar (count + 1)
-  far_more count before near tree place line less at far = ⊎_elim
-      (λ (same : tree ≡ count).
-      let inside : place < length (tree_lines tree lines) = slice_get_within (tree_lines tree lines) place line at in
-      let some : 0 < length (tree_lines count lines) =
-      omega (arith, inside, ap (λ t. length (tree_lines t lines)) same) in
-      near (omega (arith, far, same), some))
-      (λ (apart : tree ≢ count). before tree place line (omega (arith, less, apart)) at far)
-      (same_or tree count)
-
   pub first_far : (tree row : ℕ) → NoneFar tree → last < tree → 0 < length (tree_lines tree lines)
       → row ≡ 2 + count_all acts + count_all (take tree lines)
       → IsFirstRow (IsFarLine last acts lines) row

@@ -23,6 +23,7 @@ pub mod SessionRows
 pub mod KindOrder
 pub mod WorthOf
 pub mod FarLines
+pub mod FarTrees
 pub mod Comparing
 pub mod Differing
 pub mod FirstApart

@@ -2,6 +2,7 @@
 ghost use Rattle.std.specs.Prelude.{◌≡◌, ◌≢◌, ℕ, ◌+◌, ◌≤◌, ◌<◌, ◌^◌, length, map, All};
 ghost use Rattle.fold_law.specs.declared.limits.TheConstants.{LEAF, SESSIONS};
 ghost use Rattle.limit_table.specs.Trees.{halt_tree};
+ghost use Rattle.risk_journal.specs.SparseTrees.{expand_from, AreRising};
 ghost use Rattle.journal_check.specs.Answers.{IfNo, AreBack};
 ghost use Rattle.journal_check.specs.FarRows.{IsFarRow};
 ghost use Rattle.journal_check.specs.Faults.{case_of};
@@ -20,7 +21,7 @@ use crate::session_acts::{ActsFound, compare_all};
 use crate::tree_faults::first_tree_fault;
 use gate_ports::Source;
 use limit_table::Limits;
-use risk_journal::{Journal, JournalFault, read_journal};
+use risk_journal::{Journal, JournalFault, SparseJournal, expand_journal, read_sparse_journal};
 use screen_kit::Screen;
 use std::alloc::Global;
 
@@ -118,27 +119,54 @@ fn judge_sessions<S: Source, K: SessionScreens>(
     }
 }
 
-/// Judges a journal that was read: by its rows, by its sessions, and by its trees.
-fn judge<S: Source, K: SessionScreens>(
+/// Judges a journal that has no fault by its rows alone, and so no line of a tree above the halt tree:
+/// its lines are listed by tree.
+fn judge_near<S: Source, K: SessionScreens>(
     alloc: Global,
     limits: &Limits,
-    journal: &Journal,
+    told: SparseJournal,
     sources: Vec<S>,
     screens: Vec<K>,
 ) -> CheckDone<S>
     requires enough { AreEnough (length sources.items) (length screens.items) }
-    requires read { AreReadRows (items_of journal.now.acts.items)
-        (items_of journal.now.lines.items) }
+    requires rising { AreRising 0 told.trees.items }
+    requires read { AreReadRows (items_of told.acts.items) (expand_from 0 told.trees.items) }
+    requires rows { HasNoRowFault (length sources.items) (halt_tree limits.now)
+        (items_of told.acts.items) (expand_from 0 told.trees.items) }
     ensures answer { IsAnswerOf limits.now (map S.left sources.items) (map K.meaning screens.items)
-        (items_of journal.now.acts.items) (items_of journal.now.lines.items) result.answer }
-    ensures read_fault { result.answer ≡ Checked.ReadFault → FailsByRows S.left S.faults limits.now
-        (map K.meaning screens.items) (items_of journal.now.acts.items)
-        (items_of journal.now.lines.items) sources.items result.sources.items }
+        (items_of told.acts.items) (expand_from 0 told.trees.items) result.answer }
+    ensures read_fault { result.answer ≡ Checked.ReadFault → FailsBehind S.left S.faults limits.now
+        (map K.meaning screens.items) (items_of told.acts.items) sources.items
+        result.sources.items }
     ensures back { AreBack S.faults S.name sources.items result.sources.items }
 {
-    match first_row_fault(journal, sources.len(), limits.halt_tree()) {
+    match expand_journal(alloc, told) {
+        Ok(journal) => judge_sessions(alloc, limits, &journal, sources, screens),
+        Err(_) => answered(Checked::Memory, sources),
+    }
+}
+
+/// Judges a journal that was read: by its rows, by its sessions, and by its trees.
+fn judge<S: Source, K: SessionScreens>(
+    alloc: Global,
+    limits: &Limits,
+    told: SparseJournal,
+    sources: Vec<S>,
+    screens: Vec<K>,
+) -> CheckDone<S>
+    requires enough { AreEnough (length sources.items) (length screens.items) }
+    requires rising { AreRising 0 told.trees.items }
+    requires read { AreReadRows (items_of told.acts.items) (expand_from 0 told.trees.items) }
+    ensures answer { IsAnswerOf limits.now (map S.left sources.items) (map K.meaning screens.items)
+        (items_of told.acts.items) (expand_from 0 told.trees.items) result.answer }
+    ensures read_fault { result.answer ≡ Checked.ReadFault → FailsByRows S.left S.faults limits.now
+        (map K.meaning screens.items) (items_of told.acts.items)
+        (expand_from 0 told.trees.items) sources.items result.sources.items }
+    ensures back { AreBack S.faults S.name sources.items result.sources.items }
+{
+    match first_row_fault(&told, sources.len(), limits.halt_tree()) {
         Some(fault) => answered(Checked::No(fault), sources),
-        None => judge_sessions(alloc, limits, journal, sources, screens),
+        None => judge_near(alloc, limits, told, sources, screens),
     }
 }
 
@@ -165,8 +193,8 @@ pub fn check<S: Source>(
     if journal.len() > JOURNAL_MOST {
         return answered(Checked::No(CheckFault { row: 0, kind: 1 }), sources);
     }
-    match read_journal(alloc, journal) {
-        Ok(told) => judge(alloc, limits, &told, sources, screens),
+    match read_sparse_journal(alloc, journal) {
+        Ok(told) => judge(alloc, limits, told, sources, screens),
         Err(JournalFault::Row(row)) => {
             answered(Checked::No(CheckFault { row, kind: 1 }), sources)
         }

@@ -177,6 +177,24 @@ const CASES: &[Case] = &[
         fault: Some(CheckFault { row: 13, kind: 4 }),
     },
     Case {
+        name: "a line of the last tree that has a number",
+        changes: &[(13, b"line,0,4294967295,1,1,1000\n")],
+        fault: Some(CheckFault { row: 13, kind: 4 }),
+    },
+    Case {
+        name: "the first of two far trees",
+        changes: &[
+            (12, b"line,0,4,1,1,1000\n"),
+            (13, b"line,0,4294967295,1,1,1000\n"),
+        ],
+        fault: Some(CheckFault { row: 12, kind: 4 }),
+    },
+    Case {
+        name: "a near line behind a far one",
+        changes: &[(12, b"line,0,4294967295,1,1,1000\n")],
+        fault: Some(CheckFault { row: 13, kind: 1 }),
+    },
+    Case {
         name: "acts",
         changes: &[(9, b"sent,0,1,,,\n")],
         fault: Some(CheckFault { row: 9, kind: 5 }),
@@ -290,6 +308,14 @@ const BEFORE: &[Case] = &[
         changes: &[
             (10, b"ended,0,0,,,\nended,1,0,,,\n"),
             (13, b"line,0,4,1,1,1000\n"),
+        ],
+        fault: Some(CheckFault { row: 0, kind: 2 }),
+    },
+    Case {
+        name: "count before a tree far behind",
+        changes: &[
+            (10, b"ended,0,0,,,\nended,1,0,,,\n"),
+            (13, b"line,0,4294967295,1,1,1000\n"),
         ],
         fault: Some(CheckFault { row: 0, kind: 2 }),
     },

@@ -10,6 +10,7 @@ pub mod PlacedEvents
 pub mod PlacedSoFar
 pub mod RowTexts
 pub mod RowsWith
+pub mod SparseSteps
 pub mod TakenRows
 pub mod TakenSteps
 pub mod TreeWalks

@@ -1,22 +1,20 @@
 -- The steps of a reading: empty trees, a line more, and the next row of a text.
-use Rattle.std.proofs.Common.{◌≡◌, ◌≢◌, ℕ, zero, suc, ◌+◌, ◌-◌, ◌<◌, ◌≤◌, List, [], ◌∷◌, ◌++◌}
+use Rattle.std.proofs.Common.{◌≡◌, ◌≢◌, ℕ, ◌+◌, ◌-◌, ◌<◌, ◌≤◌, List, [], ◌∷◌, ◌++◌}
 use Rattle.std.proofs.Common.{length}
-use Rattle.std.proofs.Common.{refl, sym, ap, ◌∙◌, arith, map, subst, append_assoc, get_or, set}
+use Rattle.std.proofs.Common.{refl, sym, ap, ◌∙◌, arith, map, subst, append_assoc, get_or}
 use Rattle.std.proofs.Common.{replicate, take, drop, true, false, eqb, length-drop}
 use Rattle.std.specs.Str.{bytes_eq}
 use Rattle.std.proofs.lemmas.Bool.{false≢true}
 use Rattle.std.proofs.lemmas.Bool.Decides.{nat_tests}
-use Rattle.std.proofs.lemmas.List.{append-nil, map-append, replicate_more, map-set, take_all}
+use Rattle.std.proofs.lemmas.List.{map-append, replicate_more, take_all}
 use Rattle.std.proofs.lemmas.List.{take_rest}
-use Rattle.std.proofs.lemmas.List.{drop-drop, take-append-drop, take_at, length-map}
-use Rattle.std.proofs.lemmas.List.{length-append, length-replicate, get_or-map}
+use Rattle.std.proofs.lemmas.List.{drop-drop, take-append-drop, take_at}
 use Rattle.std.proofs.lemmas.List.Elements.{All-weaker}
 use Rattle.std.proofs.lemmas.Slice.Eq.{bytes_eq-Decides}
 use Rattle.memchr.specs.Find.{Nowhere, NoneBefore, Passes, is_byte}
-use Rattle.risk_board.specs.declared.hand.Line.{Line}
 use Rattle.risk_journal.specs.JournalText.{header_text}
 use Rattle.risk_journal.specs.JournalGrammar.{IsRow, IsFirstFault}
-use Rattle.risk_journal.specs.Reading.{Taken, put_line}
+use Rattle.risk_journal.specs.Reading.{Taken}
 use Rattle.risk_journal.specs.TakenView.{Reached, TakesRow, IsRefused}
 use Rattle.risk_journal.proofs.RowCuts.{none_before, cut_there}
 use Rattle.risk_journal.proofs.Reached.{reached_next, fault_in_row, fault_in_open_row}
@@ -34,40 +32,6 @@ fill_more {X} {Y} f old now new own n m so_far high e empty =
     ∙ append_assoc (map f old) (replicate (n - m) []) (none ∷ [])
     ∙ ap (λ later. map f old ++ later) (replicate_more (n - m) none)
     ∙ ap (λ k. map f old ++ replicate k none) count
-
-put_is : (trees : List (List Line)) (n k : ℕ) (line : Line) → length trees + k ≡ n + 1
-    → set (trees ++ replicate k []) n (get_or (trees ++ replicate k []) n [] ++ line ∷ [])
-    ≡ put_line trees n line
-put_is [] zero zero line e = absurd (omega arith)
-put_is [] zero (suc zero) line e = refl
-put_is [] zero (suc (suc k)) line e = absurd (omega arith)
-put_is [] (suc n) zero line e = absurd (omega arith)
-put_is [] (suc n) (suc k) line e = ap (λ own. [] ∷ own) (put_is [] n k line (omega arith))
-put_is (lines ∷ trees) zero zero line e =
-    ap (λ own. (lines ++ line ∷ []) ∷ own) (append-nil trees)
-put_is (lines ∷ trees) zero (suc k) line e = absurd (omega arith)
-put_is (lines ∷ trees) (suc n) k line e =
-    ap (λ own. lines ∷ own) (put_is trees n k line (omega arith))
-
--- a line more in a tree, where empty trees were added up to it
-pub put_in : {X : Type 0} (f : X → List Line) (old filled : List X) (n : ℕ) (line : Line)
-    (before after : X) → map f filled ≡ map f old ++ replicate (n + 1 - length old) []
-    → length old ≤ n + 1 → before ≡ get_or filled n before → f after ≡ f before ++ line ∷ []
-    → map f (set filled n after) ≡ put_line (map f old) n line
-put_in {X} f old filled n line before after so_far few read pushed =
-    let k = n + 1 - length old in
-    let none : List Line = [] in
-    let count : length (map f old) + k ≡ n + 1 = omega (arith, length-map old f) in
-    let long : length filled ≡ length (map f old) + k =
-    sym (length-map filled f) ∙ ap length so_far
-    ∙ length-append (map f old) (replicate k none)
-    ∙ ap (λ own. length (map f old) + own) (length-replicate k none) in
-    let there : f before ≡ get_or (map f filled) n none =
-    ap f read ∙ sym (get_or-map f filled n before none (omega arith)) in
-    map-set f filled n after
-    ∙ ap (set (map f filled) n) (pushed ∙ ap (λ own. own ++ line ∷ []) there)
-    ∙ ap (λ trees. set trees n (get_or trees n [] ++ line ∷ [])) so_far
-    ∙ put_is (map f old) n k line count
 
 same_byte : (m n : ℕ) → eqb m n ≡ true → m ≡ n
 same_byte m n e = grind (arith, nat_tests)

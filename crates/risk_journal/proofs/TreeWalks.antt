@@ -59,7 +59,7 @@ lines_lead ended trees n place (line ∷ lines) few at =
     record { follow = ((refl, few, at), later.follow); left = later.left }
 
 -- a line of the first of further trees
-put_line_later : (front trees : List (List Line)) (n : ℕ) (line : Line)
+pub put_line_later : (front trees : List (List Line)) (n : ℕ) (line : Line)
     → put_line (front ++ trees) (length front + n) line ≡ front ++ put_line trees n line
 put_line_later [] trees n line =
     ap (λ tree. put_line trees tree line) (zero-add n)
@@ -74,7 +74,7 @@ put_line_new zero line = refl
 put_line_new (suc k) line = ap (λ own. [] ∷ own) (put_line_new k line)
 
 -- the first line of a tree behind empty ones
-put_first : (trees : List (List Line)) (k : ℕ) (line : Line)
+pub put_first : (trees : List (List Line)) (k : ℕ) (line : Line)
     → put_line trees (length trees + k) line ≡ (trees ++ replicate k []) ++ (line ∷ []) ∷ []
 put_first trees k line =
     ap (λ own. put_line own (length trees + k) line) (sym (append-nil trees))

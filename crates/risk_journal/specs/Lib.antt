@@ -7,5 +7,6 @@ pub mod Reading
 pub mod RowCells
 pub mod RowWith
 pub mod Rows
+pub mod SparseTrees
 pub mod TakenView
 pub mod TotalsText

@@ -6,6 +6,7 @@ use Rattle.risk_journal.specs.JournalGrammar.{rows_text, IsRow}
 use Rattle.risk_journal.specs.Reading.{Taken, none_taken, with_row, with_rows, MayFollow}
 use Rattle.risk_journal.specs.Reading.{MayAllFollow}
 use Rattle.risk_journal.specs.Rows.{FitsRow, text_of_row}
+use Rattle.risk_journal.specs.SparseTrees.{expand_from}
 use Rattle.risk_journal.specs.declared.reading.Reading.{Reading}
 use Rattle.risk_journal.specs.declared.rows.Row.{Row}
 
@@ -14,7 +15,7 @@ abbrev pub taken_of : Reading → Taken
 taken_of reading = record {
   ended = map (λ own. own.items) reading.ended.items;
   begun = reading.begun.items;
-  trees = map (λ own. own.items) reading.trees.items;
+  trees = expand_from 0 reading.trees.items;
 }
 
 -- the row of this text, without its LF, is taken

@@ -12,6 +12,7 @@ mod reading;
 mod row_cells;
 mod row_reading;
 mod rows;
+mod sparse;
 mod totals;
 
 pub use acts::{Act, End};
@@ -19,5 +20,6 @@ pub use id64::Id64;
 pub use journal::{Journal, header_row, write_journal, write_session, write_tree};
 pub use journal_law::{one_reading_stands, written_is_read};
 pub use placed::set_places;
-pub use reading::{JournalFault, read_journal};
+pub use reading::{JournalFault, read_journal, read_sparse_journal};
+pub use sparse::{SparseJournal, TreeLines, expand_journal};
 pub use totals::{SessionTotal, Totals, TreeKind, TreeTotal, write_totals};

@@ -1,13 +1,12 @@
 //! The journal, read row by row.
-ghost use Rattle.std.specs.Prelude.{◌≡◌, ◌≢◌, ◌↔◌, ℕ, ◌+◌, ◌-◌, ◌^◌, ◌≤◌, ◌<◌, ◌++◌, [], length};
+ghost use Rattle.std.specs.Prelude.{◌≡◌, ◌↔◌, ℕ, ◌+◌, ◌-◌, ◌^◌, ◌≤◌, ◌<◌, ◌++◌, [], length};
 ghost use Rattle.std.specs.Prelude.{map};
-ghost use Rattle.std.specs.Prelude.{IsTrue, IfOk, IfErr, OnOk, MatchOption, Err, slice_index_or};
-ghost use Rattle.std.specs.Prelude.{drop};
-ghost use Rattle.std.specs.Prelude.{replicate, List, ◌∷◌, true, false};
-ghost use Rattle.std.specs.List.{All};
+ghost use Rattle.std.specs.Prelude.{IsTrue, IfOk, OnOk, Err};
+ghost use Rattle.std.specs.Prelude.{true, false};
 ghost use Rattle.risk_journal.specs.JournalText.{header_text};
-ghost use Rattle.risk_journal.specs.JournalGrammar.{IsJournal, IsFirstFault, IsRow};
-ghost use Rattle.risk_journal.specs.Reading.{none_taken, with_act, with_row, put_line, MayFollow};
+ghost use Rattle.risk_journal.specs.JournalGrammar.{IsJournal, IsFirstFault};
+ghost use Rattle.risk_journal.specs.Reading.{none_taken, with_act, with_row, MayFollow};
+ghost use Rattle.risk_journal.specs.SparseTrees.{expand_from, AreRising};
 ghost use Rattle.risk_journal.specs.TakenView.{taken_of, TakesRow, IsRefused, Reached};
 ghost use Rattle.risk_journal.specs.declared.reading.JournalFault.TheVariants as fault;
 
@@ -15,9 +14,11 @@ use crate::acts::Act;
 use crate::journal::Journal;
 use crate::row_reading::read_row;
 use crate::rows::Row;
+use crate::sparse::{
+    SparseJournal, TreeLines, expand_journal, has_none, lines_in, take_line, trees_count,
+};
 use fold_law::Memory;
 use memchr::memchr;
-use risk_board::Line;
 use std::alloc::Global;
 use std::mem;
 
@@ -31,23 +32,40 @@ pub enum JournalFault {
 }
 
 /// What was read so far: the sessions that ended, the acts of one that goes on, and the lines of
-/// each tree.
+/// each tree that has some, by ascending number.
 #[derive(Drop)]
 pub(crate) struct Reading {
     pub(crate) ended: Vec<Vec<Act>>,
     pub(crate) begun: Vec<Act>,
-    pub(crate) trees: Vec<Vec<Line>>,
+    pub(crate) trees: Vec<TreeLines>,
 }
 
 /// The first row.
 const HEADER: &[u8] = b"kind,session,a,b,c,d\n";
 
-/// The journal of a text, or its first fault.
+/// The journal of a text, or its first fault. Memory is wanted for each tree up to the last that has
+/// a line.
 pub fn read_journal(alloc: Global, bytes: &[u8]) -> Result<Journal, JournalFault>
     requires { length bytes.now ≤ 2 ^ 32 - 2 }
     ensures read { IfOk result (λ journal. IsJournal bytes.now
         (map (λ own. own.items) journal.acts.items)
         (map (λ own. own.items) journal.lines.items)) }
+    ensures refused { (row : ℕ) → result ≡ Err (fault.Row row) → IsFirstFault bytes.now row }
+{
+    let told = read_sparse_journal(alloc, bytes)?;
+    match expand_journal(alloc, told) {
+        Ok(journal) => Ok(journal),
+        Err(_) => Err(JournalFault::Memory),
+    }
+}
+
+/// The journal of a text with the lines of the trees that have some, or its first fault. Memory is
+/// linear in the text.
+pub fn read_sparse_journal(alloc: Global, bytes: &[u8]) -> Result<SparseJournal, JournalFault>
+    requires { length bytes.now ≤ 2 ^ 32 - 2 }
+    ensures read { IfOk result (λ told. IsJournal bytes.now
+        (map (λ own. own.items) told.acts.items) (expand_from 0 told.trees.items)) }
+    ensures rising { IfOk result (λ told. AreRising 0 told.trees.items) }
     ensures refused { (row : ℕ) → result ≡ Err (fault.Row row) → IsFirstFault bytes.now row }
 {
     let Some(rest) = bytes.strip_prefix(HEADER) else {
@@ -62,9 +80,9 @@ pub fn read_journal(alloc: Global, bytes: &[u8]) -> Result<Journal, JournalFault
     if !has_ended(&reading) {
         return Err(JournalFault::Row(number));
     }
-    Ok(Journal {
+    Ok(SparseJournal {
         acts: reading.ended,
-        lines: reading.trees,
+        trees: reading.trees,
     })
 }
 
@@ -77,6 +95,8 @@ fn has_ended(reading: &Reading) -> bool
 
 /// Takes the row of this text, without its LF, if it may come next.
 fn take_text(alloc: Global, reading: &mut Reading, text: &[u8]) -> Result<bool, Memory>
+    requires { AreRising 0 reading.old.trees.items }
+    ensures rising { (result ≡ Ok true) → AreRising 0 reading.new.trees.items }
     ensures taken { (result ≡ Ok true)
         → TakesRow (taken_of reading.old) text.now (taken_of reading.new) }
     ensures refused { (result ≡ Ok false) → IsRefused (taken_of reading.old) text.now }
@@ -93,11 +113,12 @@ fn take_text(alloc: Global, reading: &mut Reading, text: &[u8]) -> Result<bool, 
 
 /// Whether the row may come next.
 fn may_follow(reading: &Reading, row: &Row) -> bool
+    requires { AreRising 0 reading.now.trees.items }
     ensures { IsTrue result ↔ MayFollow (taken_of reading.now) row.now }
 {
     match *row {
         Row::OfSession { session, act: _ } => {
-            session as usize == reading.ended.len() && reading.trees.is_empty()
+            session as usize == reading.ended.len() && has_none(&reading.trees)
         }
         Row::OfTree {
             tree,
@@ -105,27 +126,18 @@ fn may_follow(reading: &Reading, row: &Row) -> bool
             line: _,
         } => {
             reading.begun.is_empty()
-                && reading.trees.len() <= tree as usize + 1
-                && place as usize == lines_in(&reading.trees, tree as usize) + 1
+                && trees_count(&reading.trees) <= tree as usize + 1
+                && place as usize == lines_in(&reading.trees, tree) + 1
         }
-    }
-}
-
-/// How many lines a tree has.
-fn lines_in(trees: &[Vec<Line>], tree: usize) -> usize
-    ensures lines { result ≡ length (slice_index_or (map (λ own. own.items) trees.now) tree []) }
-    ensures small { result < 2 ^ 63 }
-{
-    match trees.get(tree) {
-        Some(lines) => lines.len(),
-        None => 0,
     }
 }
 
 /// Takes a row that may come next.
 fn take_row(alloc: Global, reading: &mut Reading, row: Row) -> Result<(), Memory>
-    requires { MayFollow (taken_of reading.old) row }
-    ensures { OnOk result (taken_of reading.new ≡ with_row (taken_of reading.old) row) }
+    requires rising { AreRising 0 reading.old.trees.items }
+    requires follows { MayFollow (taken_of reading.old) row }
+    ensures rising { OnOk result (AreRising 0 reading.new.trees.items) }
+    ensures taken { OnOk result (taken_of reading.new ≡ with_row (taken_of reading.old) row) }
 {
     match row {
         Row::OfSession { session: _, act } => take_act(alloc, reading, act),
@@ -133,13 +145,14 @@ fn take_row(alloc: Global, reading: &mut Reading, row: Row) -> Result<(), Memory
             tree,
             place: _,
             line,
-        } => take_line(alloc, &mut reading.trees, tree as usize, line),
+        } => take_line(alloc, &mut reading.trees, tree, line),
     }
 }
 
 /// Takes an act of the session that goes on.
 fn take_act(alloc: Global, reading: &mut Reading, act: Act) -> Result<(), Memory>
-    ensures { OnOk result (taken_of reading.new ≡ with_act (taken_of reading.old) act) }
+    ensures trees { reading.new.trees ≡ reading.old.trees }
+    ensures taken { OnOk result (taken_of reading.new ≡ with_act (taken_of reading.old) act) }
 {
     reading.begun.push(act).map_err(|_| Memory)?;
     match act {
@@ -155,40 +168,12 @@ fn take_act(alloc: Global, reading: &mut Reading, act: Act) -> Result<(), Memory
     }
 }
 
-/// Takes a line of a tree, with empty trees before it where there are none yet.
-fn take_line(
-    alloc: Global,
-    trees: &mut Vec<Vec<Line>>,
-    tree: usize,
-    line: Line,
-) -> Result<(), Memory>
-    requires number { tree < 2 ^ 32 }
-    requires few { length trees.old.items ≤ tree + 1 }
-    ensures { OnOk result (map (λ own. own.items) trees.new.items
-        ≡ put_line (map (λ own. own.items) trees.old.items) tree line) }
-{
-    fill_up(alloc, trees, tree + 1)?;
-    trees[tree].push(line).map_err(|_| Memory)?;
-    Ok(())
-}
-
-/// Adds empty trees up to this count.
-fn fill_up(alloc: Global, trees: &mut Vec<Vec<Line>>, count: usize) -> Result<(), Memory>
-    requires { length trees.old.items ≤ count }
-    ensures { OnOk result (map (λ own. own.items) trees.new.items
-        ≡ map (λ own. own.items) trees.old.items
-        ++ replicate (count - length trees.old.items) []) }
-{
-    for _ in trees.len()..count {
-        trees.push(Vec::new(alloc)).map_err(|_| Memory)?;
-    }
-    Ok(())
-}
-
 /// Takes all rows behind the header: the number of the row behind the last, from 1.
 fn read_rows(alloc: Global, reading: &mut Reading, rest: &[u8]) -> Result<u32, JournalFault>
     requires short { length rest.now + 21 ≤ 2 ^ 32 - 2 }
     requires none { taken_of reading.old ≡ none_taken }
+    requires rising { AreRising 0 reading.old.trees.items }
+    ensures rising { IfOk result (λ number. AreRising 0 reading.new.trees.items) }
     ensures read { IfOk result (λ number.
         Reached (header_text ++ rest.now) [] number (taken_of reading.new)) }
     ensures refused { (row : ℕ) → result ≡ Err (fault.Row row)

@@ -1,58 +1,44 @@
 -- the lines of one tree more
-use Rattle.std.proofs.Common.{◌≡◌, ◌∙◌, [], sym, ap, length, get_or, arith}
-use Rattle.std.proofs.lemmas.Bool.{true≢false}
-use Rattle.journal_check.specs.Trees.{tree_lines}
-use Rattle.journal_check.proofs.Counts.{count_next, count_own}
-use Rattle.journal_check.proofs.FarLines.{far_more, first_far, none_far}
-use Rattle.journal_check.proofs.Kept.{kept, kept_count}
+use Rattle.std.proofs.Common.{◌≡◌, ◌∙◌, ◌<◌, ◌+◌, ◌∷◌, sym, ap, subst, length, drop, arith}
+use Rattle.std.proofs.lemmas.List.{drop_more}
+use Rattle.risk_journal.specs.SparseTrees.{expand_from}
+use Rattle.journal_check.proofs.FarTrees.{ReadTo, read_more, far_found}
+use Rattle.journal_check.proofs.Kept.{kept}
 use Rattle.journal_check.proofs.far_rows.first_far_line.Goals as goal
 
-long : (c : goal.Else-is_far)
-    → length c.lines_in-own.result.now
-    ≡ length (get_or (kept c.args.journal.now.lines.items) c.loop-tree.tree [])
-long c =
-    ap length (c.lines_in-own.ensures
-    ∙ ap (λ l. tree_lines c.loop-tree.tree (kept l)) c.deref-in-loop-tree.ensures.value)
+pub returns-then-index-last-clause-found : goal.returns-then-index-last-clause-found
+returns-then-index-last-clause-found c =
+    let trees = c.args.told.now.trees.items in
+    let acts = kept c.args.told.now.acts.items in
+    let own = c.index.result.now in
+    let later = drop (c.loop-index.index + 1) trees in
+    let ok = c.args.told.now.trees.ok in
+    let rest = drop_more trees c.loop-index.index own
+    (omega (arith, ok, c.loop-index-test.true, c.len-index-end.ensures))
+    ∙ ap (λ first. first ∷ later) (sym c.index.ensures) in
+    far_found c.args.last acts (expand_from 0 trees) own later c.loop-index.row
+    (subst (λ trees_left. ReadTo c.args.last acts (expand_from 0 trees) trees_left c.loop-index.row)
+    rest c.loop-index.invariant) c.if-index-last.true
 
-pub overflow_add-row-in-loop-tree : goal.overflow_add-row-in-loop-tree
-overflow_add-row-in-loop-tree c =
-    omega (
-      arith,
-      c.requires,
-      c.loop-tree.invariant.row,
-      long c,
-      count_own (kept c.args.journal.now.lines.items) c.loop-tree.tree,
-    )
-
-pub loop-tree-preserved : goal.loop-tree-preserved
-loop-tree-preserved c = record {
-  row = omega (
-    arith,
-    c.loop-tree.invariant.row,
-    long c,
-    count_next (kept c.args.journal.now.lines.items) c.loop-tree.tree,
-  );
-  none = far_more c.args.last (kept c.args.journal.now.acts.items)
-      (kept c.args.journal.now.lines.items) c.loop-tree.tree c.loop-tree.invariant.none
-      (λ far.
-      let some = far.1 in
-      true≢false (sym (c.is_far.ensures.1 (far.0, omega (arith, some, long c))) ∙ c.if-is_far.false));
-}
-
-pub returns-then-is_far-clause-found : goal.returns-then-is_far-clause-found
-returns-then-is_far-clause-found c =
-    let far = c.is_far.ensures.0 c.if-is_far.true in
-    let own = ap length (c.lines_in-own.ensures
-    ∙ ap (λ l. tree_lines c.loop-tree.tree (kept l)) c.deref-in-loop-tree.ensures.value) in
-    let some = far.1 in
-    first_far c.args.last (kept c.args.journal.now.acts.items) (kept c.args.journal.now.lines.items)
-    c.loop-tree.tree c.loop-tree.row c.loop-tree.invariant.none far.0 (omega (arith, some, own))
-    c.loop-tree.invariant.row
-
-pub returns-clause-none : goal.returns-clause-none
-returns-clause-none c = λ none.
-    let ok = c.args.journal.now.lines.ok in
-    none_far c.args.last (kept c.args.journal.now.acts.items) (kept c.args.journal.now.lines.items)
-    c.loop-tree.tree
-    (omega (arith, c.loop-tree-test.false, c.len-tree-end.ensures, kept_count c.args.journal.now.lines.items))
-    c.loop-tree.invariant.none
+pub loop-index-preserved : goal.loop-index-preserved
+loop-index-preserved c =
+    let trees = c.args.told.now.trees.items in
+    let acts = kept c.args.told.now.acts.items in
+    let tried = c.index.result.now in
+    let own = c.index-in-loop-index.result.now in
+    let later = drop (c.loop-index.index + 1) trees in
+    let ok = c.args.told.now.trees.ok in
+    let less : c.loop-index.index < length trees =
+    omega (arith, ok, c.loop-index-test.true, c.len-index-end.ensures) in
+    let first = drop_more trees c.loop-index.index tried less
+    ∙ ap (λ one. one ∷ later) (sym c.index.ensures) in
+    let rest = drop_more trees c.loop-index.index own less
+    ∙ ap (λ one. one ∷ later) (sym c.index-in-loop-index.ensures) in
+    let same : tried ≡ own = cc (sym first ∙ rest) in
+    let long = own.lines.ok in
+    read_more c.args.last acts (expand_from 0 trees) own later c.loop-index.row
+    (subst (λ trees_left. ReadTo c.args.last acts (expand_from 0 trees) trees_left c.loop-index.row)
+    rest c.loop-index.invariant)
+    (c.loop-index.row + c.len.result)
+    (omega (arith, c.if-index-last.false, ap (λ one. one.tree) same))
+    (omega (arith, long, c.len.ensures))

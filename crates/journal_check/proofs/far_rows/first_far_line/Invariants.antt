@@ -1,14 +1,10 @@
--- no line so far is of a tree above the last
-use Rattle.std.proofs.Common.{◌≡◌, ◌+◌, map, take}
-use Rattle.journal_check.specs.RowNumbers.{count_all}
-use Rattle.journal_check.proofs.FarLines.{NoneFar}
+-- the trees so far are none above the last
+use Rattle.std.proofs.Common.{map, drop}
+use Rattle.risk_journal.specs.SparseTrees.{expand_from}
+use Rattle.journal_check.proofs.FarTrees.{ReadTo}
 use Rattle.journal_check.proofs.far_rows.first_far_line.Given as goal
 
-abbrev pub invariant-loop-tree : goal.invariant-loop-tree
-invariant-loop-tree l =
-    let acts = map (λ own. own.items) l.journal.acts.items in
-    let lines = map (λ own. own.items) l.journal.lines.items in
-    record {
-      row : l.row ≡ 2 + count_all acts + count_all (take l.tree lines);
-      none : NoneFar l.last acts lines l.tree;
-    }
+abbrev pub invariant-loop-index : goal.invariant-loop-index
+invariant-loop-index l =
+    ReadTo l.last (map (λ own. own.items) l.told.acts.items) (expand_from 0 l.told.trees.items)
+    (drop l.index l.told.trees.items) l.row

@@ -1,5 +1,6 @@
 -- acts stand before lines
 use Rattle.std.proofs.Common.{subst, ℕ}
+use Rattle.risk_journal.specs.SparseTrees.{expand_from}
 use Rattle.journal_check.specs.FarRows.{IsFarAct, IsFarLine, IsFarRow}
 use Rattle.journal_check.specs.Firsts.{IsFirstRow}
 use Rattle.journal_check.proofs.Cases.{if_some_more}
@@ -9,15 +10,15 @@ use Rattle.journal_check.proofs.far_rows.first_far_row.Goals as goal
 
 pub returns-in-Some-clause-found : goal.returns-in-Some-clause-found
 returns-in-Some-clause-found c =
-    act_is_first c.args.last (kept c.args.journal.now.acts.items) (kept c.args.journal.now.lines.items)
+    act_is_first c.args.last (kept c.args.told.now.acts.items) (expand_from 0 c.args.told.now.trees.items)
     c.in-Some.row
     (subst (λ a. IsFirstRow (IsFarAct c.args.last (kept a)) c.in-Some.row) c.deref.ensures.value
     c.in-Some.ensures.found)
 
 pub returns-in-None-clause-found : goal.returns-in-None-clause-found
 returns-in-None-clause-found c =
-    let acts = kept c.args.journal.now.acts.items in
-    let lines = kept c.args.journal.now.lines.items in
+    let acts = kept c.args.told.now.acts.items in
+    let lines = expand_from 0 c.args.told.now.trees.items in
     if_some_more (IsFirstRow (IsFarLine c.args.last acts lines))
     (IsFirstRow (IsFarRow c.args.last acts lines)) c.first_far_line.result
     (λ row. line_is_first c.args.last acts lines row
@@ -27,8 +28,8 @@ returns-in-None-clause-found c =
 
 pub returns-in-None-clause-none : goal.returns-in-None-clause-none
 returns-in-None-clause-none c = λ none.
-    none_at_all_far c.args.last (kept c.args.journal.now.acts.items)
-    (kept c.args.journal.now.lines.items)
+    none_at_all_far c.args.last (kept c.args.told.now.acts.items)
+    (expand_from 0 c.args.told.now.trees.items)
     (subst (λ a. (row : ℕ) → ¬ IsFarAct c.args.last (kept a) row) c.deref.ensures.value
     (c.first_act_row.ensures.none c.in-None.is))
     (c.first_far_line.ensures.none none)

@@ -15,6 +15,7 @@ loop-at-init c =
           (reached_header (header_text ++ rest) rest refl);
       within = omega arith;
       few = omega arith;
+      rising = c.requires.rising;
     }
 
 pub returns-in_default-clause-refused : goal.returns-in_default-clause-refused
@@ -52,4 +53,5 @@ loop-at-preserved c =
         length-drop c.loop-at.at rest,
       );
       few = omega arith;
+      rising = c.in-Ok-true.ensures.rising (ap Ok c.in-Ok-true.field-0-test);
     }

@@ -4,7 +4,7 @@ use Rattle.risk_journal.specs.JournalGrammar.{IsFirstFault}
 use Rattle.risk_journal.specs.TakenView.{taken_of, Reached}
 use Rattle.risk_journal.proofs.Reached.{fault_in_header, fault_at_end, whole_text}
 use Rattle.risk_journal.proofs.ReadingSteps.{header_there, no_header}
-use Rattle.risk_journal.proofs.reading.read_journal.Goals as goal
+use Rattle.risk_journal.proofs.reading.read_sparse_journal.Goals as goal
 
 pub returns-in_default-clause-refused : goal.returns-in_default-clause-refused
 returns-in_default-clause-refused c = λ row e.
