@@ -12,7 +12,7 @@ use Rattle.std.specs.Io.KnownBytes.{Appends}
 use Rattle.gate_ports.specs.Bytes.{AppendsFront}
 use Rattle.gate_ports.specs.Names.{Texts}
 use Rattle.gate_files.specs.Joined.{joined}
-use Rattle.gate_files.specs.Words.{RunWords, IsApart, venue_name, journal_name}
+use Rattle.gate_files.specs.Words.{FolderWords, RunWords, IsApart, venue_name, journal_name}
 use Rattle.gate_files.specs.Words.{is_among, output_names}
 use Rattle.gate_files.specs.Ports.{PortsValue}
 use Rattle.gate_files.specs.Early.{KeepsOrFronts, MayEmpty, AreEmptied, LeavesEmpty}
@@ -20,7 +20,7 @@ use Rattle.gate_files.specs.Objects.{ObjectsValue, AreFresh, ChangesOutputs, Has
 use Rattle.gate_files.specs.Objects.{EachHolds}
 use Rattle.gate_files.proofs.Lists.{there_is}
 use Rattle.gate_files.proofs.OutputNames.{apart_from_all, venues_apart, venue_isnt_client}
-use Rattle.gate_files.proofs.OutputNames.{bytes_eq-cancel}
+use Rattle.gate_files.proofs.OutputNames.{journal_isnt_client, journal_isnt_venue}
 
 -- the sink was empty and got these bytes: it holds them
 pub holds_appended : (held held_after : Option (List ℕ)) (text own : List ℕ) → held ≡ Some []
@@ -74,11 +74,14 @@ on_err_always (Ok value) p = tt
 on_err_always (Err fault) p = p
 
 -- the journal's name is none of the sessions' outputs
-journal_apart : (out : List ℕ) (count : ℕ) → IsApart out count (journal_name out)
-journal_apart out count session below = (bytes_eq-cancel out _ _, bytes_eq-cancel out _ _)
+journal_apart : (out : FolderWords) (count : ℕ) → IsApart out count (journal_name out)
+journal_apart out count session below = (
+  journal_isnt_venue out session,
+  journal_isnt_client out session,
+)
 
 -- where the sessions' outputs alone changed before, the journal's text is as it was, or a front
-pub front_behind : (out : List ℕ) (count : ℕ) (before now after : Option Texts) (bytes : List ℕ)
+pub front_behind : (out : FolderWords) (count : ℕ) (before now after : Option Texts) (bytes : List ℕ)
     → ChangesOutputs out count before now → KeepsOrFronts now after (journal_name out) bytes
     → KeepsOrFronts before after (journal_name out) bytes
 front_behind out count None now after bytes changes front = tt
@@ -93,7 +96,7 @@ front_behind out count (Some old) (Some texts) (Some new) bytes (mid, there, sam
     ]
 
 -- a session's first output is none of those before it
-venue_apart : (out : List ℕ) (session : ℕ) → IsApart out session (venue_name out session)
+venue_apart : (out : FolderWords) (session : ℕ) → IsApart out session (venue_name out session)
 venue_apart out session earlier below = (
   venues_apart out session earlier (λ is. absurd (omega arith)),
   venue_isnt_client out session earlier,

@@ -9,7 +9,7 @@ use Rattle.std.specs.Str.{bytes_eq}
 use Rattle.gate_ports.specs.Names.{Texts, IsThere, IsOpened, IsEmptySink}
 use Rattle.gate_files.specs.declared.status.Status.{Status}
 use Rattle.gate_files.specs.declared.status.Status.TheVariants as status
-use Rattle.gate_files.specs.Words.{RunWords, IsApart, venue_name, client_name}
+use Rattle.gate_files.specs.Words.{FolderWords, RunWords, IsApart, venue_name, client_name}
 use Rattle.gate_files.specs.Ports.{PortsValue, session_name}
 use Rattle.gate_files.specs.Stages.{Went, IsOwn, AreClosed, IsUnopened, IsNewSource, IsNewSink}
 use Rattle.gate_files.specs.Stages.{with_two}
@@ -70,7 +70,7 @@ first_text b c x y z is not_c =
     ap (λ (t : Bool). cond t x (cond b y z)) not_c ∙ ap (λ (t : Bool). cond t y z) is
 
 -- apart from one session more is apart from those before, and from the last
-fewer_apart : (out name : List ℕ) (made : List ObjectsValue) (own : ObjectsValue)
+fewer_apart : (out : FolderWords) (name : List ℕ) (made : List ObjectsValue) (own : ObjectsValue)
     → IsApart out (length (made ++ own ∷ [])) name
     → IsApart out (length made) name
     × ((bytes_eq name (venue_name out (length made)) ≡ false)
@@ -227,7 +227,7 @@ one_opened run before now after made own apart opened opens = record {
     };
   }
 
-pub changes_nothing : (out : List ℕ) (told : Option Texts) → ChangesOutputs out 0 told told
+pub changes_nothing : (out : FolderWords) (told : Option Texts) → ChangesOutputs out 0 told told
 changes_nothing out None = refl
 changes_nothing out (Some old) = (old, refl, λ name apart. refl)
 

@@ -10,7 +10,7 @@ use Rattle.gate_files.specs.declared.names.Outputs.{Outputs}
 use Rattle.gate_files.specs.declared.words.Run.{Run}
 use Rattle.gate_files.specs.CommandOf.{run_value}
 use Rattle.gate_files.specs.Names.{AreNamesOf, AreNames}
-use Rattle.gate_files.specs.Words.{RunWords, IsApart, is_run, is_among, output_names}
+use Rattle.gate_files.specs.Words.{FolderWords, RunWords, IsApart, is_run, is_among, output_names}
 use Rattle.gate_files.specs.Ports.{PortsValue, session_name}
 use Rattle.gate_files.specs.Stages.{Went}
 use Rattle.gate_files.specs.declared.open.Opened.{Opened}
@@ -31,7 +31,7 @@ name_at run session name text below is text_is =
     (slice_get_read run.sessions.now _ session name refl below is)
 
 -- the names of its outputs
-pub outputs_at : (out : List ℕ) (count session : ℕ) (names : List Outputs) (own : Outputs)
+pub outputs_at : (out : FolderWords) (count session : ℕ) (names : List Outputs) (own : Outputs)
     → AreNames out count names → session < count → own ≡ get_or names session own
     → AreNamesOf out session own
 outputs_at out count session names own are below is =

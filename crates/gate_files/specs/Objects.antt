@@ -4,7 +4,7 @@ use Rattle.std.specs.Prelude.{MatchOption, IsSome}
 use Rattle.std.specs.Prelude.{slice_get}
 use Rattle.gate_ports.specs.Names.{Texts, IsOpened, IsEmptySink}
 use Rattle.gate_files.specs.declared.open.Opened.{Opened}
-use Rattle.gate_files.specs.Words.{RunWords, venue_name, client_name}
+use Rattle.gate_files.specs.Words.{FolderWords, RunWords, venue_name, client_name}
 use Rattle.gate_files.specs.Words.{IsApart}
 use Rattle.gate_files.specs.Ports.{PortsValue, ReadRose, WriteRose, session_name}
 use Rattle.gate_files.specs.Stages.{Went, IsOwn}
@@ -67,7 +67,7 @@ pub record AreNew (run : RunWords) (told : Option Texts) (session : ℕ) (own : 
   pub fresh : AreFresh told own
 
 -- each name but the outputs of the first sessions has its text, where the folder tells it
-abbrev pub ChangesOutputs : List ℕ → ℕ → Option Texts → Option Texts → Type 0
+abbrev pub ChangesOutputs : FolderWords → ℕ → Option Texts → Option Texts → Type 0
 ChangesOutputs out count before after =
     MatchOption before (after ≡ None)
     (λ old. (new : Texts) × (after ≡ Some new)

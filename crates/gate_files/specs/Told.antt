@@ -34,7 +34,8 @@ Tells before after text standing status =
 abbrev pub usage_text : List ℕ
 usage_text =
     codes "usage: gate run LIMITS OUT SESSION... | gate make NUMBER SESSIONS ORDERS"
-    ++ codes " | gate check LIMITS JOURNAL SESSION..." ++ 10 ∷ []
+    ++ codes " | gate check LIMITS JOURNAL SESSION..."
+    ++ codes " | gate cross LIMITS OUT SESSION..." ++ 10 ∷ []
 
 abbrev pub read_fault_text : List ℕ
 read_fault_text = codes "read fault" ++ 10 ∷ []

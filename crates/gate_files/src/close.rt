@@ -1,6 +1,6 @@
 //! What is given back and closed after the sessions of a run.
 ghost use Rattle.std.specs.Prelude.{◌≡◌, ◌≢◌, ◌≤◌, length, map, string_bytes};
-ghost use Rattle.gate_files.specs.CommandOf.{run_value};
+ghost use Rattle.gate_files.specs.CommandOf.{folder_value, run_value};
 ghost use Rattle.gate_files.specs.Names.{AreNames};
 ghost use Rattle.gate_files.specs.Objects.{objects_of, EachOwn, HasClosed};
 ghost use Rattle.gate_files.specs.Ports.{ReadRose, WriteRose};
@@ -60,7 +60,7 @@ pub fn close_sessions<D: Folder, I: Inputs<D>>(
 )
     requires few { length opened.items ≤ length run.now.sessions.now }
     requires most { length run.now.sessions.now ≤ session_most }
-    requires names { AreNames run.now.out.now (length run.now.sessions.now) names.now }
+    requires names { AreNames (folder_value run.now.out) (length run.now.sessions.now) names.now }
     requires own { EachOwn (run_value run.now) (D.texts folder.old)
         (map (objects_of I.In.left I.In.name I.In.faults D.Out.held D.Out.name D.Out.faults)
         opened.items) }

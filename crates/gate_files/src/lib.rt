@@ -21,7 +21,7 @@ mod writing;
 pub use close::{close_session, close_sessions};
 pub use inputs::{Inputs, Named, Sure};
 pub use limits::limits_from;
-pub use names::{Names, Outputs, names_in};
+pub use names::{Names, OutputFiles, OutputFolder, Outputs, names_in};
 pub use open::{
     Opened, Sinks, create_outputs, fetch_name, open_session, open_sessions, read_limits,
 };

@@ -8,7 +8,7 @@ ghost use Rattle.gate_files.specs.Stops.{HasLimits};
 ghost use Rattle.gate_files.specs.Stages.{IsUnread, IsUnmade, IsUnopened, IsNewSource, IsNewSink};
 ghost use Rattle.gate_files.specs.Stages.{with_two, HasUnopened};
 ghost use Rattle.gate_files.specs.Words.{is_run};
-ghost use Rattle.gate_files.specs.CommandOf.{run_value};
+ghost use Rattle.gate_files.specs.CommandOf.{folder_value, run_value};
 ghost use Rattle.gate_files.specs.Names.{AreNames};
 ghost use Rattle.gate_files.specs.Objects.{objects_of, HasOpened};
 
@@ -175,7 +175,7 @@ pub fn open_sessions<D: Folder>(
     folder: &mut D,
 ) -> Result<Vec<Opened<D::In, D::Out>>, Status>
     requires run { IsTrue (is_run (run_value run.now)) }
-    requires names { AreNames run.now.out.now (length run.now.sessions.now) names.now }
+    requires names { AreNames (folder_value run.now.out) (length run.now.sessions.now) names.now }
     ensures ok { IfOk result (λ all. HasOpened (run_value run.now)
         (folder_of D.texts D.read_faults D.write_faults folder.old)
         (folder_of D.texts D.read_faults D.write_faults folder.new)

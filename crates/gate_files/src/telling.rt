@@ -33,7 +33,7 @@ pub fn tell<O: Sink>(alloc: Global, out: &mut O, standing: Status) -> u8
         Status::Usage => tell_text(
             out,
             b"usage: gate run LIMITS OUT SESSION... | gate make NUMBER SESSIONS ORDERS \
-              | gate check LIMITS JOURNAL SESSION...\n",
+              | gate check LIMITS JOURNAL SESSION... | gate cross LIMITS OUT SESSION...\n",
             standing,
         ),
         Status::Limits(fault) => tell_fault(alloc, out, fault),

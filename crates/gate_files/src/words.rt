@@ -5,22 +5,23 @@ ghost use Rattle.std.specs.List.{list_all, list_any};
 ghost use Rattle.std.specs.Option.{option_map};
 ghost use Rattle.std.specs.Str.{bytes_eq};
 ghost use Rattle.gate_files.specs.Words.{command_of, is_word, is_run, is_among, load_of, number_in};
-ghost use Rattle.gate_files.specs.Words.{run_of, check_of, is_check};
-ghost use Rattle.gate_files.specs.Words.{output_names, are_distinct, session_most};
+ghost use Rattle.gate_files.specs.Words.{run_of, run_words, check_of, cross_of, is_check};
+ghost use Rattle.gate_files.specs.Words.{output_names, are_distinct, session_mark, session_most};
 ghost use Rattle.gate_files.specs.CommandOf.{command_value, run_value, check_value, IsForm};
-ghost use Rattle.gate_files.specs.CommandOf.{file_names, files_of};
+ghost use Rattle.gate_files.specs.CommandOf.{endings_of, file_names, files_of, folder_value};
 
+use crate::names::{OutputFiles, OutputFolder};
 use fold_law::SESSIONS;
 use itoa::Buffer;
 use make_load::{Asked, ORDERS_MOST};
 
-/// The words of a run.
+/// The words of a run, or of a filter.
 #[derive(Clone, Copy, Debug)]
 pub struct Run<'a> {
     /// The name of the limit file.
     pub limits: &'a str,
     /// The folder of the outputs.
-    pub out: &'a str,
+    pub out: OutputFolder<'a>,
     /// The names of the sessions' inputs.
     pub sessions: &'a [String],
 }
@@ -45,6 +46,8 @@ pub enum Command<'a> {
     Make(Asked),
     /// A check of a journal against the files of its sessions.
     Check(Check<'a>),
+    /// A filter of files against crossing orders.
+    Cross(Run<'a>),
 }
 
 /// The command that the words ask for. None where they are no form.
@@ -61,6 +64,8 @@ pub fn command_from<'a>(words: &'a [String]) -> Option<Command<'a>>
         load_from(first.as_str(), second.as_str(), others)
     } else if command.as_str() == "check" {
         check_from(first.as_str(), second.as_str(), others)
+    } else if command.as_str() == "cross" {
+        cross_from(first.as_str(), second.as_str(), others)
     } else {
         None
     }
@@ -72,15 +77,42 @@ fn run_from<'a>(limits: &'a str, out: &'a str, sessions: &'a [String]) -> Option
         ≡ run_of limits.now out.now (map string_bytes sessions.now) }
     ensures form { IfSome result IsForm }
 {
-    let run = Run {
-        limits,
-        out,
-        sessions,
-    };
+    let run = run_with(OutputFiles::Run, limits, out, sessions);
     if is_run(&run) {
         Some(Command::Run(run))
     } else {
         None
+    }
+}
+
+/// The filter that the words after `cross` ask for.
+fn cross_from<'a>(limits: &'a str, out: &'a str, sessions: &'a [String]) -> Option<Command<'a>>
+    ensures command { option_map command_value result
+        ≡ cross_of limits.now out.now (map string_bytes sessions.now) }
+    ensures form { IfSome result IsForm }
+{
+    let run = run_with(OutputFiles::Cross, limits, out, sessions);
+    if is_run(&run) {
+        Some(Command::Cross(run))
+    } else {
+        None
+    }
+}
+
+/// The words of a run that writes these files.
+fn run_with<'a>(
+    files: OutputFiles,
+    limits: &'a str,
+    out: &'a str,
+    sessions: &'a [String],
+) -> Run<'a>
+    ensures { run_value result
+        ≡ run_words files limits.now out.now (map string_bytes sessions.now) }
+{
+    Run {
+        limits,
+        out: OutputFolder { name: out, files },
+        sessions,
     }
 }
 
@@ -165,7 +197,7 @@ fn is_run(run: &Run) -> bool
     ensures { result ≡ is_run (run_value run.now) }
 {
     let count = run.sessions.len();
-    if !has_words(run.limits, run.out, run.sessions) {
+    if !has_words(run.limits, run.out.name, run.sessions) {
         return false;
     }
     if count < 1 || count > SESSIONS as usize {
@@ -254,10 +286,10 @@ fn are_distinct(names: &[String]) -> bool
 }
 
 /// Whether a run of so many sessions with these outputs writes one of the names.
-fn has_output(out: &str, count: usize, names: &[String]) -> bool
+fn has_output(out: OutputFolder, count: usize, names: &[String]) -> bool
     requires { count ≤ session_most }
     ensures { result ≡ list_any (λ name. is_among (string_bytes name)
-        (output_names out.now count)) names.now }
+        (output_names (folder_value out.entry) count)) names.now }
 {
     for name in names {
         if is_output(out, count, name.as_str()) {
@@ -268,41 +300,57 @@ fn has_output(out: &str, count: usize, names: &[String]) -> bool
 }
 
 /// Whether a run of so many sessions with these outputs writes the name.
-fn is_output(out: &str, count: usize, name: &str) -> bool
+fn is_output(out: OutputFolder, count: usize, name: &str) -> bool
     requires { count ≤ session_most }
-    ensures { result ≡ is_among name.now (output_names out.now count) }
+    ensures { result ≡ is_among name.now (output_names (folder_value out.entry) count) }
 {
-    match name_within(out, name) {
+    match name_within(out.name, name) {
         None => false,
-        Some(rest) => is_file(count, rest),
+        Some(rest) => is_file(out.files, count, rest),
     }
 }
 
-/// Whether a run of so many sessions writes this name in its folder of outputs.
-fn is_file(count: usize, rest: &[u8]) -> bool
+/// Whether a run of so many sessions that writes these files writes this name in its folder.
+fn is_file(files: OutputFiles, count: usize, rest: &[u8]) -> bool
     requires { count ≤ session_most }
-    ensures { result ≡ is_among rest.now (file_names count) }
+    ensures { result ≡ is_among rest.now (file_names files count) }
 {
     for session in 0..count {
-        if is_file_of(session, rest) {
+        if is_file_of(files, session, rest) {
             return true;
         }
     }
-    rest == b"/journal.csv".as_slice()
+    rest == files.journal_file().as_bytes()
 }
 
 /// Whether this is the name of one of a session's outputs in the folder of outputs.
-fn is_file_of(session: usize, rest: &[u8]) -> bool
+fn is_file_of(files: OutputFiles, session: usize, rest: &[u8]) -> bool
     requires { session < 100 }
-    ensures { result ≡ is_among rest.now (files_of session) }
+    ensures { result ≡ is_among rest.now (files_of files session) }
+{
+    match ending_of(session, rest) {
+        None => false,
+        Some(ending) => is_ending(files, ending),
+    }
+}
+
+/// Whether the name of one of a session's outputs ends so.
+fn is_ending(files: OutputFiles, ending: &[u8]) -> bool
+    ensures { result ≡ is_among ending.now (endings_of files) }
+{
+    ending == files.venue_ending().as_bytes() || ending == b".client".as_slice()
+}
+
+/// What of the name comes after the session's number.
+fn ending_of(session: usize, rest: &[u8]) -> Option<&[u8]>
+    requires { session < 100 }
+    ensures { MatchOption result ((ending : List ℕ) → rest.now ≢ session_mark session ++ ending)
+        (λ ending. rest.now ≡ session_mark session ++ ending.now) }
 {
     let tens = b'0' + (session / 10) as u8;
     let units = b'0' + (session % 10) as u8;
-    let venue = [b'/', b's', tens, units, b'.', b'v', b'e', b'n', b'u', b'e'];
-    let client = [
-        b'/', b's', tens, units, b'.', b'c', b'l', b'i', b'e', b'n', b't',
-    ];
-    rest == venue.as_slice() || rest == client.as_slice()
+    let mark = [b'/', b's', tens, units];
+    rest.strip_prefix(mark.as_slice())
 }
 
 /// What of the name comes after the folder.

@@ -11,6 +11,7 @@ pub mod Ran
 pub mod Ways
 pub mod WholeInputs
 pub mod UnfailingChecks
+pub mod Filtered
 pub mod Made
 pub mod Agreed
 pub mod TreesTold

@@ -30,7 +30,7 @@ use Rattle.gate_program.specs.declared.told.Told.TheVariants as told
 use Rattle.gate_program.specs.Run.{set_of}
 use Rattle.gate_files.specs.Stages.{GivesNoLimits, HasUnmade}
 use Rattle.gate_files.specs.Statuses.{number_of, told_text}
-use Rattle.gate_files.specs.Words.{RunWords, session_most, venue_name}
+use Rattle.gate_files.specs.Words.{FolderWords, RunWords, session_most, venue_name}
 use Rattle.gate_files.proofs.Early.{others_left}
 use Rattle.gate_files.proofs.Lists.{map_at, mapped_at}
 use Rattle.gate_program.proofs.Histories.{AdmissionLaws}
@@ -38,7 +38,7 @@ use Rattle.gate_program.proofs.Made.{FilesLaw, load_went}
 use Rattle.gate_program.proofs.Ran.{silent, shown}
 
 -- the names of outputs to venues, from one on
-venues_from : (out : List ℕ) (start : ℕ) (outputs : List Outputs)
+venues_from : (out : FolderWords) (start : ℕ) (outputs : List Outputs)
     → ((place : ℕ) (own : Outputs) → slice_get outputs place ≡ Some own
     → string_bytes own.venue ≡ venue_name out (start + place))
     → map (λ (o : Outputs). string_bytes o.venue) outputs
@@ -53,7 +53,7 @@ venues_from out start (own ∷ outputs) each =
     ∙ ap (venue_name out) (omega arith)))
 
 -- the names that a load's inputs go by
-pub venues_are : (out : List ℕ) (count : ℕ) (outputs : List Outputs) (names : List (String Global))
+pub venues_are : (out : FolderWords) (count : ℕ) (outputs : List Outputs) (names : List (String Global))
     → AreNames out count outputs
     → map string_bytes names ≡ map (λ (o : Outputs). string_bytes o.venue) outputs
     → map string_bytes names ≡ map (venue_name out) (range_with_len 0 count)
@@ -64,7 +64,7 @@ venues_are out count outputs names are named =
     ∙ ap (λ (n : ℕ). map (venue_name out) (range_with_len 0 n)) are.many
 
 -- there are as many of them
-pub names_many : (out : List ℕ) (count : ℕ) (outputs : List Outputs) (names : List (String Global))
+pub names_many : (out : FolderWords) (count : ℕ) (outputs : List Outputs) (names : List (String Global))
     → AreNames out count outputs
     → map string_bytes names ≡ map (λ (o : Outputs). string_bytes o.venue) outputs
     → length names ≡ count
@@ -73,7 +73,7 @@ names_many out count outputs names are named =
     ∙ length-map outputs (λ (o : Outputs). string_bytes o.venue) ∙ are.many
 
 -- the same of the names as they are handed on
-module _ (out : List ℕ) (count : ℕ) (outputs first : List Outputs)
+module _ (out : FolderWords) (count : ℕ) (outputs first : List Outputs)
     (names second : List (String Global)) (are : AreNames out count outputs)
     (first_is : first ≡ outputs) (second_is : second ≡ names)
     (named : map string_bytes names ≡ map (λ (o : Outputs). string_bytes o.venue) first) where
@@ -226,9 +226,9 @@ pub run_is : (run : RunWords) (asked : Asked) → run.limits ≡ [] → run.out 
     → run ≡ load_run asked
 run_is run asked limits out sessions =
     ap (λ (l : List ℕ). as_run l run.out run.sessions) limits
-    ∙ ap (λ (o : List ℕ). as_run [] o run.sessions) out
+    ∙ ap (λ (o : FolderWords). as_run [] o run.sessions) out
     ∙ ap (λ (names : List (List ℕ)). as_run [] load_folder names) sessions where
-      as_run : List ℕ → List ℕ → List (List ℕ) → RunWords
+      as_run : List ℕ → FolderWords → List (List ℕ) → RunWords
       as_run l o names = record { limits = l; out = o; sessions = names }
 
 -- what is left of each input is the session's file

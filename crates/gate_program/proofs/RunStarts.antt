@@ -35,13 +35,13 @@ module _ (run : RunWords) (holds : IsTrue (is_run run)) where
   -- a run has a session
   pub some_session : 1 ≤ count
   some_session = le_of_test 1 count
-      (second_holds (list_all is_word (run.limits ∷ run.out ∷ run.sessions)) (nat_le 1 count)
+      (second_holds (list_all is_word (run.limits ∷ run.out.name ∷ run.sessions)) (nat_le 1 count)
       (nat_le count session_most) (are_distinct run.sessions) (not takes_output) holds)
 
   -- and no more than the most
   pub few_sessions : count ≤ session_most
   few_sessions = le_of_test count session_most
-      (third_holds (list_all is_word (run.limits ∷ run.out ∷ run.sessions)) (nat_le 1 count)
+      (third_holds (list_all is_word (run.limits ∷ run.out.name ∷ run.sessions)) (nat_le 1 count)
       (nat_le count session_most) (are_distinct run.sessions) (not takes_output) holds)
 
 -- each task has the set of screens of its session

@@ -198,9 +198,8 @@ unopened run limits sets t0 r0 w0 t1 r1 w1 (status.Limits why) limits_are (sessi
 unopened run limits sets t0 r0 w0 t1 r1 w1 status.CutShort limits_are (session, below, fault, left) =
     absurd
     fault
-unopened run limits sets t0 r0 w0 t1 r1 w1 status.Unlawful limits_are (session, below, fault, left) =
-    absurd
-    fault
+unopened run limits sets t0 r0 w0 t1 r1 w1 status.Unlawful limits_are unopened_at =
+    absurd unopened_at.2
 
 -- the limits that count for so many sessions, by equal counts
 pub counted_as : (told : Option Texts) (name : List ℕ) (count sessions : ℕ) (limits : Limits)

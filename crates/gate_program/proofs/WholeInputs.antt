@@ -106,18 +106,18 @@ whole_ends bytes others next end whole split ends =
     (isnt_longer input_most (length bytes) whole.few) ends)
 
 -- what holds of what is told
-if_told : {A : Type 0} (P : A → Type 0) (told : Option A) → IsSome told → IfSome told P
+pub if_told : {A : Type 0} (P : A → Type 0) (told : Option A) → IsSome told → IfSome told P
     → (x : A) × P x
 if_told P None is holds = absurd cc
 if_told P (Some x) is holds = (x, holds)
 
 -- what holds of what is told holds of this
-if_this : {A : Type 0} (P : A → Type 0) (told : Option A) (x : A) → told ≡ Some x → IfSome told P
+pub if_this : {A : Type 0} (P : A → Type 0) (told : Option A) (x : A) → told ≡ Some x → IfSome told P
     → P x
 if_this P told x is holds = subst (λ (t : Option _). IfSome t P) is holds
 
 -- no output of a session had a fault
-no_output_rose : (before after : PortsValue) (run : RunWords) → HasNoFault before after
+pub no_output_rose : (before after : PortsValue) (run : RunWords) → HasNoFault before after
     → (session : ℕ) → OutputRose before after run session → ⊥
 no_output_rose before after run no_fault session (inl venue) = no_fault.written _ venue
 no_output_rose before after run no_fault session (inr client) = no_fault.written _ client
@@ -154,7 +154,7 @@ module _ (before after : PortsValue) (run : RunWords) (texts : Texts)
       follows_whole limits screens session bytes own (ending.TooLong place) input holds
 
   -- the bytes at a session's place are those of its name, and whole
-  input_is_whole : (inputs : List (List ℕ)) (session : ℕ) (bytes : List ℕ)
+  pub input_is_whole : (inputs : List (List ℕ)) (session : ℕ) (bytes : List ℕ)
       → AreInputs before.texts run.sessions inputs → slice_get inputs session ≡ Some bytes
       → IsWholeInput bytes
   input_is_whole inputs session bytes are is =
@@ -181,7 +181,7 @@ none_of_whole p (end ∷ ends) isnt each =
     rw first (none_of_whole p ends isnt (λ place other is. each (suc place) other is))
 
 -- what is so of none of the ends isn't so of any
-isnt_any : (p : End → Bool) (ends : List End) (place : ℕ) (end : End) → list_any p ends ≡ false
+pub isnt_any : (p : End → Bool) (ends : List End) (place : ℕ) (end : End) → list_any p ends ≡ false
     → slice_get ends place ≡ Some end → p end ≡ false
 isnt_any p [] place end none is = absurd cc
 isnt_any p (first ∷ ends) zero end none is =
@@ -191,7 +191,7 @@ isnt_any p (first ∷ ends) (suc place) end none is =
     isnt_any p ends place end (or_parts (p first) (list_any p ends) none).1 is
 
 -- ends that are all whole, with a journal, stand at 0
-stands_done : (ends : List End)
+pub stands_done : (ends : List End)
     → ((place : ℕ) (end : End) → slice_get ends place ≡ Some end → end ≡ ending.Whole)
     → standing_of ends false ≡ 0
 stands_done ends each =

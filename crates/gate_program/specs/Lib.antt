@@ -12,4 +12,5 @@ pub mod Finish
 pub mod Room
 pub mod WholeInputs
 pub mod UnfailingChecks
+pub mod Filters
 pub mod Pieces

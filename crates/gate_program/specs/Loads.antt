@@ -22,11 +22,12 @@ use Rattle.gate_program.specs.Run.{EndHolds, IsHistory}
 use Rattle.gate_files.specs.Standing.{is_cut_short}
 use Rattle.gate_files.specs.Standing.{is_memory, is_read_fault, standing_of}
 use Rattle.gate_program.specs.Telling.{told_of}
-use Rattle.gate_files.specs.Words.{RunWords, venue_name}
+use Rattle.gate_files.specs.declared.names.OutputFiles.TheVariants as files
+use Rattle.gate_files.specs.Words.{FolderWords, RunWords, venue_name}
 
 -- the folder of a load's outputs
-abbrev pub load_folder : List ℕ
-load_folder = codes "load"
+abbrev pub load_folder : FolderWords
+load_folder = record { name = codes "load"; files = files.Run }
 
 -- A load as a run: no file is read, and since its inputs have no names each session goes by that of its
 -- output to the venue.

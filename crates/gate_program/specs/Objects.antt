@@ -12,7 +12,7 @@ use Rattle.risk_journal.specs.declared.acts.End.TheVariants as ending
 use Rattle.screen_kit.specs.Screens.{ScreenValue}
 use Rattle.session_engine.specs.Follows.{Follows, EndsAs}
 use Rattle.session_engine.specs.Session.{armed_for}
-use Rattle.gate_files.specs.Words.{RunWords, venue_name, client_name, output_names, is_among}
+use Rattle.gate_files.specs.Words.{RunWords, output_names, is_among}
 use Rattle.gate_program.specs.Run.{set_of}
 use Rattle.gate_files.specs.Objects.{ObjectsValue, EachHolds}
 

@@ -1,5 +1,5 @@
-//! Checks of a journal by the gate, over a folder in memory: statuses and what is told. No clause says
-//! that memory isn't wanting, nor what a table's row gives.
+//! Checks of a journal by the gate, over a folder in memory: statuses and what is told. No clause
+//! says that memory isn't wanting, nor what a table's row gives.
 use crate::command::gate;
 use crate::rows::{BUY, Piece, SMALL, USAGE, bytes_of, no_screens, words_of};
 use gate_ports::{Fail as Failing, Folder, MemFolder, MemSink, OpenGate};
@@ -69,8 +69,8 @@ line,0,0,1,1,1000\n\
 line,0,1,1,1,1000\n\
 line,0,2,1,1,1000\n";
 
-/// A check: its words, limit file and journal, the calls that fail, each with its number from 0, the
-/// status and what is told. The folder has a session of one order, and an empty one.
+/// A check: its words, limit file and journal, the calls that fail, each with its number from 0,
+/// the status and what is told. The folder has a session of one order, and an empty one.
 #[derive(Clone, Copy)]
 struct Case {
     name: &'static str,

@@ -3,7 +3,8 @@ ghost use Rattle.std.specs.Prelude.{◌≡◌, ◌⊎◌, ◌^◌, ◌<◌, ◌�
 ghost use Rattle.std.specs.Prelude.{string_bytes, vec_capacity};
 ghost use Rattle.std.specs.List.{AllByRecursion};
 ghost use Rattle.check_command.specs.Gate.{CheckWent};
-ghost use Rattle.gate_files.specs.CommandOf.{run_value, check_value, IsAsked};
+ghost use Rattle.cross_command.specs.Crossed.{CrossWent};
+ghost use Rattle.gate_files.specs.CommandOf.{folder_value, run_value, check_value, IsAsked};
 ghost use Rattle.gate_program.specs.Commands.{GateRun};
 ghost use Rattle.gate_program.specs.Loads.{LoadWent};
 ghost use Rattle.gate_program.specs.Finish.{HasEnded, HasKept};
@@ -27,10 +28,11 @@ use crate::replay::journal_after;
 use crate::tasks::tasks_of;
 use crate::told::Told;
 use check_command::check_words;
+use cross_command::cross_words;
 use fold_law::Memory;
 use gate_files::{
-    Answer, Check, Command, Inputs, Named, Names, Opened, Run, Status, close_sessions,
-    command_from, names_in, open_sessions, read_limits, tell, tell_answer,
+    Answer, Check, Command, Inputs, Named, Names, Opened, OutputFolder, Run, Status,
+    close_sessions, command_from, names_in, open_sessions, read_limits, tell, tell_answer,
 };
 use gate_ports::{Folder, Gate, Sink};
 use limit_table::Limits;
@@ -50,13 +52,13 @@ pub(crate) struct Ready<S, K> {
 /// Takes the memory for so many sessions.
 pub(crate) fn ready_for<S: Drop, K: Drop>(
     alloc: Global,
-    out: &str,
+    out: OutputFolder,
     count: usize,
 ) -> Result<Ready<S, K>, Memory>
     requires { count ≤ session_most }
-    ensures names { IfOk result (λ ready. AreNames out.now count ready.names.sessions.items) }
+    ensures names { IfOk result (λ ready. AreNames (folder_value out.entry) count ready.names.sessions.items) }
     ensures journal { IfOk result (λ ready.
-        string_bytes ready.names.journal ≡ journal_name out.now) }
+        string_bytes ready.names.journal ≡ journal_name (folder_value out.entry)) }
     ensures no_task { IfOk result (λ ready. ready.room.tasks.items ≡ []) }
     ensures task_room { IfOk result (λ ready. count ≤ vec_capacity ready.room.tasks) }
     ensures empty { IfOk result (λ ready. HasNone ready.room.ended) }
@@ -80,9 +82,9 @@ fn finish_run<R: Threads + Sync, D: Folder, I: Inputs<D>>(
     folder: &mut D,
 ) -> Answer
     requires most { length run.now.sessions.now ≤ session_most }
-    requires names { AreNames run.now.out.now (length run.now.sessions.now)
+    requires names { AreNames (folder_value run.now.out) (length run.now.sessions.now)
         names.now.sessions.items }
-    requires journal { string_bytes names.now.journal ≡ journal_name run.now.out.now }
+    requires journal { string_bytes names.now.journal ≡ journal_name (folder_value run.now.out) }
     requires ran { HaveRun limits.now forests ended.passes (map (λ own. own.items) ended.acts.items) }
     requires few { AllByRecursion (λ own. length own < 2 ^ 32)
         (map (λ own. own.items) ended.acts.items) }
@@ -139,9 +141,9 @@ pub(crate) fn run_opened<R: Threads + Sync, D: Folder, I: Inputs<D>, G: Gate>(
 ) -> Answer
     requires some { 1 ≤ length run.now.sessions.now }
     requires most { length run.now.sessions.now ≤ session_most }
-    requires names { AreNames run.now.out.now (length run.now.sessions.now)
+    requires names { AreNames (folder_value run.now.out) (length run.now.sessions.now)
         ready.names.sessions.items }
-    requires journal { string_bytes ready.names.journal ≡ journal_name run.now.out.now }
+    requires journal { string_bytes ready.names.journal ≡ journal_name (folder_value run.now.out) }
     requires no_task { ready.room.tasks.items ≡ [] }
     requires task_room { length run.now.sessions.now ≤ vec_capacity ready.room.tasks }
     requires empty { HasNone ready.room.ended }
@@ -296,6 +298,26 @@ fn check_and_tell<D: Folder, O: Sink>(
     tell_answer(alloc, out, answer)
 }
 
+/// Filters sessions against crossing orders, and tells what it comes to.
+fn cross_and_tell<R: Threads + Sync, D: Folder, O: Sink>(
+    rt: &R,
+    alloc: Global,
+    run: &Run,
+    folder: &mut D,
+    out: &mut O,
+) -> u8
+    requires { IsTrue (is_run (run_value run.now)) }
+    ensures { (result ≡ 8) ⊎ CrossWent (run_value run.now)
+        (ports_of D.texts D.read_faults D.write_faults O.held O.faults folder.old out.old)
+        (ports_of D.texts D.read_faults D.write_faults O.held O.faults folder.new out.new) result }
+{
+    let answer = cross_words(rt, alloc, run, folder);
+    if answer.number() == Status::Memory.number() {
+        return Status::Memory.number();
+    }
+    tell_answer(alloc, out, answer)
+}
+
 /// Makes a load and runs it, and tells what it comes to.
 fn make_and_tell<R: Threads + Sync, D: Folder, O: Sink, G: Gate>(
     rt: &R,
@@ -344,6 +366,7 @@ pub fn gate<R: Threads + Sync, D: Folder, O: Sink, G: Gate>(
         Some(Command::Run(run)) => run_and_tell(rt, alloc, &run, folder, out, screens, gate),
         Some(Command::Make(asked)) => make_and_tell(rt, alloc, &asked, folder, out, gate),
         Some(Command::Check(check)) => check_and_tell(alloc, &check, folder, out, screens),
+        Some(Command::Cross(run)) => cross_and_tell(rt, alloc, &run, folder, out),
         None => tell(alloc, out, Status::Usage),
     }
 }

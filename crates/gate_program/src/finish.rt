@@ -1,6 +1,6 @@
 //! The journal of a run, and what comes of the run behind it.
 ghost use Rattle.std.specs.Prelude.{◌≡◌, ◌^◌, ◌<◌, ◌≤◌, ◌⊎◌, length, map, All, string_bytes};
-ghost use Rattle.gate_files.specs.CommandOf.{run_value};
+ghost use Rattle.gate_files.specs.CommandOf.{folder_value, run_value};
 ghost use Rattle.gate_program.specs.Finish.{HasAnswer, HasStood, HasFinished};
 ghost use Rattle.gate_program.specs.Histories.{AreLegalLines};
 ghost use Rattle.gate_program.specs.Telling.{told_of};
@@ -116,9 +116,9 @@ pub(crate) fn finish<R: Threads + Sync, D: Folder, I: Inputs<D>>(
     folder: &mut D,
 ) -> Answer
     requires most { length run.now.sessions.now ≤ session_most }
-    requires names { AreNames run.now.out.now (length run.now.sessions.now)
+    requires names { AreNames (folder_value run.now.out) (length run.now.sessions.now)
         names.now.sessions.items }
-    requires journal { string_bytes names.now.journal ≡ journal_name run.now.out.now }
+    requires journal { string_bytes names.now.journal ≡ journal_name (folder_value run.now.out) }
     requires few_trees { length finished.journal.lines.items < 2 ^ 32 }
     requires acts { All (λ own. length own.items < 2 ^ 32) finished.journal.acts.items }
     requires lines { HaveTotals (length finished.journal.acts.items)

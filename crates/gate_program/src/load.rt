@@ -1,7 +1,7 @@
 //! The sessions of a load: their names, their inputs, which are in memory, and their outputs.
 ghost use Rattle.std.specs.Prelude.{◌≡◌, ◌+◌, ◌<◌, ◌≤◌, [], IfOk, IfErr, Some, length, map, replicate};
 ghost use Rattle.std.specs.Prelude.{string_bytes};
-ghost use Rattle.gate_files.specs.CommandOf.{run_value};
+ghost use Rattle.gate_files.specs.CommandOf.{folder_value, run_value};
 ghost use Rattle.gate_files.specs.Names.{AreNames};
 ghost use Rattle.gate_files.specs.Objects.{objects_of, HasCreated};
 ghost use Rattle.gate_files.specs.Stages.{folder_of, HasUnmade};
@@ -59,7 +59,7 @@ pub(crate) fn create_sessions<D: Folder>(
     folder: &mut D,
 ) -> Result<Vec<Opened<SureSource, D::Out>>, Status>
     requires most { length run.now.sessions.now ≤ session_most }
-    requires names { AreNames run.now.out.now (length run.now.sessions.now) names.now }
+    requires names { AreNames (folder_value run.now.out) (length run.now.sessions.now) names.now }
     requires inputs { map string_bytes run.now.sessions.now
         ≡ map (λ own. string_bytes own.venue) names.now }
     requires files { length files.items ≡ length run.now.sessions.now }

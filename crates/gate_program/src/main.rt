@@ -7,6 +7,8 @@ mod agreeing;
 mod check_tests;
 mod command;
 mod completeness;
+#[cfg(test)]
+mod cross_tests;
 mod ended;
 #[cfg(test)]
 mod fault_tests;
@@ -51,7 +53,10 @@ mod totals;
 mod turn_rows;
 
 pub use command::gate;
-pub use completeness::{unfailing_checks_are_judged, whole_inputs_are_done};
+pub use completeness::{
+    unfailing_checks_are_judged, unfailing_filters_are_done_or_cut, whole_filters_are_done,
+    whole_inputs_are_done,
+};
 use fold_law::Memory;
 use gate_files::Status;
 use gate_ports::{OpenGate, RealFolder, RealOut};

@@ -1,20 +1,23 @@
 //! A load that is made and run.
 ghost use Rattle.std.specs.Prelude.{◌≡◌, ◌*◌, ◌⊎◌, ◌≤◌, [], length, map, sum_by, codes};
+ghost use Rattle.std.specs.Prelude.{IfOk, string_bytes, vec_capacity};
 ghost use Rattle.std.specs.List.{AllByRecursion};
 ghost use Rattle.make_load.specs.Loads.{session_texts};
 ghost use Rattle.make_load.specs.declared.load.Load.{Load};
 ghost use Rattle.gate_files.specs.CommandOf.{IsAsked};
-ghost use Rattle.gate_program.specs.Loads.{counts_of, HasLoadLimits, LoadWent};
+ghost use Rattle.gate_files.specs.Names.{AreNames};
+ghost use Rattle.gate_program.specs.Loads.{counts_of, load_folder, HasLoadLimits, LoadWent};
+ghost use Rattle.gate_program.specs.Room.{HasNone, HasSpare};
 ghost use Rattle.gate_files.specs.Stages.{folder_with};
 ghost use Rattle.gate_files.specs.Statuses.{answer_number, answer_text};
-ghost use Rattle.gate_files.specs.Words.{session_most};
+ghost use Rattle.gate_files.specs.Words.{journal_name, session_most};
 ghost use Rattle.gate_program.specs.declared.told.Told.TheVariants as told_as;
 
-use crate::command::{ready_for, run_opened};
+use crate::command::{Ready, ready_for, run_opened};
 use crate::load::{create_sessions, input_names, no_screens};
 use crate::told::Told;
 use fold_law::Memory;
-use gate_files::{Answer, Run, Status, Sure, limits_from};
+use gate_files::{Answer, OutputFiles, OutputFolder, Run, Status, Sure, limits_from};
 use gate_ports::{Folder, Gate};
 use limit_table::Limits;
 use make_load::{Asked, Counts, load_limits_are_a_file, loads_are_whole, make_load};
@@ -33,6 +36,24 @@ fn bytes_of(files: &[Vec<u8>]) -> u32
         bytes += own.len() as u32;
     }
     bytes
+}
+
+/// Takes the memory for so many sessions of a load.
+fn ready_in_load<S: Drop, K: Drop>(alloc: Global, count: usize) -> Result<Ready<S, K>, Memory>
+    requires { count ≤ session_most }
+    ensures names { IfOk result (λ ready. AreNames load_folder count ready.names.sessions.items) }
+    ensures journal { IfOk result (λ ready.
+        string_bytes ready.names.journal ≡ journal_name load_folder) }
+    ensures no_task { IfOk result (λ ready. ready.room.tasks.items ≡ []) }
+    ensures task_room { IfOk result (λ ready. count ≤ vec_capacity ready.room.tasks) }
+    ensures empty { IfOk result (λ ready. HasNone ready.room.ended) }
+    ensures room { IfOk result (λ ready. HasSpare count ready.room.ended) }
+{
+    let out = OutputFolder {
+        name: "load",
+        files: OutputFiles::Run,
+    };
+    ready_for(alloc, out, count)
 }
 
 /// Runs the sessions of a load, whose files these are.
@@ -59,7 +80,7 @@ fn run_load<R: Threads + Sync, D: Folder, G: Gate>(
     admitted_stays_within();
     a_history_admits_what_sessions_do();
     loads_are_whole();
-    let Ok(ready) = ready_for(alloc, "load", files.len()) else {
+    let Ok(ready) = ready_in_load(alloc, files.len()) else {
         return Answer::Stopped(Status::Memory);
     };
     let Ok(names) = input_names(alloc, &ready.names.sessions) else {
@@ -70,7 +91,10 @@ fn run_load<R: Threads + Sync, D: Folder, G: Gate>(
     };
     let run = Run {
         limits: "",
-        out: "load",
+        out: OutputFolder {
+            name: "load",
+            files: OutputFiles::Run,
+        },
         sessions: &names,
     };
     match create_sessions(alloc, &run, &ready.names.sessions, files, folder) {

@@ -14,7 +14,7 @@ use std::test::*;
 /// What is told where the words are no form.
 pub(crate) const USAGE: &[u8] =
     b"usage: gate run LIMITS OUT SESSION... | gate make NUMBER SESSIONS ORDERS \
-        | gate check LIMITS JOURNAL SESSION...\n";
+        | gate check LIMITS JOURNAL SESSION... | gate cross LIMITS OUT SESSION...\n";
 
 /// A firm's limit of 1,000, and an account and a symbol with more.
 pub(crate) const SMALL: &[u8] =

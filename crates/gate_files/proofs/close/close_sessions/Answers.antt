@@ -1,6 +1,6 @@
 use Rattle.std.proofs.Common.{◌<◌, length, refl, arith}
 use Rattle.std.proofs.lemmas.List.{length-map}
-use Rattle.gate_files.specs.CommandOf.{run_value}
+use Rattle.gate_files.specs.CommandOf.{folder_value, run_value}
 use Rattle.gate_files.specs.Objects.{objects_of}
 use Rattle.gate_files.proofs.Lists.{map_at}
 use Rattle.gate_files.proofs.Lists.{first_left}
@@ -35,7 +35,7 @@ close_session-requires-clause-venue g c κs within =
     (run_value c.args.run.now) _ _ c.args.opened.items _ _ session c.remove-next.result
     c.loop-session.invariant.closed.went c.loop-session.invariant.left below
     c.remove-next.ensures.value c.remove-next.ensures.by_index.2 c.requires.own in
-    let names = outputs_at c.args.run.now.out.now _ session c.args.names.now
+    let names = outputs_at (folder_value c.args.run.now.out) _ session c.args.names.now
     c.index-names-session.result c.requires.names (omega (arith, below, c.requires.few))
     c.index-names-session.is in
     own_as _ _ _ _ names.venue own.venue
@@ -50,7 +50,7 @@ close_session-requires-clause-client g c κs within =
     (run_value c.args.run.now) _ _ c.args.opened.items _ _ session c.remove-next.result
     c.loop-session.invariant.closed.went c.loop-session.invariant.left below
     c.remove-next.ensures.value c.remove-next.ensures.by_index.2 c.requires.own in
-    let names = outputs_at c.args.run.now.out.now _ session c.args.names.now
+    let names = outputs_at (folder_value c.args.run.now.out) _ session c.args.names.now
     c.index-names-session.result c.requires.names (omega (arith, below, c.requires.few))
     c.index-names-session.is in
     own_as _ _ _ _ names.client own.client
@@ -63,7 +63,7 @@ loop-session-preserved g c =
     let taken = first_left c.args.opened.items c.loop-session.opened.items
     c.remove-next.new.self.items session c.remove-next.result c.loop-session.invariant.left below
     c.remove-next.ensures.value c.remove-next.ensures.by_index.2 in
-    let names = outputs_at c.args.run.now.out.now _ session c.args.names.now
+    let names = outputs_at (folder_value c.args.run.now.out) _ session c.args.names.now
     c.index-names-session.result c.requires.names (omega (arith, below, c.requires.few))
     c.index-names-session.is in
     record {

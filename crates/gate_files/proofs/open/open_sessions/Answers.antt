@@ -2,7 +2,7 @@ use Rattle.std.proofs.Common.{ℕ, ◌+◌, length, map, arith, ◌∙◌, ap}
 use Rattle.std.proofs.Common.{string_bytes, [], ◌∷◌}
 use Rattle.std.proofs.Common.{length-append}
 use Rattle.std.proofs.lemmas.List.{length-map, map-append}
-use Rattle.gate_files.specs.CommandOf.{run_value}
+use Rattle.gate_files.specs.CommandOf.{folder_value, run_value}
 use Rattle.gate_files.specs.Objects.{objects_of}
 use Rattle.gate_files.proofs.Early.{leaves_empty}
 use Rattle.gate_files.proofs.Folder.{created, each_own_later}
@@ -19,7 +19,7 @@ pub returns-in-Err-clause-err : goal.returns-in-Err-clause-err
 returns-in-Err-clause-err g c =
     let session = c.loop-session.session in
     let below = c.loop-session-test.true in
-    let names = outputs_at c.args.run.now.out.now _ session c.args.names.now
+    let names = outputs_at (folder_value c.args.run.now.out) _ session c.args.names.now
     c.index-names-session.result
     c.requires.names below c.index-names-session.is in
     unopened_named (run_value c.args.run.now) _ _ _ _ session c.in-Err.status _ _ _
@@ -39,7 +39,7 @@ pub loop-session-preserved : goal.loop-session-preserved
 loop-session-preserved g c =
     let session = c.loop-session.session in
     let below = c.loop-session-test.true in
-    let names = outputs_at c.args.run.now.out.now _ session c.args.names.now
+    let names = outputs_at (folder_value c.args.run.now.out) _ session c.args.names.now
     c.index-names-session.result
     c.requires.names below c.index-names-session.is in
     record {

@@ -5,7 +5,7 @@ use Rattle.std.proofs.lemmas.List.{length-map, map-append}
 use Rattle.std.proofs.lemmas.Option.{slice_get_read}
 use Rattle.std.specs.Prelude.{Some, None}
 use Rattle.gate_ports.specs.Objects.{SureState}
-use Rattle.gate_files.specs.CommandOf.{run_value}
+use Rattle.gate_files.specs.CommandOf.{folder_value, run_value}
 use Rattle.gate_files.specs.Objects.{objects_of}
 use Rattle.gate_files.proofs.Early.{leaves_empty}
 use Rattle.gate_files.proofs.Folder.{each_own_later}
@@ -33,7 +33,7 @@ returns-in-Err-clause-err g c =
     let session = c.loop-session.session in
     let below : session < length c.args.run.now.sessions.now =
     omega (arith, c.loop-session-test.true, c.requires.names.many) in
-    let names = outputs_at c.args.run.now.out.now _ session c.args.names.now
+    let names = outputs_at (folder_value c.args.run.now.out) _ session c.args.names.now
     c.index-names-session.result c.requires.names below c.index-names-session.is in
     unmade_named (run_value c.args.run.now) _ _ _ _ session c.in-Err.status _ _
     (omega (arith, length-map c.args.run.now.sessions.now string_bytes, below))
@@ -55,7 +55,7 @@ loop-session-preserved g c =
     let taken = first_left c.args.files.items c.loop-session.files.items c.remove.new.self.items
     session c.remove.result c.loop-session.invariant.files
     (omega (arith, below, c.requires.files)) c.remove.ensures.value c.remove.ensures.by_index.2 in
-    let names = outputs_at c.args.run.now.out.now _ session c.args.names.now
+    let names = outputs_at (folder_value c.args.run.now.out) _ session c.args.names.now
     c.index-names-session.result c.requires.names below c.index-names-session.is in
     record {
       created = next_created (run_value c.args.run.now) _ _ _ _ _ _ session

@@ -11,8 +11,8 @@ use Rattle.gate_program.proofs.LoadRuns.{files_many, lefts_are, names_for, no_sc
 use Rattle.gate_program.proofs.LoadRuns.{second_are, second_many, unmade_run}
 use Rattle.gate_program.proofs.make.run_load.Goals as goal
 
-pub ready_for-requires : goal.ready_for-requires
-ready_for-requires g c = omega (
+pub ready_in_load-requires : goal.ready_in_load-requires
+ready_in_load-requires g c = omega (
   arith,
   files_many c.args.asked.now c.args.files.items c.requires.files,
   c.requires.asked.most,

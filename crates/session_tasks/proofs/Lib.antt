@@ -1,0 +1,10 @@
+pub mod RangeLists
+pub mod JournalPieces
+pub mod SessionCounts
+pub mod TasksBack
+pub mod Owned
+pub mod FreshPasses
+pub mod EndsAlike
+pub mod KeptSessions
+pub mod RanSessions
+pub mod StagesOfRun

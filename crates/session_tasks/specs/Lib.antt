@@ -1,0 +1,10 @@
+pub mod Rules
+pub mod Did
+pub mod Holding
+pub mod Jobs
+pub mod Kept
+pub mod Ran
+pub mod Ways
+pub mod Tasks
+pub mod Forests
+pub mod Pieces
