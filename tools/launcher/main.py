@@ -31,7 +31,7 @@ def main(top, words):
 
 
 def run(top, words):
-    """A run, a load or a check, or what is wrong with the words."""
+    """A run, a load, a filter or a check, or what is wrong with the words."""
     asked, fault = read_run(words)
     if fault:
         say(f"{fault}. Nothing was read or written; `gate --help` tells more")
@@ -65,7 +65,7 @@ def run_program(program, words, asked):
     """Runs the program, and says why where its status isn't 0, and what lies in OUT of an earlier
     run. Where OUT can't be made the program says that it can't write there, and `reasons` why."""
     made = make_folder(asked.out)
-    before = marks(asked.out)
+    before = marks(asked)
     try:
         status = status_of([program, *words])
         if status != 0:

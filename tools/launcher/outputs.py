@@ -1,18 +1,17 @@
 """The outputs that lie in the folder OUT, a report among them, and which of them are of an earlier
-run."""
+run, or of an earlier filter."""
 import os
 import re
 import stat
 
-OUTPUT = re.compile(r"s\d\d\.(?:venue|client)|journal\.csv|report\.html|requests\.csv")
 
-
-def marks(out):
-    """Each output in this folder that is a plain file, with what changes when it is written."""
+def marks(run):
+    """Each output of such a call in its folder that is a plain file, with what changes when it is
+    written."""
     found = {}
-    for name in names(out):
+    for name in names(run):
         try:
-            file = os.stat(os.path.join(out, name))
+            file = os.stat(os.path.join(run.out, name))
         except OSError:
             continue
         if stat.S_ISREG(file.st_mode):
@@ -20,17 +19,19 @@ def marks(out):
     return found
 
 
-def names(out):
-    """The names of outputs in this folder."""
+def names(run):
+    """The names of such outputs in its folder, those of more sessions among them."""
+    single = map(re.escape, (run.journal_file, *run.reports))
+    output = re.compile("|".join([rf"s\d\d\.(?:{'|'.join(run.kinds)})", *single]))
     try:
-        return sorted(name for name in os.listdir(out) if OUTPUT.fullmatch(name))
+        return sorted(name for name in os.listdir(run.out) if output.fullmatch(name))
     except OSError:
         return []
 
 
 def left_over(run, before, status):
     """The outputs of an earlier run that this one didn't write. At 0 and 4 it wrote all its own."""
-    after = marks(run.out)
+    after = marks(run)
     own = {os.path.basename(path) for path in run.outputs()}
     kept = [name for name in before if after.get(name) == before[name]]
     return [name for name in kept if not (name in own and status in (0, 4))]
@@ -39,5 +40,5 @@ def left_over(run, before, status):
 def was_written(run, before):
     """Whether this run wrote its journal."""
     name = os.path.basename(run.journal())
-    after = marks(run.out)
+    after = marks(run)
     return name in after and after[name] != before.get(name)

@@ -1,4 +1,5 @@
-"""Why a run ended with a status other than 0: read from the files themselves, afterwards."""
+"""Why a run or a filter ended with a status other than 0: read from the files themselves,
+afterwards."""
 import os
 import re
 import signal
@@ -71,7 +72,7 @@ def of_session(run, session, end):
             + because(why_not_read(path))
         ]
     if kind == "write":
-        streams = [run.stream(session, one) for one in ("venue", "client")]
+        streams = run.streams(session)
         return [
             f"session {session} ended, since a write failed, "
             f"of {name(streams[0])} or {name(streams[1])}"

@@ -5,7 +5,7 @@ import subprocess
 
 USAGE = (
     "usage: gate run LIMITS OUT SESSION... | gate make NUMBER SESSIONS ORDERS"
-    " | gate check LIMITS JOURNAL SESSION..."
+    " | gate check LIMITS JOURNAL SESSION... | gate cross LIMITS OUT SESSION..."
 )
 
 KIT = "rattle-kit-13f logic dac8208d650f15bf"
@@ -14,6 +14,7 @@ HELP = """\
 usage: gate run LIMITS OUT SESSION...
        gate make NUMBER SESSIONS ORDERS
        gate check LIMITS JOURNAL SESSION...
+       gate cross LIMITS OUT SESSION...
        gate report LIMITS OUT SESSION...
        gate --help | --version
 
@@ -31,10 +32,15 @@ ends with 0, 1, 2, 6 or 8 alone.
 given in the order of the journal's sessions. It tells `LAWFUL`, or the kind of the first fault and
 its row, and writes nothing. It ends with 0, 1, 2, 3, 5, 6, 7 or 8 alone.
 
+`cross` filters session files before a run, so that no order of the firm meets another one of its
+own: an order that would cross one that may rest is refused, and what else there is in a session is
+passed on as it is. It writes OUT/s00.pass, which can be a session of a run, and OUT/s00.client for
+the first session and so on, and OUT/cross.csv. It ends with 0, 1, 2, 3, 4, 5, 6 or 8 alone.
+
 `report`, with the words of a run that has ended, writes OUT/report.html and
 OUT/requests.csv about it.
 
-status of a run, a load or a check
+status of a run, a load, a check or a filter
   0  every session file was read to its end, and everything was written; or the journal is lawful
   1  the program couldn't be built or started
   2  the command line is malformed, or names one file twice; nothing was read or written

@@ -1,5 +1,5 @@
-"""The words of a call: which run, load or check they ask for, and what is wrong where they ask for
-none."""
+"""The words of a call: which run, load, filter or check they ask for, and what is wrong where they
+ask for none."""
 import os
 import re
 
@@ -12,6 +12,12 @@ SESSIONS = 64
 class Run:
     """`run LIMITS OUT SESSION...`: the names as they were given."""
 
+    # What the files of a session are called behind its number: what goes on, then the answers.
+    kinds = ("venue", "client")
+    journal_file = "journal.csv"
+    # What a report makes of a run, beside its outputs.
+    reports = ("report.html", "requests.csv")
+
     def __init__(self, limits, out, sessions):
         self.limits = limits
         self.out = out
@@ -23,19 +29,15 @@ class Run:
 
     def outputs(self):
         """The names that are written: two for each session, then the journal."""
-        streams = [
-            self.stream(session, kind) for session in range(len(self.sessions)) for kind in (
-                "venue", "client"
-            )
-        ]
-        return [*streams, self.journal()]
+        every = range(len(self.sessions))
+        return [path for session in every for path in self.streams(session)] + [self.journal()]
 
-    def stream(self, session, kind):
-        """The name of a session's messages for the venue, or of the answers for its client."""
-        return f"{self.out}/s{session:02}.{kind}"
+    def streams(self, session):
+        """The names of what goes on of a session to the venue, and of the answers for its client."""
+        return [f"{self.out}/s{session:02}.{kind}" for kind in self.kinds]
 
     def journal(self):
-        return f"{self.out}/journal.csv"
+        return f"{self.out}/{self.journal_file}"
 
 
 class Load(Run):
@@ -46,6 +48,14 @@ class Load(Run):
 
     def inputs(self):
         return []
+
+
+class Filter(Run):
+    """`cross LIMITS OUT SESSION...`: a run that passes messages on, and has a journal of its own."""
+
+    kinds = ("pass", "client")
+    journal_file = "cross.csv"
+    reports = ()
 
 
 class Check:
@@ -61,11 +71,15 @@ class Check:
         return [self.limits, self.journal, *self.sessions]
 
 
-# What each word behind `run` and behind `check` is, but for the sessions.
+# What each word behind these commands is, the last of them once or more often.
 NAMES = {
     "run": ("a limit file", "a folder for the outputs", "a session file"),
     "check": ("a limit file", "a journal", "a session file"),
+    "cross": ("a limit file", "a folder for the outputs", "a session file"),
 }
+
+# What a command is called that takes sessions.
+CALLED = {"run": "a run", "check": "a check", "cross": "a filter"}
 
 # What each word behind `make` is: its name, and its least and its most.
 NUMBERS = (
@@ -76,8 +90,8 @@ NUMBERS = (
 
 
 def read_run(words):
-    """The run, the load or the check that these words ask for and None, or None and what is wrong
-    with them."""
+    """The run, the load, the filter or the check that these words ask for and None, or None and
+    what is wrong with them."""
     fault = wrong_word(words)
     if not fault and words[0] == "make":
         return read_load(words)
@@ -86,7 +100,7 @@ def read_run(words):
         return None, fault
     if words[0] == "check":
         return read_check(words)
-    run = Run(words[1], words[2], words[3:])
+    run = (Filter if words[0] == "cross" else Run)(words[1], words[2], words[3:])
     fault = repeated(run) or overwritten(run)
     return (None, fault) if fault else (run, None)
 
@@ -146,7 +160,7 @@ def wrong_word(words):
     for place, word in enumerate(words, 1):
         if not is_utf8(word):
             return f"word {place} isn't UTF-8: {name(word)}"
-    if words[0] not in ("run", "make", "check"):
+    if words[0] != "make" and words[0] not in NAMES:
         return f"`{words[0]}` is no command"
     for place, word in enumerate(words, 1):
         if not word:
@@ -163,7 +177,7 @@ def wrong_number(words):
         return f"`{words[0]}` lacks " + listed(NAMES[words[0]][len(words) - 1 :])
     count = len(words) - 3
     if count > SESSIONS:
-        return f"{count} sessions were given: a {words[0]} takes 1 to {SESSIONS}"
+        return f"{count} sessions were given: {CALLED[words[0]]} takes 1 to {SESSIONS}"
     return None
 
 

@@ -67,11 +67,13 @@ class Readmes(InFolder):
     def test_each_example_has_an_out_of_its_own(self):
         for name in sorted(os.listdir(EXAMPLES)):
             with self.subTest(name):
-                calls = [block for block in blocks(name) if block.startswith("./gate run ")]
-                self.assertEqual(
-                    [call.split()[2:4] for call in calls],
-                    [[f"examples/{name}/limits.csv", f"out/{name}"]],
-                )
+                calls = [block for block in blocks(name) if re.match(r"\./gate (run|cross) ", block)]
+                limits, outs = zip(*(call.split()[2:4] for call in calls))
+                self.assertEqual(set(limits), {f"examples/{name}/limits.csv"})
+                self.assertEqual(outs[0], f"out/{name}")
+                self.assertEqual(len(set(outs)), len(outs))
+                for out in outs[1:]:
+                    self.assertTrue(out.startswith(f"out/{name}_"), out)
 
     def test_the_limits_are_those_of_the_readme(self):
         for name in sorted(os.listdir(EXAMPLES)):
@@ -79,10 +81,11 @@ class Readmes(InFolder):
                 self.assertIn(read(name, "limits.csv").decode(), blocks(name))
 
     def test_the_messages_of_the_sessions_are_those_of_the_readme(self):
-        for name in ("first", "desk", "net"):
-            with self.subTest(name):
+        files = [(name, "session.fix") for name in ("first", "desk", "net", "cross")]
+        for name, file in [*files, ("cross", "seller.fix"), ("cross", "buyer.fix")]:
+            with self.subTest(name, file=file):
                 self.assertIn(
-                    "".join(line + "\n" for line in shown(read(name, "session.fix"))), blocks(name)
+                    "".join(line + "\n" for line in shown(read(name, file))), blocks(name)
                 )
 
     def test_the_days_session_is_that_of_its_logs(self):
@@ -228,6 +231,36 @@ class Runs(InFolder):
                 self.assertEqual((status, out), (7, fault + "\n"))
                 if (row, text) == told[0][:2]:
                     self.assertIn(error, blocks("first"))
+
+    def filter_example(self, out, *sessions):
+        """Filters sessions of the example of filters; what is told."""
+        files = [os.path.join(EXAMPLES, "cross", one) for one in ("limits.csv", *sessions)]
+        status, told, error = self.gate(
+            "cross", files[0], out, *files[1:], env={"GATE_PROGRAM": built()}
+        )
+        self.assertEqual((status, error), (0, ""))
+        return told
+
+    def test_the_filtered_session(self):
+        self.assertIn(self.filter_example("out", "session.fix"), blocks("cross"))
+        self.assertIn(self.read("out/cross.csv").decode(), blocks("cross"))
+        passed = [line for line in shown(read("cross", "session.fix")) if "|11=b1|" not in line]
+        self.assertEqual(self.read("out/s00.pass"), soh("".join(passed)))
+        told = "".join(line + "\n" for line in shown(self.read("out/s00.client")))
+        self.assertIn(told, blocks("cross"))
+        limits = os.path.join(EXAMPLES, "cross", "limits.csv")
+        words = ("run", limits, "gone_on", "out/s00.pass")
+        status, told, error = self.gate(*words, env={"GATE_PROGRAM": built()})
+        self.assertEqual((status, error), (0, ""))
+        self.assertIn(told, blocks("cross"))
+
+    def test_of_two_filtered_sessions_one_is_passed_at_most(self):
+        for _ in range(20):
+            self.filter_example("out", "seller.fix", "buyer.fix")
+            passed = [self.read(f"out/s0{session}.pass") for session in (0, 1)]
+            told = [self.read(f"out/s0{session}.client") for session in (0, 1)]
+            self.assertTrue(not all(passed))
+            self.assertEqual([not one for one in passed], [b"58=CROSS" in one for one in told])
 
     def report_of(self, name, *sessions):
         """How many requests the report of the run in `out` tells as sent and as refused. The report

@@ -12,6 +12,7 @@ from launcher.session_file import end_of_input
 from tests.places import LIMITS, ORDER, InFolder, soh
 
 RUN = ("run", "limits.csv", "out", "a.fix")
+FILTER = ("cross", "limits.csv", "out", "a.fix")
 ROWS = "firm,,1000,,,\n"
 NET = "version,2,,,,,\nfirm,,5000,,,,\naccount,ACC,9,,,,net\nsymbol,XYZ,9,1,12,100,\n"
 DROPPED = "".join(f"off,S{n},1,,,\n" for n in range(17))
@@ -339,6 +340,18 @@ class OtherStatuses(InFolder):
             error, "session 0 ended, since a write failed, of out/s00.venue or out/s00.client"
         )
 
+    def test_a_filtered_session_whose_write_failed(self):
+        error = self.told(
+            6, *FILTER, files={"cross.csv": "kind,session,a,b,c,d\nended,0,5,,,\n"}
+        )
+        self.says(
+            error, "session 0 ended, since a write failed, of out/s00.pass or out/s00.client"
+        )
+
+    def test_a_filter_whose_journal_is_not_whole(self):
+        error = self.told(6, *FILTER, files={"cross.csv": "kind,session,a,b,c,d\n"})
+        self.says(error, "out/cross.csv couldn't be written whole")
+
     def test_an_output_that_can_not_be_written(self):
         os.makedirs(self.path("out/s00.client"))
         self.says(self.told(6), "out/s00.client can't be written: it is a folder")
@@ -416,6 +429,15 @@ class EarlierRuns(InFolder):
         )
         self.assertNotIn("journal.csv", error)
         self.assertNotIn("notes.txt", error)
+
+    def test_a_filter_and_a_run_leave_each_others_outputs_alone(self):
+        """What a filter passed may be run into the same folder."""
+        for name in ("s00.pass", "s01.pass", "cross.csv"):
+            self.write(f"out/{name}", "old")
+        self.assertEqual(self.gate("run", "limits.csv", "out", "out/s00.pass")[::2], (0, ""))
+        self.write("out/s03.venue", "old")
+        _, _, error = self.gate(*FILTER, files={"cross.csv": "kind\n", "s00.pass": ""})
+        self.says(error, "not written by this one: out/s01.pass\n")
 
     def test_an_old_journal_behind_a_run_that_wrote_none(self):
         self.write("out/journal.csv", "kind,session,a,b,c,d\nended,0,4,,,\n")

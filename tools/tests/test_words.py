@@ -9,7 +9,7 @@ from tests.sources import sources
 
 USAGE = (
     "usage: gate run LIMITS OUT SESSION... | gate make NUMBER SESSIONS ORDERS"
-    " | gate check LIMITS JOURNAL SESSION...\n"
+    " | gate check LIMITS JOURNAL SESSION... | gate cross LIMITS OUT SESSION...\n"
 )
 
 # Words, and what standard error says of them.
@@ -66,6 +66,23 @@ MALFORMED = [
         ["check", "limits.csv", "j.csv", "a.fix", "b.fix", "a.fix"],
         "sessions 0 and 2 are both a.fix: a session can't be given twice",
     ),
+    ("no session of a filter", ["cross", "limits.csv", "out"], "`cross` lacks a session file"),
+    (
+        "65 sessions of a filter",
+        ["cross", "limits.csv", "out", *(f"{n}.fix" for n in range(65))],
+        "65 sessions were given: a filter takes 1 to 64",
+    ),
+    (
+        "a session of a filter twice",
+        ["cross", "limits.csv", "out", "a.fix", "./a.fix"],
+        "a session can't be given twice",
+    ),
+    (
+        "a session that a filter passes on",
+        ["cross", "limits.csv", "out", "out/s00.pass"],
+        "would overwrite",
+    ),
+    ("limits that are a filter's journal", ["cross", "out/cross.csv", "out", "a.fix"], "overwrite"),
     ("no UTF-8", ["run", "limits.csv", "out", b"a\xff.fix"], "word 4 isn't UTF-8: a\\xff.fix"),
 ]
 
